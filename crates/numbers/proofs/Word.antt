@@ -1,0 +1,176 @@
+-- Laws of the bits of a word: what the operations on words do to each bit, and that the bits fix the word.
+--
+--   word n p       the word of the numbers below n that have p
+use mathlib.Core.Path.{_≡_, refl, sym, ap, ap₂, _∙_}
+use mathlib.Core.Logic.{⊎-elim}
+use mathlib.Core.Bool.{Bool, true, false, _&&_, _||_}
+use Prim.Native.Nat.{ℕ, zero, suc, _+_, _*_, _/_, _%_, _^_, _≤_, _<_}
+use native.Mathlib.Nat.{not-suc-le-zero, div-one, div-eq-of-lt, mod-eq-of-lt, one-mul, mod-lt, lt-of-not-le, le-trans, pow-suc}
+use native.Mathlib.Numerals.{add-one, one-add}
+use native.Mathlib.Omega.{arith}
+use lib.Arith.{half-le}
+use lib.Bits.{bitOr, bitAnd, or-shr, or-mod, and-shr, and-mod, shifted-half, shifted-even}
+use lib.Dec.{T, eqb, ltb, eqb→eq, lit<, ltb→lt, lt→ltb, eqb·zero-suc, eqb·suc-zero, eqb·suc-suc}
+use lib.Pow.{pow-pos, pow-mono, pow-lt, shr-shr}
+use Rattle.numbers.specs.Finite.{only}
+use Rattle.numbers.specs.Word.{bit}
+use Rattle.numbers.proofs.Truth.{both, fst, snd, orl, orr, or-cases, same, along, is-false, of-false, eqb-of}
+use Rattle.numbers.proofs.Finite.{below}
+
+unfoldable pub word : ℕ → (ℕ → Bool) → ℕ
+word zero p = 0
+word (suc n) p = bitOr (word n p) (only (p n) (2 ^ n))
+
+-- ---- what the code writes
+
+-- `(w >> i) % 2 == 1`
+pub bit-shr : (w i : ℕ) → eqb (w / 2 ^ i % 2) 1 ≡ bit w i
+unfolding bit
+bit-shr w i = refl
+
+-- `1u64 << i`
+pub one-shl : (i : ℕ) → i < 64 → 1 * 2 ^ i % 2 ^ 64 ≡ 2 ^ i
+one-shl i h = ap (λ (k : ℕ). k % 2 ^ 64) (one-mul (2 ^ i)) ∙ mod-eq-of-lt (pow-lt h)
+
+-- ---- bit by bit
+
+-- to prove a thing of two binary digits, prove it of each pair
+digits : (P : ℕ → ℕ → Type 0) → P 0 0 → P 0 1 → P 1 0 → P 1 1 → (a b : ℕ) → a < 2 → b < 2 → P a b
+digits P x y z u zero zero h k = x
+digits P x y z u zero (suc zero) h k = y
+digits P x y z u (suc zero) zero h k = z
+digits P x y z u (suc zero) (suc zero) h k = u
+digits P x y z u (suc (suc a)) b h k = absurd (omega arith)
+digits P x y z u zero (suc (suc b)) h k = absurd (omega arith)
+digits P x y z u (suc zero) (suc (suc b)) h k = absurd (omega arith)
+
+-- the same, of the lowest digits of two words
+low-digits : (P : ℕ → ℕ → Type 0) → P 0 0 → P 0 1 → P 1 0 → P 1 1 → (v w : ℕ) → P (v % 2) (w % 2)
+low-digits P x y z u v w = digits P x y z u (v % 2) (w % 2) (mod-lt v (lit< tt)) (mod-lt w (lit< tt))
+
+pub bit-zero : (i : ℕ) → bit 0 i ≡ false
+unfolding bit
+bit-zero i = ap (λ (k : ℕ). eqb (k % 2) 1) (div-eq-of-lt (pow-pos i))
+
+-- bit 0 is the lowest binary digit
+pub bit-low : (w : ℕ) → bit w 0 ≡ eqb (w % 2) 1
+unfolding bit
+bit-low w = ap (λ (k : ℕ). eqb (k % 2) 1) (div-one w)
+
+pub bit-suc : (w i : ℕ) → bit w (suc i) ≡ bit (w / 2) i
+unfolding bit
+bit-suc w i = ap (λ (k : ℕ). eqb (k % 2) 1) (ap (λ (k : ℕ). w / 2 ^ k) (sym (one-add i)) ∙ sym (shr-shr w 1 i))
+
+pub bit-or : (v w i : ℕ) → bit (bitOr v w) i ≡ (bit v i || bit w i)
+unfolding bit
+bit-or v w i =
+    ap (λ (k : ℕ). eqb (k % 2) 1) (or-shr v w i) ∙ ap (λ (k : ℕ). eqb k 1) (or-mod (v / 2 ^ i) (w / 2 ^ i) 1)
+    ∙ low-digits (λ a b. eqb (bitOr a b) 1 ≡ (eqb a 1 || eqb b 1)) refl refl refl refl (v / 2 ^ i) (w / 2 ^ i)
+
+pub bit-and : (v w i : ℕ) → bit (bitAnd v w) i ≡ (bit v i && bit w i)
+unfolding bit
+bit-and v w i =
+    ap (λ (k : ℕ). eqb (k % 2) 1) (and-shr v w i) ∙ ap (λ (k : ℕ). eqb k 1) (and-mod (v / 2 ^ i) (w / 2 ^ i) 1)
+    ∙ low-digits (λ a b. eqb (bitAnd a b) 1 ≡ (eqb a 1 && eqb b 1)) refl refl refl refl (v / 2 ^ i) (w / 2 ^ i)
+
+half-pow : (i : ℕ) → 2 ^ suc i / 2 ≡ 2 ^ i
+half-pow i = ap (λ (k : ℕ). k / 2) (sym (one-mul (2 ^ suc i))) ∙ shifted-half 1 i ∙ one-mul (2 ^ i)
+
+even-pow : (i : ℕ) → 2 ^ suc i % 2 ≡ 0
+even-pow i = ap (λ (k : ℕ). k % 2) (sym (one-mul (2 ^ suc i))) ∙ shifted-even 1 i
+
+pub bit-pow : (i j : ℕ) → bit (2 ^ i) j ≡ eqb j i
+bit-pow zero zero = bit-low 1
+bit-pow zero (suc j) = bit-suc 1 j ∙ bit-zero j ∙ sym (eqb·suc-zero j)
+bit-pow (suc i) zero = bit-low (2 ^ suc i) ∙ ap (λ (k : ℕ). eqb k 1) (even-pow i) ∙ sym (eqb·zero-suc i)
+bit-pow (suc i) (suc j) = bit-suc (2 ^ suc i) j ∙ ap (λ (k : ℕ). bit k j) (half-pow i) ∙ bit-pow i j ∙ sym (eqb·suc-suc j i)
+
+-- ---- the bits fix the word
+
+low-eq : (v w : ℕ) → bit v 0 ≡ bit w 0 → v % 2 ≡ w % 2
+low-eq v w e =
+    low-digits (λ a b. eqb a 1 ≡ eqb b 1 → a ≡ b) (λ q. refl) (λ q. absurd (along (sym q) tt)) (λ q. absurd (along q tt)) (λ q. refl) v w
+    (sym (bit-low v) ∙ e ∙ bit-low w)
+
+-- by recursion on a bound of both
+ext : (f v w : ℕ) → v ≤ f → w ≤ f → ((i : ℕ) → bit v i ≡ bit w i) → v ≡ w
+ext zero v w hv hw e = omega arith
+ext (suc f) v w hv hw e =
+    omega (arith, low-eq v w (e 0), ext f (v / 2) (w / 2) (half-le hv) (half-le hw) (λ i. sym (bit-suc v i) ∙ e (suc i) ∙ bit-suc w i))
+
+pub bit-ext : (v w : ℕ) → ((i : ℕ) → bit v i ≡ bit w i) → v ≡ w
+bit-ext v w e = ext (v + w) v w (omega arith) (omega arith) e
+
+-- a set bit is below the word's length
+pub bit-lt : (n w i : ℕ) → w < 2 ^ n → T (bit w i) → i < n
+unfolding bit
+bit-lt n w i h t = lt-of-not-le (λ (k : n ≤ i). along (ap (λ (x : ℕ). eqb (x % 2) 1) (div-eq-of-lt (le-trans h (pow-mono k)))) t)
+
+-- a word with no bit at n or above
+pub lt-of-bits : (n w : ℕ) → ((i : ℕ) → n ≤ i → T (bit w i) → ⊥) → w < 2 ^ n
+lt-of-bits zero w h = omega (arith, bit-ext w 0 (λ i. is-false (bit w i) (h i (omega arith)) ∙ sym (bit-zero i)))
+lt-of-bits (suc n) w h =
+    omega (arith, pow-suc 2 n, lt-of-bits n (w / 2) (λ i l t. h (suc i) (omega arith) (along (sym (bit-suc w i)) t)))
+
+-- ---- words that share no bit
+
+pub and-zero : (v w : ℕ) → ((i : ℕ) → T (bit v i) → T (bit w i) → ⊥) → bitAnd v w ≡ 0
+and-zero v w h =
+    bit-ext (bitAnd v w) 0
+    (λ i. bit-and v w i
+    ∙ is-false (bit v i && bit w i) (λ t. h i (fst (bit v i) (bit w i) t) (snd (bit v i) (bit w i) t)) ∙ sym (bit-zero i))
+
+pub apart-of-and : (v w : ℕ) → bitAnd v w ≡ 0 → (i : ℕ) → T (bit v i) → T (bit w i) → ⊥
+apart-of-and v w e i p q =
+    of-false (sym (bit-and v w i) ∙ ap (λ (k : ℕ). bit k i) e ∙ bit-zero i) (both (bit v i) (bit w i) p q)
+
+-- ---- the word of a set
+
+bit-only : (b : Bool) (n i : ℕ) → bit (only b (2 ^ n)) i ≡ (b && eqb i n)
+unfolding only
+bit-only true n i = bit-pow n i
+bit-only false n i = bit-zero i
+
+pub word-next : (n : ℕ) (p : ℕ → Bool) → word (n + 1) p ≡ bitOr (word n p) (only (p n) (2 ^ n))
+unfolding word
+word-next n p = rw add-one
+
+-- below suc n and in p: below n and in p, or n, which is in p
+grown : (n : ℕ) (p : ℕ → Bool) (i : ℕ) → ((ltb i n && p i) || (p n && eqb i n)) ≡ (ltb i (suc n) && p i)
+grown n p i =
+    same ((ltb i n && p i) || (p n && eqb i n)) (ltb i (suc n) && p i)
+    (λ h. ⊎-elim
+    (λ a. both (ltb i (suc n)) (p i) (lt→ltb i (suc n) (omega (arith, ltb→lt i n (fst (ltb i n) (p i) a)))) (snd (ltb i n) (p i) a))
+    (λ a. let e : i ≡ n = eqb→eq i n (snd (p n) (eqb i n) a) in
+    both (ltb i (suc n)) (p i) (lt→ltb i (suc n) (omega arith)) (rw e (fst (p n) (eqb i n) a)))
+    (or-cases (ltb i n && p i) (p n && eqb i n) h))
+    (λ h. let t : T (p i) = snd (ltb i (suc n)) (p i) h in
+    ⊎-elim
+    (λ (e : i ≡ n). orr (ltb i n && p i) (p n && eqb i n) (both (p n) (eqb i n) (rw e at t) (eqb-of i n e)))
+    (λ l. orl (ltb i n && p i) (p n && eqb i n) (both (ltb i n) (p i) (lt→ltb i n l) t))
+    (below (ltb→lt i (suc n) (fst (ltb i (suc n)) (p i) h))))
+
+pub bit-word : (n : ℕ) (p : ℕ → Bool) (i : ℕ) → bit (word n p) i ≡ (ltb i n && p i)
+unfolding word
+bit-word zero p i = bit-zero i ∙ sym (is-false (ltb i 0 && p i) (λ h. not-suc-le-zero (ltb→lt i 0 (fst (ltb i 0) (p i) h))))
+bit-word (suc n) p i =
+    bit-or (word n p) (only (p n) (2 ^ n)) i ∙ ap₂ _||_ (bit-word n p i) (bit-only (p n) n i) ∙ grown n p i
+
+pub word-lt : (n : ℕ) (p : ℕ → Bool) → word n p < 2 ^ n
+word-lt n p =
+    lt-of-bits n (word n p) (λ i h t. omega (arith, ltb→lt i n (fst (ltb i n) (p i) (along (bit-word n p i) t))))
+
+-- a word is the word of its bits
+pub word-bit : (n w : ℕ) → w < 2 ^ n → word n (bit w) ≡ w
+word-bit n w h =
+    bit-ext (word n (bit w)) w
+    (λ i. bit-word n (bit w) i
+    ∙ same (ltb i n && bit w i) (bit w i) (snd (ltb i n) (bit w i))
+    (λ t. both (ltb i n) (bit w i) (lt→ltb i n (bit-lt n w i h t)) t))
+
+-- equal sets, equal words
+pub word-eq : (n : ℕ) (p q : ℕ → Bool) → ((i : ℕ) → i < n → p i ≡ q i) → word n p ≡ word n q
+unfolding word
+word-eq zero p q h = refl
+word-eq (suc n) p q h =
+    ap₂ (λ (a : ℕ) (b : Bool). bitOr a (only b (2 ^ n))) (word-eq n p q (λ i l. h i (omega arith))) (h n (omega arith))

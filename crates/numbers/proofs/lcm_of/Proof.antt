@@ -1,0 +1,23 @@
+-- lcm_of: a / gcd × b, which fits as both are small.
+use native.Mathlib.Nat.{mul-le-mul, div-le-self, le-trans, pos-of-dvd-of-pos}
+use native.Mathlib.Omega.{arith}
+use borrow.Author.Needs.{needs}
+use Rattle.numbers.proofs.Pairs.{pair-lcm-by}
+use Rattle.numbers.proofs.lcm_of.Statement.{statement}
+use Rattle.numbers.proofs.lcm_of.Tie as tie
+
+gcd-of-requires : tie.Need-gcd-of-requires
+gcd-of-requires c κs = search needs
+
+div-result : tie.Need-div-result
+div-result c = pos-of-dvd-of-pos (c .gcd-of .ensures .left) (c .before .pre .0)
+
+mul-result : tie.Need-mul-result
+mul-result c =
+    omega (arith, mul-le-mul (le-trans (div-le-self (c .before .args .a) (c .gcd-of .result)) (c .before .pre .2)) (c .before .pre .3))
+
+returns : tie.Need-returns
+returns c = pair-lcm-by (c .before .args .a) (c .before .args .b) (c .gcd-of .result) (c .before .pre .0) (c .gcd-of .ensures)
+
+pub lcm-of-spec : {M : Type 1} → statement M
+lcm-of-spec = tie.close (tie.spec gcd-of-requires div-result mul-result returns)

@@ -1,0 +1,6 @@
+pub mod Finite
+pub mod Word
+pub mod Divisors
+pub mod Rounding
+pub mod Lists
+pub mod Pairs

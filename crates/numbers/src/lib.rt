@@ -1,0 +1,34 @@
+ghost use mathlib.Core.Path.{_≡_};
+ghost use Prim.Native.Nat.{_^_, _<_, _≤_};
+ghost use lib.IntN.{pos, _-ℤ_};
+ghost use Rattle.numbers.specs.Pairs.{IsGcd, IsLcm};
+
+// The greatest common divisor, by remainders.
+pub fn gcd_of(a: u64, b: u64) -> u64
+    ensures { λ r. ⌜ IsGcd a b r ⌝ }
+{
+    let mut x = a;
+    let mut y = b;
+    while y != 0 {
+        let r = x % y;
+        x = y;
+        y = r;
+    }
+    x
+}
+
+// The least common multiple; the bounds keep it a u64.
+pub fn lcm_of(a: u64, b: u64) -> u64
+    requires { ⌜ (0 < a) × (0 < b) × (a ≤ 4096) × (b ≤ 4096) ⌝ }
+    ensures { λ r. ⌜ IsLcm a b r ⌝ }
+{
+    a / gcd_of(a, b) * b
+}
+
+// a less b, as a whole number.
+pub fn less(a: u64, b: u64) -> i64
+    requires { ⌜ (a < 2 ^ 63) × (b < 2 ^ 63) ⌝ }
+    ensures { λ r. ⌜ r ≡ pos a -ℤ pos b ⌝ }
+{
+    a as i64 - b as i64
+}

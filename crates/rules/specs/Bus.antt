@@ -1,0 +1,37 @@
+-- Document 01, "The bus and its tables".
+--
+--   Table              M elements round a ring and rows numbered from 0
+--   steps M a b        how many segments lie from element a clockwise to element b
+--   uses t i s         row i's route uses segment s
+--   through t i e      row i goes through element e
+--   overlap t i j      rows i and j overlap: their routes share a segment
+--
+-- Elements and segments are numbered 1 to M; segment s joins element s to the next one, and segment M joins M to 1.
+use mathlib.Core.Bool.{Bool, _&&_}
+use Prim.Native.Nat.{ℕ, suc, _+_, _-_, _%_}
+use lib.Dec.{ltb}
+use Rattle.numbers.specs.Finite.{any}
+
+-- A row is one periodic transfer: cost in slots, period in slots, first and second element. Its first job arrives at slot 0, and each job's
+-- deadline is the next arrival: job j arrives at slot j × period and is due at slot (j + 1) × period.
+pub record Table : Type 0 where
+  pub elements : ℕ
+  pub rows : ℕ
+  pub cost : ℕ → ℕ
+  pub period : ℕ → ℕ
+  pub first : ℕ → ℕ
+  pub second : ℕ → ℕ
+
+unfoldable pub steps : ℕ → ℕ → ℕ → ℕ
+steps M a b = (b + M - a) % M
+
+-- The route runs clockwise from first to second and uses every segment on the way: those that begin at an element before its end.
+unfoldable pub uses : Table → ℕ → ℕ → Bool
+uses t i s = ltb (steps (t .elements) (t .first i) s) (steps (t .elements) (t .first i) (t .second i))
+
+-- The element lies on the route and is neither end.
+unfoldable pub through : Table → ℕ → ℕ → Bool
+through t i e = ltb 0 (steps (t .elements) (t .first i) e) && uses t i e
+
+unfoldable pub overlap : Table → ℕ → ℕ → Bool
+overlap t i j = any (t .elements) (λ s. uses t i (suc s) && uses t j (suc s))

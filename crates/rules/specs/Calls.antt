@@ -1,0 +1,99 @@
+-- Document 01, what each call returns and what it leaves in the memory lent to it ("Refusal numbers", "The planner").
+--
+--   Call cs n p D R     a call with checks cs answers with number n and place p; D holds of it where it is done, R where it refuses
+--   lent ws was         a lent slice that held `was`, with ws written to its front: past them it is unchanged
+--   Read, Written       the reader and the writer
+--   Judged              the verdict
+--   Listed              the list of sets
+--   Planned             the whole plan
+--   Stepped             a planner step
+--   Stood               the standings
+--   c-answer n p        what verdict and whole plan answer to C
+--
+-- `was` and `now` are what a lent slice holds before and after. A refusal leaves lent output unchanged and hands back the planner it was
+-- given; any other returned number is then 0.
+use mathlib.Core.Path.{_≡_}
+use mathlib.Core.Logic.{_≢_}
+use mathlib.Core.List.{List, _++_}
+use Prim.Native.Nat.{ℕ, _+_, _*_, _≤_, _<_}
+use lib.IntN.{ℤ, pos}
+use lib.ListN.{length, drop}
+use Rattle.rules.specs.Bounds.{max-rows}
+use Rattle.rules.specs.Bus.{Table}
+use Rattle.rules.specs.TableFile.{fileTable, memoryTable, numbers, bytes}
+use Rattle.rules.specs.Line.{cut, Sets}
+use Rattle.rules.specs.Loads.{hyperperiod, shortest, reported}
+use Rattle.rules.specs.Planner.{Planner, standing, Step, WholePlan}
+use Rattle.rules.specs.Refusals.{
+  Check,
+  Answers,
+  reader-checks,
+  writer-checks,
+  verdict-checks,
+  sets-checks,
+  plan-checks,
+  step-checks,
+  standings-checks,
+}
+
+pub record Call (cs : List Check) (number place : ℕ) (Done Refused : Type 0) : Type 0 where
+  pub answers : Answers cs number place
+  pub done : number ≡ 0 → Done
+  pub refused : number ≢ 0 → Refused
+
+unfoldable pub lent : List ℕ → List ℕ → List ℕ
+lent ws was = ws ++ drop (length ws) was
+
+-- Returns M and the row count, and fills a slice with four numbers a row.
+abbrev pub Read : (file was now : List ℕ) (number place elements rows : ℕ) → Type 0
+Read file was now number place elements rows =
+    Call (reader-checks file (length was)) number place
+    ((elements ≡ fileTable file .elements) × (rows ≡ fileTable file .rows) × (now ≡ lent (numbers (fileTable file)) was))
+    ((elements ≡ 0) × (rows ≡ 0) × (now ≡ was))
+
+-- Takes M, the row count and a slice of four numbers a row.
+abbrev pub Written : (elements rows : ℕ) (xs was now : List ℕ) (number place : ℕ) → Type 0
+Written elements rows xs was now number place =
+    Call (writer-checks elements rows xs (length was)) number place (now ≡ lent (bytes (memoryTable elements rows xs)) was) (now ≡ was)
+
+-- When admitted, the verdict also returns cut, L, h, reported load and the number of sets.
+pub record Admitted (t : Table) (cut′ interval hyper load sets : ℕ) : Type 0 where
+  pub list : List ℕ
+  pub listed : Sets t list
+  pub cut-is : cut′ ≡ cut t
+  pub interval-is : interval ≡ shortest t
+  pub hyper-is : hyper ≡ hyperperiod t
+  pub load-is : load ≡ reported t list
+  pub sets-is : sets ≡ length list
+
+abbrev pub Judged : (file : List ℕ) (number place cut interval hyper load sets : ℕ) → Type 0
+Judged file number place cut interval hyper load sets =
+    Call (verdict-checks file) number place (Admitted (fileTable file) cut interval hyper load sets)
+    ((cut ≡ 0) × (interval ≡ 0) × (hyper ≡ 0) × (load ≡ 0) × (sets ≡ 0))
+
+-- Returns the length of the list, and fills a slice with it.
+abbrev pub Listed : (file was now : List ℕ) (number place sets : ℕ) → Type 0
+Listed file was now number place sets =
+    Call (sets-checks file (length was)) number place
+    ((ws : List ℕ) × Sets (fileTable file) ws × (sets ≡ length ws) × (now ≡ lent ws was))
+    ((sets ≡ 0) × (now ≡ was))
+
+abbrev pub Planned : (file was now : List ℕ) (number place : ℕ) → Type 0
+Planned file was now number place =
+    Call (plan-checks file (length was)) number place ((ws : List ℕ) × WholePlan (fileTable file) ws × (now ≡ lent ws was)) (now ≡ was)
+
+abbrev pub Stepped : (file : List ℕ) (p q : Planner) (was now : List ℕ) (number place : ℕ) → Type 0
+Stepped file p q was now number place =
+    Call (step-checks file p (length was)) number place ((ws : List ℕ) × Step (fileTable file) p q ws × (now ≡ lent ws was))
+    ((q ≡ p) × (now ≡ was))
+
+-- All 64 standings are given together, 0 past the last row.
+abbrev pub Stood : (file : List ℕ) (p : Planner) (standings : ℕ → ℤ) (number place : ℕ) → Type 0
+Stood file p standings number place =
+    Call (standings-checks file p) number place
+    (((i : ℕ) → i < fileTable file .rows → standings i ≡ standing (fileTable file) p i)
+    × ((i : ℕ) → fileTable file .rows ≤ i → i < max-rows → standings i ≡ pos 0))
+    ((i : ℕ) → i < max-rows → standings i ≡ pos 0)
+
+abbrev pub c-answer : ℕ → ℕ → ℕ
+c-answer number place = 256 * number + place

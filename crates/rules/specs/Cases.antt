@@ -1,0 +1,70 @@
+-- Document 01, "On either side of each limit": the cases marked P, collected under a single statement about the definitions.
+-- It holds statements only; `proofs/Cases.antt` proves `Cases`.
+use mathlib.Core.Path.{_≡_}
+use mathlib.Core.Logic.{_⊎_, _↔_}
+use mathlib.Core.List.{List, [], _∷_}
+use Prim.Native.Nat.{ℕ, _*_}
+use lib.IntN.{pos, negℤ}
+use Rattle.numbers.specs.Lists.{at}
+use Rattle.numbers.specs.Word.{bit}
+use Rattle.rules.specs.Bus.{Table}
+use Rattle.rules.specs.TableFile.{memoryTable, bytes}
+use Rattle.rules.specs.Line.{cut, Sets}
+use Rattle.rules.specs.Loads.{hyperperiod, shortest, load, reported}
+use Rattle.rules.specs.Planner.{Planner, fresh, standing, Step, WholePlan}
+use Rattle.rules.specs.Refusals.{Answers, verdict-checks}
+
+-- M 4, rows (2,4,1,3), (1,4,2,4), (2,4,3,1)
+abbrev pub case-A : Table
+case-A = memoryTable 4 3 (2 ∷ 4 ∷ 1 ∷ 3 ∷ 1 ∷ 4 ∷ 2 ∷ 4 ∷ 2 ∷ 4 ∷ 3 ∷ 1 ∷ [])
+
+-- M 3, rows (1,4,1,2), (3,8,1,3); and with another second cost
+abbrev pub case-B-with : ℕ → Table
+case-B-with cost = memoryTable 3 2 (1 ∷ 4 ∷ 1 ∷ 2 ∷ cost ∷ 8 ∷ 1 ∷ 3 ∷ [])
+
+abbrev pub case-B : Table
+case-B = case-B-with 3
+
+-- M 2, rows (3,4,1,2) and (1,4,1,2), or (2,4,1,2)
+abbrev pub equal-with : ℕ → Table
+equal-with cost = memoryTable 2 2 (3 ∷ 4 ∷ 1 ∷ 2 ∷ cost ∷ 4 ∷ 1 ∷ 2 ∷ [])
+
+-- M 3, rows (1,4,1,3), (1,4,2,1), (1,4,3,2)
+abbrev pub round : Table
+round = memoryTable 3 3 (1 ∷ 4 ∷ 1 ∷ 3 ∷ 1 ∷ 4 ∷ 2 ∷ 1 ∷ 1 ∷ 4 ∷ 3 ∷ 2 ∷ [])
+
+-- the verdict on a table's file gives this number and place
+abbrev Verdict : Table → ℕ → ℕ → Type 0
+Verdict t number place = Answers (verdict-checks (bytes t)) number place
+
+pub record Cases : Type 0 where
+  -- P1: case A's cut, sets and words
+  pub p1-bytes : bytes case-A
+      ≡ 0x52 ∷ 0x42 ∷ 0x54 ∷ 0x01 ∷ 0x00 ∷ 0x04 ∷ 0x03 ∷ 0x02 ∷ 0x00 ∷ 0x04 ∷ 0x00 ∷ 0x01 ∷ 0x03 ∷ 0x01 ∷ 0x00 ∷ 0x04 ∷ 0x00 ∷ 0x02 ∷ 0x04
+      ∷ 0x02 ∷ 0x00 ∷ 0x04 ∷ 0x00 ∷ 0x03 ∷ 0x01 ∷ []
+  pub p1-cut : cut case-A ≡ 1
+  pub p1-sets : (ws : List ℕ) → Sets case-A ws ↔ (ws ≡ 3 ∷ 6 ∷ [])
+  pub p1-words : (ws : List ℕ) → WholePlan case-A ws ↔ (ws ≡ 5 ∷ 5 ∷ 2 ∷ 0 ∷ [])
+  -- P2: case B: L 4, h 8, load 625, and exactly two plans qualify
+  pub p2-interval : shortest case-B ≡ 4
+  pub p2-hyper : hyperperiod case-B ≡ 8
+  pub p2-load : (ws : List ℕ) → Sets case-B ws → reported case-B ws ≡ 625
+  pub p2-plans : (ws : List ℕ) → WholePlan case-B ws
+      ↔ ((ws ≡ 1 ∷ 2 ∷ 0 ∷ 0 ∷ 1 ∷ 2 ∷ 2 ∷ 0 ∷ []) ⊎ (ws ≡ 1 ∷ 2 ∷ 2 ∷ 0 ∷ 1 ∷ 2 ∷ 0 ∷ 0 ∷ []))
+  -- P3: in B, after interval 0, row 1 stands at −4 or 4
+  pub p3 : (ws : List ℕ) (q : Planner) → Step case-B fresh q ws → (standing case-B q 1 ≡ negℤ (pos 4)) ⊎ (standing case-B q 1 ≡ pos 4)
+  -- P4: B with the second cost 4: exactly at 3/4, admitted
+  pub p4-load : (ws : List ℕ) → Sets (case-B-with 4) ws → load (case-B-with 4) (bit (at ws 0)) * 4 ≡ 3 * hyperperiod (case-B-with 4)
+  pub p4 : Verdict (case-B-with 4) 0 0
+  -- P5: with cost 5: 14, set 0
+  pub p5 : Verdict (case-B-with 5) 14 0
+  -- P6: with cost 1: 13, row 1
+  pub p6 : Verdict (case-B-with 1) 13 1
+  -- P7: cost 2: admitted
+  pub p7 : Verdict (case-B-with 2) 0 0
+  -- P8: (3,4,1,2), (1,4,1,2): admitted
+  pub p8 : Verdict (equal-with 1) 0 0
+  -- P9: (3,4,1,2), (2,4,1,2): 14, set 0
+  pub p9 : Verdict (equal-with 2) 14 0
+  -- P10: every element has some row through it: 10
+  pub p10 : Verdict round 10 0

@@ -1,0 +1,11 @@
+pub mod Bounds
+pub mod Bus
+pub mod TableFile
+pub mod Line
+pub mod Loads
+pub mod Interval
+pub mod Planner
+pub mod Refusals
+pub mod Calls
+pub mod Program
+pub mod Cases

@@ -1,0 +1,65 @@
+-- Document 01, "Loads and bound".
+--
+--   hyperperiod t      h, the least common multiple of the periods
+--   shortest t         L, the greatest common divisor of the periods
+--   start t k, end t k planning interval k runs from slot start t k up to slot end t k
+--   intervals t        how many planning intervals the hyperperiod has
+--   rate t i           row i's load cost / period, in units of 1 / h
+--   share t i s        row i's share at slot s, cost × s / period, in units of 1 / h
+--   load t D           the load of a set, in units of 1 / h
+--   equalPeriods t     all periods are equal
+--   light t i          periods differ, and row i's cost × L is below its period
+--   over t D           the set's load is over its bound
+--   reported t ws      the largest set's load in thousandths, rounded up
+--
+-- h is a multiple of every period, so a fraction of a period is a whole number of 1 / h and nothing is rounded.
+use mathlib.Core.Bool.{Bool, not, _&&_, cond}
+use mathlib.Core.List.{List}
+use Prim.Native.Nat.{ℕ, _+_, _-_, _*_, _/_}
+use lib.Dec.{ltb, eqb}
+use lib.ListN.{length}
+use Rattle.numbers.specs.Finite.{every, sumIn, largest}
+use Rattle.numbers.specs.Word.{bit}
+use Rattle.numbers.specs.Lists.{at}
+use Rattle.numbers.specs.Divisors.{gcd, lcm}
+use Rattle.numbers.specs.Rounding.{up}
+use Rattle.rules.specs.Bus.{Table}
+
+unfoldable pub hyperperiod : Table → ℕ
+hyperperiod t = lcm (t .rows) (t .period)
+
+unfoldable pub shortest : Table → ℕ
+shortest t = gcd (t .rows) (t .period)
+
+-- Slots k × L up to (k + 1) × L, for k from 0 to h / L − 1.
+unfoldable pub start : Table → ℕ → ℕ
+start t k = k * shortest t
+
+unfoldable pub end : Table → ℕ → ℕ
+end t k = (k + 1) * shortest t
+
+unfoldable pub intervals : Table → ℕ
+intervals t = hyperperiod t / shortest t
+
+unfoldable pub rate : Table → ℕ → ℕ
+rate t i = hyperperiod t / t .period i * t .cost i
+
+abbrev pub share : Table → ℕ → ℕ → ℕ
+share t i s = rate t i * s
+
+abbrev pub load : Table → (ℕ → Bool) → ℕ
+load t D = sumIn (t .rows) D (rate t)
+
+unfoldable pub equalPeriods : Table → Bool
+equalPeriods t = every (t .rows) (λ i. eqb (t .period i) (t .period 0))
+
+unfoldable pub light : Table → ℕ → Bool
+light t i = not (equalPeriods t) && ltb (t .cost i * shortest t) (t .period i)
+
+-- All periods equal: the bound is 1. Periods differ: the bound is (L − 1) / L.
+unfoldable pub over : Table → (ℕ → Bool) → Bool
+over t D = cond (equalPeriods t) (ltb (hyperperiod t) (load t D)) (ltb ((shortest t - 1) * hyperperiod t) (load t D * shortest t))
+
+-- The verdict never uses it.
+unfoldable pub reported : Table → List ℕ → ℕ
+reported t ws = up (1000 * largest (length ws) (λ k. load t (bit (at ws k)))) (hyperperiod t)

@@ -1,0 +1,166 @@
+-- Document 01, "Refusal numbers, in order of checking".
+--
+--   Check              a refusal: its number, its place, and the condition under which it is given
+--   Answers cs n p     number n and place p answer the checks cs: those of the first that applies, or 0 and 0 where none does
+--
+-- Each refusal of the table stands here once, with its number. Below are the calls' own orders of checking.
+use mathlib.Core.Path.{_≡_}
+use mathlib.Core.Logic.{_⊎_, _≢_}
+use mathlib.Core.List.{List, [], _∷_, _++_}
+use Prim.Native.Nat.{ℕ, _+_, _-_, _*_, _≤_, _<_}
+use lib.Dec.{T}
+use lib.ListN.{length}
+use Rattle.numbers.specs.Word.{bit}
+use Rattle.numbers.specs.Lists.{at, each}
+use Rattle.rules.specs.Bounds.{max-elements, max-rows, max-slots}
+use Rattle.rules.specs.Bus.{Table, through}
+use Rattle.rules.specs.TableFile.{table-mark, table-version, headerSize, rowSize, rowNumbers, mark, version, fileTable, memoryTable}
+use Rattle.rules.specs.Line.{Sets, Tie}
+use Rattle.rules.specs.Loads.{hyperperiod, start, end, light, over}
+use Rattle.rules.specs.Planner.{Stage, due, finished, Planner, Off}
+
+pub record Check : Type 1 where
+  pub number : ℕ
+  pub place : ℕ
+  pub applies : Type 0
+
+abbrev pub refuse : ℕ → ℕ → Type 0 → Check
+refuse n p A = record { number = n; place = p; applies = A }
+
+unfoldable pub Answers : List Check → ℕ → ℕ → Type 0
+Answers [] n p = (n ≡ 0) × (p ≡ 0)
+Answers (c ∷ cs) n p = (c .applies × (n ≡ c .number) × (p ≡ c .place)) ⊎ ((c .applies → ⊥) × Answers cs n p)
+
+-- x is one of a, a + 1, .., b
+abbrev In : ℕ → ℕ → ℕ → Type 0
+In x a b = (a ≤ x) × (x ≤ b)
+
+-- ---- the table of refusals
+
+-- file under 7 bytes
+abbrev pub short-file : List ℕ → Check
+short-file f = refuse 1 0 (length f < headerSize)
+
+-- mark wrong
+abbrev pub wrong-mark : List ℕ → Check
+wrong-mark f = refuse 2 0 (mark f ≢ table-mark)
+
+-- version is not 1
+abbrev pub wrong-version : List ℕ → Check
+wrong-version f = refuse 3 0 (version f ≢ table-version)
+
+-- M not in 2..32
+abbrev pub wrong-elements : Table → Check
+wrong-elements t = refuse 4 0 (¬ In (t .elements) 2 max-elements)
+
+-- rows not in 1..64
+abbrev pub wrong-rows : Table → Check
+wrong-rows t = refuse 5 0 (¬ In (t .rows) 1 max-rows)
+
+-- file length is not 7 + 6 × rows (writer: slice length is not 4 × rows)
+abbrev pub wrong-length : ℕ → ℕ → Check
+wrong-length has wants = refuse 6 0 (has ≢ wants)
+
+-- an end not in 1..M, or both ends equal
+abbrev pub wrong-ends : Table → ℕ → Check
+wrong-ends t i = refuse 7 i (¬ In (t .first i) 1 (t .elements) ⊎ ¬ In (t .second i) 1 (t .elements) ⊎ (t .first i ≡ t .second i))
+
+-- period not in 1..4096
+abbrev pub wrong-period : Table → ℕ → Check
+wrong-period t i = refuse 8 i (¬ In (t .period i) 1 max-slots)
+
+-- cost 0 or above the period
+abbrev pub wrong-cost : Table → ℕ → Check
+wrong-cost t i = refuse 9 i (¬ In (t .cost i) 1 (t .period i))
+
+-- every element has some row through it
+abbrev pub no-cut : Table → Check
+no-cut t = refuse 10 0 ((e : ℕ) → In e 1 (t .elements) → (i : ℕ) × (i < t .rows) × T (through t i e))
+
+-- hyperperiod above 4096
+abbrev pub long-hyperperiod : Table → Check
+long-hyperperiod t = refuse 11 0 (max-slots < hyperperiod t)
+
+-- two overlap sets have the same least second end
+abbrev pub tied-sets : Table → Check
+tied-sets t = refuse 12 0 (Tie t)
+
+-- periods differ, and cost × L is below the period
+abbrev pub light-row : Table → ℕ → Check
+light-row t i = refuse 13 i (T (light t i))
+
+-- an overlap set is over its bound
+abbrev pub over-bound : Table → ℕ → Check
+over-bound t k = refuse 14 k ((ws : List ℕ) × Sets t ws × (k < length ws) × T (over t (bit (at ws k))))
+
+-- planner state is off
+abbrev pub off-state : Table → Planner → Check
+off-state t p = refuse 15 0 (Off t p)
+
+-- planner has finished
+abbrev pub has-finished : Planner → Check
+has-finished p = refuse 16 0 (p .stage ≡ finished)
+
+-- a lent output slice is too short; each call says below how short
+abbrev pub short-output : Type 0 → Check
+short-output A = refuse 17 0 A
+
+-- ---- the orders of checking: rows are taken in ascending order, within a row 7, 8, 9, and the lowest row or set is the place
+
+unfoldable pub row-checks : Table → List Check
+row-checks t = each (t .rows) (λ i. wrong-ends t i ∷ wrong-period t i ∷ wrong-cost t i ∷ [])
+
+-- 1 to 6
+unfoldable pub header-checks : List ℕ → List Check
+header-checks f =
+    short-file f ∷ wrong-mark f ∷ wrong-version f ∷ wrong-elements (fileTable f) ∷ wrong-rows (fileTable f)
+    ∷ wrong-length (length f) (headerSize + rowSize * fileTable f .rows) ∷ []
+
+-- 1 to 9
+unfoldable pub file-checks : List ℕ → List Check
+file-checks f = header-checks f ++ row-checks (fileTable f)
+
+-- 10 to 12
+unfoldable pub line-checks : Table → List Check
+line-checks t = no-cut t ∷ long-hyperperiod t ∷ tied-sets t ∷ []
+
+-- 13 and 14. A table never has more overlap sets than rows.
+unfoldable pub bound-checks : Table → List Check
+bound-checks t = each (t .rows) (λ i. light-row t i ∷ []) ++ each (t .rows) (λ k. over-bound t k ∷ [])
+
+-- the reader uses 1 to 9, then 17
+unfoldable pub reader-checks : List ℕ → ℕ → List Check
+reader-checks f room = file-checks f ++ (short-output (room < rowNumbers * fileTable f .rows) ∷ [])
+
+-- the writer 4 to 9, then 17
+unfoldable pub writer-checks : ℕ → ℕ → List ℕ → ℕ → List Check
+writer-checks M n xs room =
+    (wrong-elements (memoryTable M n xs) ∷ wrong-rows (memoryTable M n xs) ∷ wrong-length (length xs) (rowNumbers * n) ∷ [])
+    ++ row-checks (memoryTable M n xs) ++ (short-output (room < headerSize + rowSize * n) ∷ [])
+
+-- the verdict 1 to 14
+unfoldable pub verdict-checks : List ℕ → List Check
+verdict-checks f = file-checks f ++ line-checks (fileTable f) ++ bound-checks (fileTable f)
+
+-- the list of sets 1 to 12, then 17
+unfoldable pub sets-checks : List ℕ → ℕ → List Check
+sets-checks f room =
+    file-checks f ++ line-checks (fileTable f)
+    ++ (short-output ((ws : List ℕ) × Sets (fileTable f) ws × (room < length ws)) ∷ [])
+
+-- the whole plan 1 to 14, then 17
+unfoldable pub plan-checks : List ℕ → ℕ → List Check
+plan-checks f room = verdict-checks f ++ (short-output (room < hyperperiod (fileTable f)) ∷ [])
+
+-- a planner step 1 to 14, 15, 16, 17; a finished planner has no interval left to write
+abbrev pub step-room : Table → Stage → ℕ
+step-room t (due k) = end t k - start t k
+step-room t finished = 0
+
+unfoldable pub step-checks : List ℕ → Planner → ℕ → List Check
+step-checks f p room =
+    verdict-checks f ++ (off-state (fileTable f) p ∷ has-finished p ∷ short-output (room < step-room (fileTable f) (p .stage)) ∷ [])
+
+-- the standings 1 to 15
+unfoldable pub standings-checks : List ℕ → Planner → List Check
+standings-checks f p = verdict-checks f ++ (off-state (fileTable f) p ∷ [])
