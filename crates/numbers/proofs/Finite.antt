@@ -7,13 +7,13 @@
 -- The laws that end in -next are in the form of a loop that counts up: n + 1 for the bound.
 use mathlib.Core.Path.{_≡_, refl, sym, ap, ap₂, _∙_}
 use mathlib.Core.Logic.{_⊎_, inl, inr, ⊎-elim, _≢_}
-use mathlib.Core.Bool.{Bool, true, false, not, _&&_, _||_, cond}
+use mathlib.Core.Bool.{Bool, true, false, not, _&&_, _||_, cond, or-true, or-false}
 use Prim.Native.Nat.{ℕ, zero, suc, _+_, _-_, _*_, _/_, _%_, _≤_, _<_, zero-le, min, max}
 use native.Mathlib.Nat.{eq-or-lt-of-le, le-of-suc-le-suc, not-suc-le-zero, le-refl, add-zero, add-suc}
 use native.Mathlib.Nat.{mod-add-div', add-mul-mod-self-right, zero-mod}
 use native.Mathlib.Numerals.{add-one}
 use native.Mathlib.Omega.{arith}
-use lib.Dec.{T, ltb}
+use lib.Dec.{T, ltb, eqb, eqb→eq}
 use borrow.Author.Tests.{ltb-true, ltb-false}
 use Rattle.numbers.specs.Finite.{any, every, lowest, highest, only, sum, sumIn, count, largest}
 use Rattle.numbers.proofs.Truth.{both, fst, snd, orl, orr, or-cases, decide, is-true, is-false, le-or-lt}
@@ -53,6 +53,13 @@ pub any-eq : (n : ℕ) (p q : ℕ → Bool) → ((i : ℕ) → i < n → p i ≡
 unfolding any
 any-eq zero p q h = refl
 any-eq (suc n) p q h = ap₂ _||_ (any-eq n p q (λ i l. h i (omega arith))) (h n (le-refl (suc n)))
+
+-- a search that a loop carries on: found, or not found here
+pub any-in : (i : ℕ) (p : ℕ → Bool) → T (p i) → true ≡ any (i + 1) p
+any-in i p t = sym (any-next i p ∙ ap (λ (b : Bool). any i p || b) (is-true (p i) t) ∙ or-true (any i p))
+
+pub any-out : (i : ℕ) (p : ℕ → Bool) (b : Bool) → b ≡ any i p → (T (p i) → ⊥) → b ≡ any (i + 1) p
+any-out i p b e t = e ∙ sym (any-next i p ∙ ap (λ (b : Bool). any i p || b) (is-false (p i) t) ∙ or-false (any i p))
 
 -- ---- every
 
@@ -440,6 +447,17 @@ unfolding sum
 count-take zero p x = omega arith
 count-take (suc n) p x =
     take-step (p n) (ltb (count n p) x) (count n (λ t. p t && ltb (count t p) x)) (count n p) x (count-take n p x) refl
+
+-- a number is met at most once
+pub count-eqb : (n x : ℕ) → count n (eqb x) ≤ 1
+unfolding sum
+count-eqb zero x = omega arith
+count-eqb (suc n) x =
+    ⊎-elim
+    (λ t. let q : x ≡ n = eqb→eq x n t in
+    omega (arith, count-none n (eqb x) (λ y l u. omega (arith, eqb→eq x y u)), only-true (eqb x n) 1 (is-true (eqb x n) t)))
+    (λ t. omega (arith, count-eqb n x, only-false (eqb x n) 1 (is-false (eqb x n) t)))
+    (decide (eqb x n))
 
 -- ---- largest
 

@@ -4,12 +4,12 @@
 --   Filled was out n xs    out is xs in its first n places, and from there on what was there
 use mathlib.Core.Path.{_≡_, refl, sym, ap, ap₂, _∙_}
 use mathlib.Core.Logic.{⊎-elim}
-use mathlib.Core.List.{List, [], _∷_, _++_, append-assoc, append-nil}
+use mathlib.Core.List.{List, [], _∷_, _++_, append-assoc, append-nil, map}
 use Prim.Native.Nat.{ℕ, zero, suc, _+_, _-_, _*_, _≤_, _<_}
-use native.Mathlib.Nat.{suc-mul, zero-mul, mul-one, le-of-eq, mul-le-mul-right, eq-or-lt-of-le, le-of-suc-le-suc}
+use native.Mathlib.Nat.{suc-mul, zero-mul, mul-one, le-of-eq, mul-le-mul-right, eq-or-lt-of-le, le-of-suc-le-suc, not-suc-le-zero}
 use native.Mathlib.Numerals.{add-one}
 use native.Mathlib.Omega.{arith}
-use lib.ListN.{length, take, drop, set, length-append, length-drop, length-set, take-append-drop, drop-of-length-le}
+use lib.ListN.{length, take, drop, set, length-append, length-drop, length-set, take-append-drop, drop-of-length-le, replicate}
 use lib.Seq.{drop-cons, take-suc, set-at, append-snoc, take-at, drop-at, take-all, take-add, drop-drop, take-append-le, drop-append-le}
 use lib.Seq.{getD-take, getD-drop, getD-append-add, ext-getD}
 use Rattle.numbers.specs.Lists.{at, each}
@@ -177,3 +177,15 @@ filled-rest {was} {out} {n = n} F i l =
 -- full: nothing is left of what was there
 pub filled-end : {was out xs : List ℕ} {n : ℕ} → Filled was out n xs → length was ≤ n → out ≡ xs
 filled-end {was} {xs = xs} {n = n} F h = F .holds ∙ ap (λ (d : List ℕ). xs ++ d) (drop-of-length-le was h) ∙ append-nil xs
+
+-- ---- map, replicate
+
+pub at-map : (g : ℕ → ℕ) (l : List ℕ) (k : ℕ) → k < length l → at (map g l) k ≡ g (at l k)
+at-map g [] k h = absurd (not-suc-le-zero h)
+at-map g (x ∷ xs) zero h = refl
+at-map g (x ∷ xs) (suc k) h = at-map g xs k (le-of-suc-le-suc h)
+
+pub zeros-at : (n i : ℕ) → at (replicate n 0) i ≡ 0
+zeros-at zero i = refl
+zeros-at (suc n) zero = refl
+zeros-at (suc n) (suc i) = zeros-at n i

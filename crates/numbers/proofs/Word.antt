@@ -9,13 +9,13 @@ use native.Mathlib.Nat.{not-suc-le-zero, div-one, div-eq-of-lt, mod-eq-of-lt, on
 use native.Mathlib.Numerals.{add-one, one-add}
 use native.Mathlib.Omega.{arith}
 use lib.Arith.{half-le}
-use lib.Bits.{bitOr, bitAnd, or-shr, or-mod, and-shr, and-mod, shifted-half, shifted-even}
+use lib.Bits.{bitOr, bitAnd, or-shr, or-mod, and-shr, and-mod, shifted-half, shifted-even, or-zero-r}
 use lib.Dec.{T, eqb, ltb, eqb→eq, lit<, ltb→lt, lt→ltb, eqb·zero-suc, eqb·suc-zero, eqb·suc-suc}
 use lib.Pow.{pow-pos, pow-mono, pow-lt, shr-shr}
 use Rattle.numbers.specs.Finite.{only}
 use Rattle.numbers.specs.Word.{bit}
-use Rattle.numbers.proofs.Truth.{both, fst, snd, orl, orr, or-cases, same, along, is-false, of-false, eqb-of}
-use Rattle.numbers.proofs.Finite.{below}
+use Rattle.numbers.proofs.Truth.{both, fst, snd, orl, orr, or-cases, same, along, is-false, of-false, eqb-of, is-true}
+use Rattle.numbers.proofs.Finite.{below, only-true, only-false}
 
 unfoldable pub word : ℕ → (ℕ → Bool) → ℕ
 word zero p = 0
@@ -174,3 +174,12 @@ unfolding word
 word-eq zero p q h = refl
 word-eq (suc n) p q h =
     ap₂ (λ (a : ℕ) (b : Bool). bitOr a (only b (2 ^ n))) (word-eq n p q (λ i l. h i (omega arith))) (h n (omega arith))
+
+-- a word that a loop fills by `w | (1u64 << i)`: with i, or without it
+pub word-in : (i : ℕ) (p : ℕ → Bool) (w : ℕ) → i < 64 → w ≡ word i p → T (p i) → bitOr w (1 * 2 ^ i % 2 ^ 64) ≡ word (i + 1) p
+word-in i p w h e t =
+    ap₂ bitOr e (one-shl i h ∙ sym (only-true (p i) (2 ^ i) (is-true (p i) t))) ∙ sym (word-next i p)
+
+pub word-out : (i : ℕ) (p : ℕ → Bool) (w : ℕ) → w ≡ word i p → (T (p i) → ⊥) → w ≡ word (i + 1) p
+word-out i p w e t =
+    e ∙ sym (word-next i p ∙ ap (bitOr (word i p)) (only-false (p i) (2 ^ i) (is-false (p i) t)) ∙ or-zero-r (word i p))

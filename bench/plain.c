@@ -1,0 +1,226 @@
+#include "plain.h"
+
+#include <string.h>
+
+enum { ROWS = 64, SLOTS = 4096, LINE = 34, ARCS = 2 * ROWS, PLACES = ROWS + 1 };
+
+struct analysis {
+    int rows, elements, sets;
+    int64_t hyper, interval;
+    int cost[ROWS], period[ROWS], from[ROWS], to[ROWS];
+    int first[ROWS], second[ROWS]; /* on the line */
+    uint64_t word[ROWS];
+    int low[ROWS], high[ROWS]; /* the sets that a row belongs to */
+    int64_t rate[ROWS];
+};
+
+static int64_t gcd(int64_t a, int64_t b) {
+    while (b) {
+        int64_t r = a % b;
+        a = b;
+        b = r;
+    }
+    return a;
+}
+
+static uint32_t refuse(unsigned number, unsigned place) {
+    return 256 * number + place;
+}
+
+static int steps(int elements, int from, int to) {
+    return from <= to ? to - from : to + elements - from;
+}
+
+static int find_cut(const struct analysis *a) {
+    for (int e = 1; e <= a->elements; e++) {
+        int i = 0;
+        for (; i < a->rows; i++) {
+            int on = steps(a->elements, a->from[i], e);
+            if (0 < on && on < steps(a->elements, a->from[i], a->to[i])) break;
+        }
+        if (i == a->rows) return e;
+    }
+    return 0;
+}
+
+static void list_sets(struct analysis *a) {
+    int started = 0;
+    a->sets = 0;
+    for (int e = 1; e <= a->elements + 1; e++) {
+        int starts = 0, ends = 0;
+        uint64_t across = 0;
+        for (int i = 0; i < a->rows; i++) {
+            starts |= a->first[i] == e;
+            ends |= a->second[i] == e;
+            if (a->first[i] < e && e <= a->second[i]) across |= (uint64_t)1 << i;
+        }
+        if (ends) {
+            if (started) {
+                for (int i = 0; i < a->rows; i++) {
+                    if (!(across >> i & 1)) continue;
+                    if (a->low[i] < 0) a->low[i] = a->sets;
+                    a->high[i] = a->sets;
+                }
+                a->word[a->sets++] = across;
+            }
+            started = 0;
+        }
+        if (starts) started = 1;
+    }
+}
+
+static uint32_t analyse(const uint8_t *f, size_t length, struct analysis *a) {
+    if (length < 7) return refuse(1, 0);
+    if (f[0] != 'R' || f[1] != 'B' || f[2] != 'T') return refuse(2, 0);
+    if (f[3] != 1 || f[4] != 0) return refuse(3, 0);
+    a->elements = f[5];
+    a->rows = f[6];
+    if (a->elements < 2 || a->elements > 32) return refuse(4, 0);
+    if (a->rows < 1 || a->rows > ROWS) return refuse(5, 0);
+    if (length != 7 + 6 * (size_t)a->rows) return refuse(6, 0);
+    for (int i = 0; i < a->rows; i++) {
+        const uint8_t *r = f + 7 + 6 * i;
+        a->cost[i] = r[0] + 256 * r[1];
+        a->period[i] = r[2] + 256 * r[3];
+        a->from[i] = r[4];
+        a->to[i] = r[5];
+        if (a->from[i] < 1 || a->from[i] > a->elements || a->to[i] < 1 || a->to[i] > a->elements || a->from[i] == a->to[i])
+            return refuse(7, (unsigned)i);
+        if (a->period[i] < 1 || a->period[i] > SLOTS) return refuse(8, (unsigned)i);
+        if (a->cost[i] < 1 || a->cost[i] > a->period[i]) return refuse(9, (unsigned)i);
+    }
+    int cut = find_cut(a);
+    if (!cut) return refuse(10, 0);
+    a->hyper = 1;
+    a->interval = 0;
+    int equal = 1;
+    for (int i = 0; i < a->rows; i++) {
+        a->hyper = a->hyper / gcd(a->hyper, a->period[i]) * a->period[i];
+        if (a->hyper > SLOTS) return refuse(11, 0);
+        a->interval = gcd(a->interval, a->period[i]);
+        equal &= a->period[i] == a->period[0];
+        a->first[i] = steps(a->elements, cut, a->from[i]) + 1;
+        a->second[i] = a->to[i] == cut ? a->elements + 1 : steps(a->elements, cut, a->to[i]) + 1;
+        a->low[i] = -1;
+    }
+    list_sets(a);
+    for (int i = 0; i < a->rows; i++) {
+        if (!equal && a->cost[i] * a->interval < a->period[i]) return refuse(13, (unsigned)i);
+        a->rate[i] = a->hyper / a->period[i] * a->cost[i];
+    }
+    for (int k = 0; k < a->sets; k++) {
+        int64_t load = 0;
+        for (int i = 0; i < a->rows; i++)
+            if (a->word[k] >> i & 1) load += a->rate[i];
+        if (equal ? load > a->hyper : load * a->interval > (a->interval - 1) * a->hyper) return refuse(14, (unsigned)k);
+    }
+    return 0;
+}
+
+/* ---- loads: rows and sets are arcs of a circulation between the sets; each row in turn is raised as far as the others allow */
+
+struct net {
+    int arcs, rows, places;
+    int tail[ARCS], head[ARCS];
+    int64_t flow[ARCS], least[ARCS], most[ARCS];
+};
+
+/* Finds a way from `from` to `to` by arcs after `row` that can take more, and pushes what it can along it and row's own arc. */
+static int raise_once(struct net *n, int row) {
+    int queue[PLACES], reached[PLACES] = {0}, by[PLACES];
+    int64_t spare[PLACES];
+    int from = n->head[row], to = n->tail[row], count = 0;
+    queue[count++] = from;
+    reached[from] = 1;
+    by[from] = -1;
+    spare[from] = n->most[row] - n->flow[row];
+    for (int at = 0; at < count && !reached[to]; at++) {
+        int v = queue[at];
+        for (int e = row + 1; e < n->arcs; e++) {
+            int w;
+            int64_t room;
+            if (n->tail[e] == v) w = n->head[e], room = n->most[e] - n->flow[e];
+            else if (n->head[e] == v) w = n->tail[e], room = n->flow[e] - n->least[e];
+            else continue;
+            if (reached[w] || room <= 0) continue;
+            reached[w] = 1;
+            by[w] = e;
+            spare[w] = room < spare[v] ? room : spare[v];
+            queue[count++] = w;
+        }
+    }
+    if (!reached[to]) return 0;
+    int64_t push = spare[to];
+    for (int v = to; v != from;) {
+        int e = by[v];
+        if (n->head[e] == v) n->flow[e] += push, v = n->tail[e];
+        else n->flow[e] -= push, v = n->head[e];
+    }
+    n->flow[row] += push;
+    return 1;
+}
+
+static void choose_loads(const struct analysis *a, struct net *n, int64_t end, const int64_t *had, int64_t *load) {
+    int64_t h = a->hyper;
+    for (int k = 0; k < a->sets; k++) n->flow[n->rows + k] = 0;
+    for (int i = 0; i < n->rows; i++) {
+        int64_t lag = a->rate[i] * end - had[i] * h, down = lag / h * h;
+        n->flow[i] = lag;
+        n->least[i] = down;
+        n->most[i] = lag == down ? down : down + h;
+        for (int k = a->low[i]; k <= a->high[i]; k++) n->flow[n->rows + k] += lag;
+    }
+    for (int k = 0; k < a->sets; k++) {
+        int64_t lag = n->flow[n->rows + k], down = lag / h * h;
+        n->least[n->rows + k] = down;
+        n->most[n->rows + k] = lag == down ? down : down + h;
+    }
+    for (int i = 0; i < n->rows; i++)
+        while (n->flow[i] < n->most[i] && raise_once(n, i)) {}
+    for (int i = 0; i < n->rows; i++) load[i] = n->flow[i] / h;
+}
+
+/* ---- slots */
+
+static void fill_slots(const struct analysis *a, const int64_t *load, uint64_t *out) {
+    int last[SLOTS];
+    int l = (int)a->interval;
+    memset(out, 0, (size_t)l * sizeof *out);
+    memset(last, 0, (size_t)l * sizeof *last);
+    for (int e = 1; e <= a->elements; e++)
+        for (int i = 0; i < a->rows; i++) {
+            if (a->first[i] != e) continue;
+            int64_t left = load[i];
+            for (int s = 0; s < l && left; s++)
+                if (last[s] <= e) {
+                    out[s] |= (uint64_t)1 << i;
+                    last[s] = a->second[i];
+                    left--;
+                }
+        }
+}
+
+uint32_t plain_verdict(const uint8_t *file, size_t length) {
+    struct analysis a;
+    return analyse(file, length, &a);
+}
+
+uint32_t plain_plan(const uint8_t *file, size_t length, uint64_t *plan, size_t words) {
+    struct analysis a;
+    struct net n;
+    uint32_t answer = analyse(file, length, &a);
+    if (answer) return answer;
+    if (words < (size_t)a.hyper) return refuse(17, 0);
+    n.rows = a.rows;
+    n.arcs = a.rows + a.sets;
+    n.places = a.sets + 1;
+    for (int i = 0; i < a.rows; i++) n.tail[i] = a.low[i], n.head[i] = a.high[i] + 1;
+    for (int k = 0; k < a.sets; k++) n.tail[a.rows + k] = k + 1, n.head[a.rows + k] = k;
+    int64_t had[ROWS] = {0}, load[ROWS];
+    for (int64_t at = 0; at < a.hyper; at += a.interval) {
+        choose_loads(&a, &n, at + a.interval, had, load);
+        fill_slots(&a, load, plan + at);
+        for (int i = 0; i < a.rows; i++) had[i] += load[i];
+    }
+    return 0;
+}

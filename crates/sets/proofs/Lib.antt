@@ -1,0 +1,6 @@
+pub mod Overlap
+pub mod Ascending
+pub mod List
+pub mod Transfer
+pub mod Loops
+pub mod Listed

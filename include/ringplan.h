@@ -1,0 +1,59 @@
+/* Collarspoke's two functions for C.
+ *
+ * Both take the bytes of a table file and check everything themselves: any bytes of any length may be handed in, also none.
+ * They need no heap, no C library and no initialisation, keep nothing between calls, and may be called from several threads at once
+ * as long as no two calls share a plan. docs/SPEED.md says how much stack they take.
+ *
+ * Both answer 256 × number + place. Number 0 says admitted, or done. Any other is a refusal, numbered below; its place is the row or the
+ * set concerned, counted from 0, or 0 where the refusal has no place of its own. A refusal leaves the plan as it was. */
+#ifndef RINGPLAN_H
+#define RINGPLAN_H
+
+#include <stddef.h>
+#include <stdint.h>
+
+#ifdef __cplusplus
+extern "C" {
+#endif
+
+enum {
+    RING_DONE = 0,             /* admitted, or done */
+    RING_SHORT_FILE = 1,       /* the file has under 7 bytes */
+    RING_WRONG_MARK = 2,       /* it does not begin with "RBT" */
+    RING_WRONG_VERSION = 3,    /* its version is not 1 */
+    RING_WRONG_ELEMENTS = 4,   /* the ring has not 2 to 32 elements */
+    RING_WRONG_ROWS = 5,       /* the table has not 1 to 64 rows */
+    RING_WRONG_LENGTH = 6,     /* the file's length is not 7 + 6 × rows */
+    RING_WRONG_ENDS = 7,       /* an end is no element of the ring, or both are equal; place: the row */
+    RING_WRONG_PERIOD = 8,     /* the period is not 1 to 4096 slots; place: the row */
+    RING_WRONG_COST = 9,       /* the cost is 0 or above the period; place: the row */
+    RING_NO_CUT = 10,          /* every element has some row through it */
+    RING_LONG_HYPERPERIOD = 11, /* the least common multiple of the periods is above 4096 slots */
+    RING_TIED_SETS = 12,       /* two overlap sets end alike; proved never to be given */
+    RING_LIGHT_ROW = 13,       /* periods differ, and the row's cost is too small for it; place: the row */
+    RING_OVER_BOUND = 14,      /* an overlap set asks for more than the bus can carry; place: the set */
+    RING_OFF_STATE = 15,       /* not given by these two functions */
+    RING_HAS_FINISHED = 16,    /* not given by these two functions */
+    RING_SHORT_OUTPUT = 17,    /* the plan has fewer words than the hyperperiod has slots */
+};
+
+/* number and place of an answer */
+#define RING_NUMBER(answer) ((unsigned)((answer) / 256))
+#define RING_PLACE(answer) ((unsigned)((answer) % 256))
+
+/* the longest table file, and the longest plan */
+enum { RING_FILE_BYTES = 391, RING_PLAN_SLOTS = 4096 };
+
+/* Whether the bus can carry the table. Gives 0 to 14. */
+uint32_t ring_verdict(const uint8_t *file, size_t file_bytes);
+
+/* The whole plan of an admitted table: word s of `plan` has bit i set if row i moves in slot s. It fills as many words as the hyperperiod
+ * has slots and leaves those past them alone; 4096 words are always enough. Repeated from slot 0 on, it serves for ever.
+ * Gives 0 to 14, and 17. */
+uint32_t ring_plan(const uint8_t *file, size_t file_bytes, uint64_t *plan, size_t plan_words);
+
+#ifdef __cplusplus
+}
+#endif
+
+#endif

@@ -1,0 +1,221 @@
+/* Compares the library with the oracle over the C boundary, on random tables: good, at the bound, just past it and damaged.
+ *
+ *     compare TABLES SEED
+ *
+ * Exits with 0 only if every answer agreed, every lent buffer was left as it should be, every plan kept its promises and every refusal
+ * that the two functions can give was seen. */
+#include "oracle.h"
+#include "ringplan.h"
+
+#include <stdio.h>
+#include <stdlib.h>
+#include <string.h>
+
+enum { FILE_ROOM = 600, GUARD = 64, FEW_ROWS = 12 };
+
+static uint64_t state;
+
+static unsigned below(unsigned n) {
+    state ^= state << 13;
+    state ^= state >> 7;
+    state ^= state << 17;
+    return (unsigned)((state >> 11) % n);
+}
+
+static unsigned between(unsigned low, unsigned high) {
+    return low + below(high - low + 1);
+}
+
+/* ---- tables */
+
+struct file {
+    uint8_t byte[FILE_ROOM];
+    size_t length;
+};
+
+static void put16(uint8_t *at, unsigned x) {
+    at[0] = (uint8_t)(x & 255);
+    at[1] = (uint8_t)(x >> 8);
+}
+
+static void encode(const struct table *t, struct file *f) {
+    memcpy(f->byte, "RBT\1\0", 5);
+    f->byte[5] = (uint8_t)t->elements;
+    f->byte[6] = (uint8_t)t->rows;
+    for (unsigned i = 0; i < t->rows; i++) {
+        uint8_t *r = f->byte + 7 + 6 * i;
+        put16(r, t->row[i].cost);
+        put16(r + 2, t->row[i].period);
+        r[4] = (uint8_t)t->row[i].first;
+        r[5] = (uint8_t)t->row[i].second;
+    }
+    f->length = 7 + 6 * (size_t)t->rows;
+}
+
+/* Rows round a ring that leave one element clear more often than not; periods are L times divisors of a small number. */
+static void random_table(struct table *t) {
+    static const unsigned small[] = {1, 2, 3, 4, 5, 6, 8, 10, 12};
+    memset(t, 0, sizeof *t);
+    t->elements = between(2, below(3) ? 8 : MAX_ELEMENTS);
+    t->rows = between(1, below(4) ? 10 : MAX_ROWS);
+    unsigned cut = between(1, t->elements), any_route = below(12) == 0;
+    unsigned most = small[below(sizeof small / sizeof *small)];
+    unsigned interval = between(1, below(3) ? 24 : MAX_SLOTS / most);
+    unsigned equal = below(4) == 0;
+    unsigned span = between(1, t->elements);
+    for (unsigned i = 0; i < t->rows; i++) {
+        struct row *r = &t->row[i];
+        unsigned divisor;
+        do divisor = between(1, most);
+        while (most % divisor);
+        r->period = interval * (equal ? most : divisor);
+        unsigned least = (r->period + interval - 1) / interval;
+        r->cost = between(below(40) ? least : 1, below(3) ? least : r->period);
+        if (r->cost > r->period) r->cost = r->period;
+        if (any_route) {
+            r->first = between(1, t->elements);
+            do r->second = between(1, t->elements);
+            while (r->second == r->first);
+        } else {
+            /* on the line from the cut: places 0 to M, place M being the cut again */
+            unsigned a = below(t->elements), length = between(1, span);
+            unsigned b = a + length > t->elements ? t->elements : a + length;
+            r->first = (cut - 1 + a) % t->elements + 1;
+            r->second = (cut - 1 + b) % t->elements + 1;
+            if (r->first == r->second) r->second = r->first % t->elements + 1;
+        }
+    }
+}
+
+/* Lowers or raises costs one by one until the table stands at the last step before its verdict changes, or just past it. */
+static void to_the_bound(struct table *t, int past) {
+    struct file f;
+    struct verdict v;
+    for (unsigned turn = 0; turn < 400; turn++) {
+        encode(t, &f);
+        oracle_verdict(f.byte, f.length, &v);
+        if (v.number != 14) break;
+        struct row *r = &t->row[below(t->rows)];
+        if (r->cost > 1) r->cost--;
+    }
+    if (v.number) return;
+    for (unsigned turn = 0; turn < 200; turn++) {
+        struct table more = *t;
+        struct row *r = &more.row[below(t->rows)];
+        if (r->cost == r->period) continue;
+        r->cost++;
+        encode(&more, &f);
+        oracle_verdict(f.byte, f.length, &v);
+        if (v.number == 0) *t = more;
+        else if (past) {
+            *t = more;
+            return;
+        }
+    }
+}
+
+static void damage(struct file *f) {
+    switch (below(9)) {
+    case 0: f->length = below((unsigned)f->length + 1); break;
+    case 1: f->length += between(1, 8); break;
+    case 2: f->byte[below(3)] ^= (uint8_t)between(1, 255); break;
+    case 3: f->byte[3 + below(2)] ^= (uint8_t)between(1, 255); break;
+    case 4: f->byte[5] = (uint8_t)below(256); break;
+    case 5: f->byte[6] = (uint8_t)below(256); break;
+    case 6: f->byte[7 + below((unsigned)f->length - 7)] = below(2) ? 255 : 0; break;
+    case 7: f->byte[7 + below((unsigned)f->length - 7)] = (uint8_t)below(256); break;
+    default: memset(f->byte + 7, below(2) ? 255 : 0, f->length - 7); break;
+    }
+}
+
+/* ---- one comparison */
+
+static unsigned seen[32];
+static unsigned long admitted, slots, exact;
+
+static void fail(const struct file *f, const char *what) {
+    printf("compare: %s; the table's bytes:\n", what);
+    for (size_t i = 0; i < f->length; i++) printf("%02x%s", f->byte[i], (i + 1) % 32 ? " " : "\n");
+    printf("\n");
+    exit(1);
+}
+
+static uint64_t lent[GUARD + MAX_SLOTS + GUARD], kept[GUARD + MAX_SLOTS + GUARD];
+
+static void fill_lent(void) {
+    for (size_t i = 0; i < sizeof lent / sizeof *lent; i++) lent[i] = kept[i] = ((uint64_t)below(1u << 31) << 32) | below(1u << 31);
+}
+
+/* the lent slots from `from` on, and all guards, are as they were */
+static int unchanged_from(unsigned from) {
+    return !memcmp(lent, kept, GUARD * sizeof *lent)
+        && !memcmp(lent + GUARD + from, kept + GUARD + from, (MAX_SLOTS - from + GUARD) * sizeof *lent);
+}
+
+static void compare(const struct file *given) {
+    struct verdict v;
+    struct file f = *given;
+    oracle_verdict(f.byte, f.length, &v);
+    uint32_t answer = ring_verdict(f.byte, f.length);
+    if (answer != 256 * v.number + v.place) {
+        printf("library %u, %u; oracle %u, %u\n", answer / 256, answer % 256, v.number, v.place);
+        fail(given, "verdicts differ");
+    }
+    seen[v.number]++;
+    fill_lent();
+    unsigned room = v.number ? below(MAX_SLOTS + 1) : v.hyper;
+    if (v.number == 0 && below(4) == 0) {
+        room = below(v.hyper);
+        if (ring_plan(f.byte, f.length, lent + GUARD, room) != 256 * RING_SHORT_OUTPUT) fail(given, "a short plan was not refused with 17");
+        if (!unchanged_from(0)) fail(given, "a refusal for room changed lent memory");
+        seen[RING_SHORT_OUTPUT]++;
+        room = between(v.hyper, MAX_SLOTS);
+    }
+    answer = ring_plan(f.byte, f.length, lent + GUARD, room);
+    if (answer != 256 * v.number + v.place) fail(given, "plan and verdict differ");
+    if (v.number) {
+        if (!unchanged_from(0)) fail(given, "a refusal changed lent memory");
+        return;
+    }
+    if (!unchanged_from(v.hyper)) fail(given, "memory past the plan changed");
+    const char *why = "";
+    if (!oracle_keeps(&v, lent + GUARD, &why)) fail(given, why);
+    admitted++;
+    slots += v.hyper;
+    if (v.table.rows <= FEW_ROWS) {
+        uint64_t had[MAX_ROWS] = {0}, load[MAX_ROWS], word[MAX_SLOTS];
+        for (unsigned k = 0; k < v.hyper / v.interval; k++) {
+            if (!oracle_loads(&v, k, had, load)) fail(given, "no loads qualify");
+            oracle_words(&v, load, word);
+            if (memcmp(word, lent + GUARD + k * v.interval, v.interval * sizeof *word)) fail(given, "loads are not the greatest in row order");
+            for (unsigned i = 0; i < v.table.rows; i++) had[i] += load[i];
+        }
+        exact++;
+    }
+    if (memcmp(&f, given, sizeof f)) fail(given, "the file's own bytes changed");
+}
+
+int main(int argc, char **argv) {
+    unsigned long tables = argc > 1 ? strtoul(argv[1], NULL, 10) : 20000;
+    state = 0x9e3779b97f4a7c15u ^ (argc > 2 ? strtoull(argv[2], NULL, 10) * 0x2545f4914f6cdd1du : 1);
+    for (unsigned long n = 0; n < tables; n++) {
+        struct table t;
+        struct file f = {.length = 0};
+        random_table(&t);
+        if (below(3) == 0) to_the_bound(&t, (int)below(2));
+        encode(&t, &f);
+        if (below(4) == 0) damage(&f);
+        compare(&f);
+    }
+    printf("%lu tables, %lu admitted, %lu of them with their exact words, %lu slots of plan\n", tables, admitted, exact, slots);
+    printf("refusals:");
+    for (unsigned n = 1; n < 18; n++) printf(" %u:%u", n, seen[n]);
+    printf("\n");
+    /* 12 is never given, and 15 and 16 are the planner's */
+    for (unsigned n = 1; n < 18; n++)
+        if (!seen[n] && n != 12 && n != 15 && n != 16) {
+            printf("compare: refusal %u was never seen\n", n);
+            return 1;
+        }
+    return 0;
+}

@@ -1,0 +1,275 @@
+#include "oracle.h"
+
+#include <string.h>
+
+/* ---- the bus */
+
+/* The segments that a row uses, bit s for segment s: from its first element on until its second is reached. */
+static uint64_t segments(const struct table *t, unsigned i) {
+    uint64_t used = 0;
+    for (unsigned e = t->row[i].first; e != t->row[i].second; e = e == t->elements ? 1 : e + 1) used |= (uint64_t)1 << e;
+    return used;
+}
+
+int oracle_overlap(const struct table *t, unsigned i, unsigned j) {
+    return (segments(t, i) & segments(t, j)) != 0;
+}
+
+static int goes_through(const struct table *t, unsigned i, unsigned element) {
+    unsigned e = t->row[i].first;
+    for (;;) {
+        e = e == t->elements ? 1 : e + 1;
+        if (e == t->row[i].second) return 0;
+        if (e == element) return 1;
+    }
+}
+
+static unsigned on_line(const struct table *t, unsigned cut, unsigned e) {
+    unsigned place = 1;
+    for (unsigned at = cut; at != e; at = at == t->elements ? 1 : at + 1) place++;
+    return place;
+}
+
+static unsigned line_first(const struct verdict *v, unsigned i) {
+    return on_line(&v->table, v->cut, v->table.row[i].first);
+}
+
+static unsigned line_second(const struct verdict *v, unsigned i) {
+    if (v->table.row[i].second == v->cut) return v->table.elements + 1;
+    return on_line(&v->table, v->cut, v->table.row[i].second);
+}
+
+/* ---- whole numbers */
+
+static uint64_t gcd(uint64_t a, uint64_t b) {
+    while (a != b) {
+        if (a > b) a -= b;
+        else b -= a;
+    }
+    return a;
+}
+
+static int has(uint64_t set, unsigned i) {
+    return (int)(set >> i & 1);
+}
+
+/* ---- overlap sets: every largest set of rows that all overlap one another, by extending sets row by row */
+
+struct search {
+    const struct table *table;
+    uint64_t near[MAX_ROWS]; /* the other rows that overlap each */
+    struct verdict *v;
+};
+
+static void extend(struct search *s, uint64_t chosen, uint64_t open, uint64_t closed) {
+    if (!open && !closed) {
+        if (s->v->sets < MAX_SETS) s->v->set[s->v->sets++] = chosen;
+        return;
+    }
+    /* a row next to as many open ones as there can be; only rows not next to it need be tried */
+    uint64_t best = 0;
+    int most = -1;
+    for (unsigned i = 0; i < s->table->rows; i++) {
+        if (!has(open | closed, i)) continue;
+        int n = __builtin_popcountll(open & s->near[i]);
+        if (n > most) most = n, best = s->near[i];
+    }
+    for (unsigned i = 0; i < s->table->rows; i++) {
+        if (!has(open & ~best, i)) continue;
+        extend(s, chosen | (uint64_t)1 << i, open & s->near[i], closed & s->near[i]);
+        open &= ~((uint64_t)1 << i);
+        closed |= (uint64_t)1 << i;
+    }
+}
+
+static unsigned least_second(const struct verdict *v, uint64_t set) {
+    unsigned least = ~0u;
+    for (unsigned i = 0; i < v->table.rows; i++)
+        if (has(set, i) && line_second(v, i) < least) least = line_second(v, i);
+    return least;
+}
+
+/* Lists the sets by ascending least second end; 0 where two of them tie. */
+static int list_sets(struct verdict *v) {
+    struct search s = {.table = &v->table, .v = v};
+    uint64_t all = 0;
+    for (unsigned i = 0; i < v->table.rows; i++) {
+        all |= (uint64_t)1 << i;
+        for (unsigned j = 0; j < v->table.rows; j++)
+            if (i != j && oracle_overlap(&v->table, i, j)) s.near[i] |= (uint64_t)1 << j;
+    }
+    v->sets = 0;
+    extend(&s, 0, all, 0);
+    for (unsigned i = 1; i < v->sets; i++)
+        for (unsigned j = i; j > 0 && least_second(v, v->set[j]) < least_second(v, v->set[j - 1]); j--) {
+            uint64_t w = v->set[j];
+            v->set[j] = v->set[j - 1];
+            v->set[j - 1] = w;
+        }
+    for (unsigned i = 1; i < v->sets; i++)
+        if (least_second(v, v->set[i]) == least_second(v, v->set[i - 1])) return 0;
+    return 1;
+}
+
+/* ---- the verdict */
+
+static void refuse(struct verdict *v, unsigned number, unsigned place) {
+    memset(v, 0, sizeof *v);
+    v->number = number;
+    v->place = place;
+}
+
+static uint64_t load_of(const struct verdict *v, uint64_t set) {
+    uint64_t sum = 0;
+    for (unsigned i = 0; i < v->table.rows; i++)
+        if (has(set, i)) sum += (uint64_t)(v->hyper / v->table.row[i].period) * v->table.row[i].cost;
+    return sum;
+}
+
+void oracle_verdict(const uint8_t *f, size_t length, struct verdict *v) {
+    memset(v, 0, sizeof *v);
+    struct table *t = &v->table;
+    if (length < 7) { refuse(v, 1, 0); return; }
+    if (f[0] != 0x52 || f[1] != 0x42 || f[2] != 0x54) { refuse(v, 2, 0); return; }
+    if (f[3] != 1 || f[4] != 0) { refuse(v, 3, 0); return; }
+    t->elements = f[5];
+    t->rows = f[6];
+    if (t->elements < 2 || t->elements > MAX_ELEMENTS) { refuse(v, 4, 0); return; }
+    if (t->rows < 1 || t->rows > MAX_ROWS) { refuse(v, 5, 0); return; }
+    if (length != 7 + 6 * (size_t)t->rows) { refuse(v, 6, 0); return; }
+    for (unsigned i = 0; i < t->rows; i++) {
+        const uint8_t *r = f + 7 + 6 * i;
+        struct row *w = &t->row[i];
+        w->cost = r[0] + 256u * r[1];
+        w->period = r[2] + 256u * r[3];
+        w->first = r[4];
+        w->second = r[5];
+        if (w->first < 1 || w->first > t->elements || w->second < 1 || w->second > t->elements || w->first == w->second) {
+            refuse(v, 7, i);
+            return;
+        }
+        if (w->period < 1 || w->period > MAX_SLOTS) { refuse(v, 8, i); return; }
+        if (w->cost < 1 || w->cost > w->period) { refuse(v, 9, i); return; }
+    }
+    for (unsigned e = t->elements; e >= 1; e--) {
+        int clear = 1;
+        for (unsigned i = 0; i < t->rows; i++) clear &= !goes_through(t, i, e);
+        if (clear) v->cut = e;
+    }
+    if (!v->cut) { refuse(v, 10, 0); return; }
+    uint64_t h = 1, l = t->row[0].period;
+    int equal = 1;
+    for (unsigned i = 0; i < t->rows; i++) {
+        uint64_t p = t->row[i].period;
+        h = h / gcd(h, p) * p;
+        if (h > MAX_SLOTS) { refuse(v, 11, 0); return; }
+        l = gcd(l, p);
+        equal &= p == t->row[0].period;
+    }
+    v->hyper = (unsigned)h;
+    v->interval = (unsigned)l;
+    if (!list_sets(v)) { refuse(v, 12, 0); return; }
+    if (!equal)
+        for (unsigned i = 0; i < t->rows; i++)
+            if (t->row[i].cost * l < t->row[i].period) { refuse(v, 13, i); return; }
+    uint64_t largest = 0;
+    for (unsigned k = 0; k < v->sets; k++) {
+        uint64_t load = load_of(v, v->set[k]);
+        if (equal ? load > h : load * l > (l - 1) * h) { refuse(v, 14, k); return; }
+        if (load > largest) largest = load;
+    }
+    v->load = (unsigned)((1000 * largest + h - 1) / h);
+}
+
+/* ---- one interval */
+
+/* x / h rounded down is n, or rounded up is n; x may be below zero */
+static int rounds_to(int64_t x, int64_t h, int64_t n) {
+    return n * h > x - h && n * h < x + h;
+}
+
+static int64_t lag(const struct verdict *v, unsigned i, unsigned k, const uint64_t *had) {
+    const struct row *r = &v->table.row[i];
+    return (int64_t)(v->hyper / r->period) * r->cost * ((int64_t)(k + 1) * v->interval) - (int64_t)had[i] * v->hyper;
+}
+
+static int qualify(const struct verdict *v, unsigned k, const uint64_t *had, const uint64_t *load, unsigned decided) {
+    int64_t h = v->hyper;
+    for (unsigned s = 0; s < v->sets; s++) {
+        int64_t sum = 0, lags = 0, open = 0;
+        for (unsigned i = 0; i < v->table.rows; i++) {
+            if (!has(v->set[s], i)) continue;
+            lags += lag(v, i, k, had);
+            if (i < decided) sum += (int64_t)load[i];
+            else open = 1;
+        }
+        if (sum > v->interval) return 0;
+        if (!open && !rounds_to(lags, h, sum)) return 0;
+    }
+    return 1;
+}
+
+static int choose(const struct verdict *v, unsigned k, const uint64_t *had, uint64_t *load, unsigned i) {
+    if (i == v->table.rows) return 1;
+    int64_t h = v->hyper, y = lag(v, i, k, had), n = y / h + 1;
+    for (; n >= 0 && n * h > y - h; n--) {
+        if (!rounds_to(y, h, n)) continue;
+        load[i] = (uint64_t)n;
+        if (qualify(v, k, had, load, i + 1) && choose(v, k, had, load, i + 1)) return 1;
+    }
+    return 0;
+}
+
+int oracle_loads(const struct verdict *v, unsigned k, const uint64_t *had, uint64_t *load) {
+    return choose(v, k, had, load, 0);
+}
+
+void oracle_words(const struct verdict *v, const uint64_t *load, uint64_t *word) {
+    const struct table *t = &v->table;
+    memset(word, 0, v->interval * sizeof *word);
+    for (unsigned element = 1; element <= t->elements; element++)
+        for (unsigned i = 0; i < t->rows; i++) {
+            if (line_first(v, i) != element) continue;
+            uint64_t left = load[i];
+            for (unsigned s = 0; s < v->interval && left; s++) {
+                int free = 1;
+                for (unsigned j = 0; j < t->rows; j++)
+                    if (has(word[s], j) && oracle_overlap(t, i, j)) free = 0;
+                if (free) word[s] |= (uint64_t)1 << i, left--;
+            }
+        }
+}
+
+/* ---- the promises */
+
+int oracle_keeps(const struct verdict *v, const uint64_t *plan, const char **why) {
+    const struct table *t = &v->table;
+    unsigned h = v->hyper;
+    uint64_t had[MAX_ROWS] = {0};
+    for (unsigned s = 0; s < h; s++) {
+        if (t->rows < 64 && plan[s] >> t->rows) { *why = "a bit past the last row"; return 0; }
+        for (unsigned i = 0; i < t->rows; i++)
+            for (unsigned j = 0; j < i; j++)
+                if (has(plan[s], i) && has(plan[s], j) && oracle_overlap(t, i, j)) { *why = "overlapping rows in one slot"; return 0; }
+    }
+    for (unsigned k = 0; k < h / v->interval; k++) {
+        uint64_t load[MAX_ROWS] = {0}, word[MAX_SLOTS];
+        const uint64_t *part = plan + k * v->interval;
+        for (unsigned s = 0; s < v->interval; s++)
+            for (unsigned i = 0; i < t->rows; i++) load[i] += (uint64_t)has(part[s], i);
+        for (unsigned i = 0; i < t->rows; i++)
+            if (!rounds_to(lag(v, i, k, had), h, (int64_t)load[i])) { *why = "a row's share at an interval's end"; return 0; }
+        if (!qualify(v, k, had, load, t->rows)) { *why = "a set's share at an interval's end"; return 0; }
+        oracle_words(v, load, word);
+        if (memcmp(word, part, v->interval * sizeof *word)) { *why = "not the earliest free slots"; return 0; }
+        for (unsigned i = 0; i < t->rows; i++) had[i] += load[i];
+    }
+    /* with the plan repeated, every job of two hyperperiods */
+    for (unsigned i = 0; i < t->rows; i++)
+        for (unsigned arrival = 0; arrival < 2 * h; arrival += t->row[i].period) {
+            unsigned got = 0;
+            for (unsigned s = arrival; s < arrival + t->row[i].period; s++) got += (unsigned)has(plan[s % h], i);
+            if (got != t->row[i].cost) { *why = "a job's cost between arrival and deadline"; return 0; }
+        }
+    return 1;
+}

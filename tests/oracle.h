@@ -1,0 +1,44 @@
+/* An independent implementation of the ring bus rules, by definition and without a thought for speed.
+ * It shares no code and no algorithm with the library: overlap is by shared ring segments, overlap sets by a search for largest sets,
+ * loads by trying both roundings of every row. */
+#ifndef ORACLE_H
+#define ORACLE_H
+
+#include <stddef.h>
+#include <stdint.h>
+
+enum { MAX_ELEMENTS = 32, MAX_ROWS = 64, MAX_SLOTS = 4096, MAX_SETS = 4096 };
+
+struct row {
+    unsigned cost, period, first, second;
+};
+
+struct table {
+    unsigned elements, rows;
+    struct row row[MAX_ROWS];
+};
+
+struct verdict {
+    unsigned number, place;
+    /* when admitted */
+    unsigned cut, interval, hyper, load, sets;
+    uint64_t set[MAX_SETS];
+    struct table table;
+};
+
+/* The verdict on a file, with all that it finds on the way. */
+void oracle_verdict(const uint8_t *file, size_t length, struct verdict *v);
+
+/* Whether rows i and j of a table share a ring segment. */
+int oracle_overlap(const struct table *t, unsigned i, unsigned j);
+
+/* The loads of interval k that are greatest in row order, after `had` slots; 0 where none qualify. For few rows only. */
+int oracle_loads(const struct verdict *v, unsigned k, const uint64_t *had, uint64_t *load);
+
+/* The words of an interval for these loads. */
+void oracle_words(const struct verdict *v, const uint64_t *load, uint64_t *word);
+
+/* Whether a plan keeps every promise; `why` then says which is broken. */
+int oracle_keeps(const struct verdict *v, const uint64_t *plan, const char **why);
+
+#endif
