@@ -1,9 +1,9 @@
 -- Rounding: what a fraction a / b rounded down or up is, said by products alone.
 -- n is a / b rounded down or up just when a < (n + 1) × b and n × b < a + b.
 use mathlib.Core.Path.{_≡_, refl, sym}
-use mathlib.Core.Logic.{_↔_, _⊎_, inl, inr}
+use mathlib.Core.Logic.{_↔_, _⊎_, inl, inr, ⊎-elim}
 use Prim.Native.Nat.{ℕ, _+_, _-_, _*_, _≤_, _<_}
-use native.Mathlib.Decide.{decLe}
+use native.Mathlib.Decide.{decLe, ℕ-discrete}
 use native.Mathlib.Nat.{le-refl, div-mul-le-self, lt-div-mul-add, div-eq-of-lt-le, le-div-iff-mul-le, div-lt-iff-lt-mul, lt-of-not-le}
 use native.Mathlib.Nat.{mul-pos, mul-le-mul-right, mul-lt-mul-of-pos-right, lt-of-mul-lt-mul-right}
 use native.Mathlib.Omega.{arith}
@@ -112,3 +112,27 @@ down-whole m b pos = rounded-whole (down (m * b) b) m b pos (rounded-down (m * b
 
 pub up-whole : (m b : ℕ) → 0 < b → up (m * b) b ≡ m
 up-whole m b pos = rounded-whole (up (m * b) b) m b pos (rounded-up (m * b) b pos)
+
+-- it is decided whether n is a / b rounded down or up
+pub rounded-dec : (n a b : ℕ) → Dec (Rounded n a b)
+unfolding Rounded
+rounded-dec n a b = go (ℕ-discrete n (down a b)) (ℕ-discrete n (up a b))
+  where
+    go : Dec (n ≡ down a b) → Dec (n ≡ up a b) → Dec ((n ≡ down a b) ⊎ (n ≡ up a b))
+    go (yes e) d = yes (inl e)
+    go (no f) (yes e) = yes (inr e)
+    go (no f) (no g) = no (λ r. ⊎-elim f g r)
+
+pub rounded-stable : (n a b : ℕ) → ¬ ¬ Rounded n a b → Rounded n a b
+rounded-stable n a b h = go (rounded-dec n a b)
+  where
+    go : Dec (Rounded n a b) → Rounded n a b
+    go (yes r) = r
+    go (no f) = absurd (h f)
+
+-- a whole number more on both sides
+pub rounded-shift : (n m a b : ℕ) → 0 < b → Rounded (n + m) (a + n * b) b ↔ Rounded m a b
+rounded-shift n m a b pos = (
+  λ r. let z = rounded-is (a + n * b) b pos (n + m) r in rounded-of a b pos m (omega arith) (omega arith),
+  λ r. let z = rounded-is a b pos m r in rounded-of (a + n * b) b pos (n + m) (omega arith) (omega arith),
+)

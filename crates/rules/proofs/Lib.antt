@@ -1,1 +1,7 @@
 pub mod Answers
+pub mod Interval
+pub mod Tests
+pub mod Sets
+pub mod Verdict
+pub mod Steps
+pub mod Cases

@@ -2,6 +2,7 @@
 --
 --   Line               a line that the program prints, with its numbers; all decimal
 --   slots k ws         the lines of the words ws, from slot k on
+--   values t sets      the lines of cut, L, h and reported load
 --   Printed input ls   the program prints the lines ls for what stands on its standard input
 use mathlib.Core.Path.{_≡_}
 use mathlib.Core.Logic.{_≢_}
@@ -28,6 +29,10 @@ unfoldable pub slots : ℕ → List ℕ → List Line
 slots k [] = []
 slots k (w ∷ ws) = slot k w ∷ slots (k + 1) ws
 
+-- the lines between the verdict and the sets
+abbrev pub values : Table → List ℕ → List Line
+values t sets = cut (line.cut t) ∷ interval (shortest t) ∷ hyper (hyperperiod t) ∷ load (reported t sets) ∷ []
+
 -- It reads at most so many bytes: one more than the longest table file has.
 abbrev pub max-input : ℕ
 max-input = 392
@@ -38,6 +43,4 @@ pub data Printed (input : List ℕ) : List Line → Type 0 where
       → Printed input (verdict number place ∷ [])
   admitted : (t : Table) (sets plan : List ℕ) → t ≡ fileTable (take max-input input) → Answers (verdict-checks (take max-input input)) 0 0
       → line.Sets t sets → WholePlan t plan
-      → Printed input (
-      verdict 0 0 ∷ cut (line.cut t) ∷ interval (shortest t) ∷ hyper (hyperperiod t) ∷ load (reported t sets) ∷ (map set sets ++ slots 0 plan)
-      )
+      → Printed input (verdict 0 0 ∷ values t sets ++ map set sets ++ slots 0 plan)

@@ -1,4 +1,5 @@
--- Tables that have none of the faults 4, 5, 7, 8 and 9, and files that pass checks 1 to 9: what every call past the file's checks may count on.
+-- Tables that have none of the faults 4, 5, 7, 8 and 9, and files that pass checks 1 to 9: what every call past the file's checks may
+-- count on.
 --
 --   SoundRow t i       row i has two different ends, a period and a cost that the bus allows
 --   Sound t            so have the table's numbers and all its rows

@@ -1,0 +1,6 @@
+pub mod Clockwise
+pub mod Routes
+pub mod Rows
+pub mod Cut
+pub mod OnLine
+pub mod Laying

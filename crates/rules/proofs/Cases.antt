@@ -1,0 +1,123 @@
+-- Document 01's cases P1 to P10, proved. The definitions compute on the tables' numerals: numbers go by `refl`, relations by the tests of
+-- Sets, Verdict and Steps, which `tt` shows to hold.
+use mathlib.Core.Path.{_≡_, refl, sym, ap₂, _∙_, subst}
+use mathlib.Core.Logic.{_⊎_, _↔_, inl, inr, ⊎-elim}
+use mathlib.Core.List.{List, [], _∷_, _++_}
+use Prim.Native.Nat.{ℕ}
+use lib.Dec.{lit<}
+use Rattle.numbers.specs.Finite.{any, every, lowest, highest, only, sum, largest}
+use Rattle.numbers.specs.Word.{bit}
+use Rattle.numbers.specs.Divisors.{gcd, lcm, product}
+use Rattle.numbers.specs.Rounding.{Rounded}
+use Rattle.numbers.specs.Lists.{each}
+use Rattle.rules.specs.Bus.{steps, uses, through, overlap}
+use Rattle.rules.specs.TableFile.{bytes}
+use Rattle.rules.specs.Line.{clear, cut, onLine, lineFirst, lineSecond, Sets}
+use Rattle.rules.specs.Loads.{hyperperiod, shortest, start, end, intervals, rate, equalPeriods, light, over, reported}
+use Rattle.rules.specs.Interval.{before, hinders, free}
+use Rattle.rules.specs.Planner.{none, more, standing, WholePlan}
+use Rattle.rules.specs.Refusals.{header-checks, row-checks, file-checks, line-checks, bound-checks, verdict-checks}
+use Rattle.rules.specs.Cases.{case-A, case-B, case-B-with, equal-with, round, Cases}
+use Rattle.rules.proofs.Sets.{sets-only, sets-by}
+use Rattle.rules.proofs.Verdict.{verdict-by}
+use Rattle.rules.proofs.Steps.{Outcome, Outcomes, moved-on, outcomes-by, step-is, step-of, run-more, run-first, standing-at}
+
+-- All that computes below: an `unfolding` line that names it opens all that its own line names.
+computing : Unit {0}
+unfolding any every lowest highest only sum bit gcd lcm product Rounded each steps uses through overlap bytes clear cut onLine lineFirst
+    lineSecond hyperperiod shortest start end intervals rate equalPeriods light over largest reported before hinders free standing
+    header-checks row-checks file-checks line-checks bound-checks verdict-checks
+computing = tt
+
+-- ---- the lists of sets
+
+sets-A : Sets case-A (3 ∷ 6 ∷ [])
+unfolding computing
+sets-A = sets-by case-A (3 ∷ 6 ∷ []) tt
+
+-- whatever the second cost
+sets-B : (cost : ℕ) → Sets (case-B-with cost) (3 ∷ [])
+unfolding computing
+sets-B cost = sets-by (case-B-with cost) (3 ∷ []) tt
+
+-- ---- the outcomes of each step: loads, and words
+
+-- at first the rows have had no slots
+abbrev none-had : ℕ → ℕ
+none-had i = 0
+
+-- case A has one interval
+abbrev whole : Outcome
+whole = (2 ∷ 1 ∷ 2 ∷ [], 5 ∷ 5 ∷ 2 ∷ 0 ∷ [])
+
+step-A : Outcomes case-A 0 none-had (whole ∷ [])
+unfolding computing
+step-A = outcomes-by case-A (3 ∷ 6 ∷ []) sets-A 0 none-had (whole ∷ []) tt
+
+-- Case B has two. In the first, row 1 has one slot or two, and in the second the other number.
+abbrev one : Outcome
+one = (1 ∷ 1 ∷ [], 1 ∷ 2 ∷ 0 ∷ 0 ∷ [])
+
+abbrev two : Outcome
+two = (1 ∷ 2 ∷ [], 1 ∷ 2 ∷ 2 ∷ 0 ∷ [])
+
+step-B : Outcomes case-B 0 none-had (one ∷ two ∷ [])
+unfolding computing
+step-B = outcomes-by case-B (3 ∷ []) (sets-B 3) 0 none-had (one ∷ two ∷ []) tt
+
+after-one : Outcomes case-B 1 (moved-on none-had (one .0)) (two ∷ [])
+unfolding computing
+after-one = outcomes-by case-B (3 ∷ []) (sets-B 3) 1 (moved-on none-had (one .0)) (two ∷ []) tt
+
+after-two : Outcomes case-B 1 (moved-on none-had (two .0)) (one ∷ [])
+unfolding computing
+after-two = outcomes-by case-B (3 ∷ []) (sets-B 3) 1 (moved-on none-had (two .0)) (one ∷ []) tt
+
+-- ---- whole plans
+
+plan-A : (ws : List ℕ) → WholePlan case-A ws ↔ (ws ≡ 5 ∷ 5 ∷ 2 ∷ 0 ∷ [])
+unfolding computing
+plan-A ws = (
+  (λ w. ⊎-elim (λ a. a .0) absurd (run-first step-A (w .1))),
+  (λ e. subst (WholePlan case-A) (sym e) (_, more none (step-of (step-A .each .0)))),
+)
+
+plans-B : (ws : List ℕ) → WholePlan case-B ws
+    ↔ ((ws ≡ 1 ∷ 2 ∷ 0 ∷ 0 ∷ 1 ∷ 2 ∷ 2 ∷ 0 ∷ []) ⊎ (ws ≡ 1 ∷ 2 ∷ 2 ∷ 0 ∷ 1 ∷ 2 ∷ 0 ∷ 0 ∷ []))
+unfolding computing
+plans-B ws = (
+  (λ w. let m = run-more (w .1) in
+      ⊎-elim
+      (λ a. ⊎-elim (λ b. inl (m .5 ∙ ap₂ _++_ (a .0) (b .0))) absurd (step-is after-one (a .1) (m .4)))
+      (λ r. ⊎-elim (λ a. ⊎-elim (λ b. inr (m .5 ∙ ap₂ _++_ (a .0) (b .0))) absurd (step-is after-two (a .1) (m .4))) absurd r)
+      (run-first step-B (m .3))),
+  (λ e. ⊎-elim
+      (λ q. subst (WholePlan case-B) (sym q) (_, more (more none (step-of (step-B .each .0))) (step-of (after-one .each .0))))
+      (λ q. subst (WholePlan case-B) (sym q) (_, more (more none (step-of (step-B .each .1 .0))) (step-of (after-two .each .0))))
+      e),
+)
+
+pub cases : Cases
+unfolding computing
+cases = record {
+  p1-bytes = refl;
+  p1-cut = refl;
+  p1-sets = λ ws. ((λ A. sets-only (lit< tt) A sets-A), (λ e. subst (Sets case-A) (sym e) sets-A));
+  p1-words = plan-A;
+  p2-interval = refl;
+  p2-hyper = refl;
+  p2-load = λ ws A. rw (sets-only (lit< tt) A (sets-B 3));
+  p2-plans = plans-B;
+  p3 = λ ws q s. ⊎-elim
+      (λ a. inl (standing-at case-B (a .1) 1 (lit< tt)))
+      (λ r. ⊎-elim (λ a. inr (standing-at case-B (a .1) 1 (lit< tt))) absurd r)
+      (step-is step-B (refl, λ i l. refl) s);
+  p4-load = λ ws A. rw (sets-only (lit< tt) A (sets-B 4));
+  p4 = verdict-by (bytes (case-B-with 4)) (3 ∷ []) 0 0 tt tt refl;
+  p5 = verdict-by (bytes (case-B-with 5)) (3 ∷ []) 14 0 tt tt refl;
+  p6 = verdict-by (bytes (case-B-with 1)) (3 ∷ []) 13 1 tt tt refl;
+  p7 = verdict-by (bytes (case-B-with 2)) (3 ∷ []) 0 0 tt tt refl;
+  p8 = verdict-by (bytes (equal-with 1)) (3 ∷ []) 0 0 tt tt refl;
+  p9 = verdict-by (bytes (equal-with 2)) (3 ∷ []) 14 0 tt tt refl;
+  p10 = verdict-by (bytes round) (7 ∷ []) 10 0 tt tt refl;
+}

@@ -1,0 +1,139 @@
+-- The verdict's answer by tests that compute, from the file and the list of its table's overlap sets.
+--
+--   Tests cs           a test for each check of cs
+--   answer ts          number and place of the first check whose test holds, or 0 and 0
+--   verdict-tests      the tests of the verdict's checks
+use mathlib.Core.Path.{_≡_, refl, subst}
+use mathlib.Core.Logic.{inl, inr}
+use mathlib.Core.List.{List, [], _∷_, _++_}
+use mathlib.Core.Bool.{Bool, true, false, cond}
+use Prim.Native.Nat.{ℕ, zero, suc, _+_, _-_, _*_, _≤_, _<_}
+use native.Mathlib.Omega.{arith}
+use lib.Dec.{T, ltb, lit<}
+use lib.ListN.{length}
+use Rattle.numbers.specs.Word.{bit}
+use Rattle.numbers.specs.Lists.{at, each}
+use Rattle.rules.specs.Bounds.{max-elements, max-rows, max-slots}
+use Rattle.rules.specs.Bus.{Table, through}
+use Rattle.rules.specs.TableFile.{table-mark, table-version, headerSize, rowSize, mark, version, fileTable}
+use Rattle.rules.specs.Line.{Sets}
+use Rattle.rules.specs.Loads.{hyperperiod, light, over}
+use Rattle.rules.specs.Refusals.{
+  Check,
+  Answers,
+  no-cut,
+  tied-sets,
+  over-bound,
+  row-checks,
+  header-checks,
+  file-checks,
+  line-checks,
+  bound-checks,
+  verdict-checks,
+}
+use Rattle.rules.proofs.Tests.{Test, holds-test, lt-test, le-test, eq-test, list-test}
+use Rattle.rules.proofs.Tests.{as-test, not-test, and-test, or-test, every-test, any-test}
+use Rattle.rules.proofs.Sets.{sets-only, ends-differ, sets-test, sets-by}
+
+infixr 10 _then_
+pub data Tests : List Check → Type 1 where
+  none : Tests []
+  _then_ : {c : Check} {cs : List Check} → Test (c .applies) → Tests cs → Tests (c ∷ cs)
+
+abbrev pub answer : {cs : List Check} → Tests cs → ℕ × ℕ
+answer none = (0, 0)
+answer (_then_ {c} {cs} t ts) = let later = answer ts in cond (t .test) (c .number, c .place) later
+
+pub answer-is : {cs : List Check} (ts : Tests cs) → Answers cs (answer ts .0) (answer ts .1)
+unfolding Answers
+answer-is none = (refl, refl)
+answer-is (_then_ {c} {cs} t ts) = go (t .test) (t .is) (t .of) (answer ts) (answer-is ts)
+  where
+    go : (b : Bool) → (T b → c .applies) → (c .applies → T b) → (r : ℕ × ℕ) → Answers cs (r .0) (r .1)
+        → Answers (c ∷ cs) (cond b (c .number, c .place) r .0) (cond b (c .number, c .place) r .1)
+    go true is of r a = inl (is tt, refl, refl)
+    go false is of r a = inr (of, a)
+
+-- ---- lists of checks that are joined
+
+abbrev pub tests-join : {cs ds : List Check} → Tests cs → Tests ds → Tests (cs ++ ds)
+tests-join none us = us
+tests-join (t then ts) us = t then tests-join ts us
+
+abbrev pub tests-each : (n : ℕ) {f : ℕ → List Check} → ((i : ℕ) → Tests (f i)) → Tests (each n f)
+unfolding each
+tests-each zero ts = none
+tests-each (suc n) ts = tests-join (tests-each n ts) (ts n)
+
+-- ---- the checks
+
+-- x is one of a, a + 1, .., b
+abbrev pub in-test : (x a b : ℕ) → Test ((a ≤ x) × (x ≤ b))
+in-test x a b = and-test (le-test a x) (le-test x b)
+
+abbrev pub header-tests : (f : List ℕ) → Tests (header-checks f)
+unfolding header-checks
+header-tests f =
+    lt-test (length f) headerSize
+    then not-test (list-test (mark f) table-mark)
+    then not-test (eq-test (version f) table-version)
+    then not-test (in-test (fileTable f .elements) 2 max-elements)
+    then not-test (in-test (fileTable f .rows) 1 max-rows)
+    then not-test (eq-test (length f) (headerSize + rowSize * fileTable f .rows))
+    then none
+
+module _ (t : Table) where
+  abbrev pub row-tests : Tests (row-checks t)
+  unfolding row-checks
+  row-tests =
+      tests-each (t .rows) (λ i.
+      or-test (not-test (in-test (t .first i) 1 (t .elements)))
+      (or-test (not-test (in-test (t .second i) 1 (t .elements))) (eq-test (t .first i) (t .second i)))
+      then not-test (in-test (t .period i) 1 max-slots)
+      then not-test (in-test (t .cost i) 1 (t .period i))
+      then none)
+
+  -- elements are numbered from 1
+  abbrev pub no-cut-test : Test (no-cut t .applies)
+  no-cut-test =
+      as-test (every-test (t .elements) (λ e. any-test (t .rows) (λ i. holds-test (through t i (suc e)))))
+      (λ h e b. let q : suc (e - 1) ≡ e = omega arith in
+      subst (λ (e : ℕ). (i : ℕ) × (i < t .rows) × T (through t i e)) q (h (e - 1) (omega arith)))
+      (λ h e l. h (suc e) (omega arith, l))
+
+  module _ (pos : 0 < t .rows) (ws : List ℕ) (A : Sets t ws) where
+    abbrev pub tied-test : Test (tied-sets t .applies)
+    tied-test = record {
+      test = false;
+      is = λ h. absurd h;
+      of = λ x. x .different (ends-differ A (x .one) (x .other) (x .end) (x .one-set) (x .other-set) (x .one-end) (x .other-end));
+    }
+
+    abbrev pub over-test : (k : ℕ) → Test (over-bound t k .applies)
+    over-test k =
+        as-test (and-test (lt-test k (length ws)) (holds-test (over t (bit (at ws k)))))
+        (λ h. (ws, A, h .0, h .1))
+        (λ h. let e : h .0 ≡ ws = sets-only pos (h .1) A in
+        subst (λ (vs : List ℕ). (k < length vs) × T (over t (bit (at vs k)))) e (h .2, h .3))
+
+    abbrev pub line-tests : Tests (line-checks t)
+    unfolding line-checks
+    line-tests = no-cut-test then lt-test max-slots (hyperperiod t) then tied-test then none
+
+    abbrev pub bound-tests : Tests (bound-checks t)
+    unfolding bound-checks
+    bound-tests =
+        tests-join (tests-each (t .rows) (λ i. holds-test (light t i) then none)) (tests-each (t .rows) (λ k. over-test k then none))
+
+abbrev pub verdict-tests : (f ws : List ℕ) → 0 < fileTable f .rows → Sets (fileTable f) ws → Tests (verdict-checks f)
+unfolding verdict-checks file-checks
+verdict-tests f ws pos A =
+    tests-join (tests-join (tests-join (header-tests f) (row-tests (fileTable f))) (line-tests (fileTable f) pos ws A))
+    (bound-tests (fileTable f) pos ws A)
+
+-- The verdict by tests alone: ws is the list of the table's overlap sets, and the first check whose test holds gives number n and place p.
+pub verdict-by : (f ws : List ℕ) (n p : ℕ) (some : T (ltb 0 (fileTable f .rows))) (listed : T (sets-test (fileTable f) ws .test))
+    → answer (verdict-tests f ws (lit< some) (sets-by (fileTable f) ws listed)) ≡ (n, p) → Answers (verdict-checks f) n p
+verdict-by f ws n p some listed e =
+    subst (λ (r : ℕ × ℕ). Answers (verdict-checks f) (r .0) (r .1)) e
+    (answer-is (verdict-tests f ws (lit< some) (sets-by (fileTable f) ws listed)))
