@@ -6,3 +6,4 @@ pub mod Pairs
 pub mod Divisors
 pub mod Signed
 pub mod Lists
+pub mod Tests

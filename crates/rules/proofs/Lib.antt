@@ -1,6 +1,5 @@
 pub mod Answers
 pub mod Interval
-pub mod Tests
 pub mod Sets
 pub mod Verdict
 pub mod Steps

@@ -25,7 +25,7 @@ use Rattle.numbers.proofs.Finite.{any-of, least}
 use Rattle.numbers.proofs.Word.{word, bit-word, bit-lt, lt-of-bits}
 use Rattle.rules.specs.Bus.{Table, overlap}
 use Rattle.rules.specs.Line.{OverlapSet, Least, SetList, Sets, lineSecond}
-use Rattle.rules.proofs.Tests.{Test, holds-test, lt-test, eq-test, as-test, and-test, three-test, if-test, every-test, any-test}
+use Rattle.numbers.proofs.Tests.{Test, holds-test, lt-test, eq-test, as-test, and-test, three-test, if-test, every-test, any-test}
 
 -- ---- a set of rows
 

@@ -28,7 +28,7 @@ use Rattle.rules.specs.Line.{OverlapSet, Sets, lineFirst}
 use Rattle.rules.specs.Loads.{hyperperiod, start, end, share}
 use Rattle.rules.specs.Interval.{Qualify, free, moves, SlotWords}
 use Rattle.rules.specs.Planner.{Stage, due, Planner, fresh, reached, standing, next, Step, Run, none, more}
-use Rattle.rules.proofs.Tests.{
+use Rattle.numbers.proofs.Tests.{
   Test,
   lt-test,
   le-test,

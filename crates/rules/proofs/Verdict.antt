@@ -31,8 +31,8 @@ use Rattle.rules.specs.Refusals.{
   bound-checks,
   verdict-checks,
 }
-use Rattle.rules.proofs.Tests.{Test, holds-test, lt-test, le-test, eq-test, list-test}
-use Rattle.rules.proofs.Tests.{as-test, not-test, and-test, or-test, every-test, any-test}
+use Rattle.numbers.proofs.Tests.{Test, holds-test, lt-test, le-test, eq-test, list-test}
+use Rattle.numbers.proofs.Tests.{as-test, not-test, and-test, or-test, every-test, any-test}
 use Rattle.rules.proofs.Sets.{sets-only, ends-differ, sets-test, sets-by}
 
 infixr 10 _then_

@@ -1,24 +1,20 @@
--- Lists in ascending order: the numbers that pass a test, and that an ascending list is known by its elements.
+-- The numbers that pass a test, in ascending order.
 --
 --   one b x        the list of x alone where b holds, else the empty list
 --   keep p e       the numbers below e that have p, in ascending order
---   Ascending K ws the elements of ws ascend by a key: K w a says that a is w's key, and each element has one
 use mathlib.Core.Path.{_≡_, refl, sym, ap, _∙_, subst}
 use mathlib.Core.Logic.{_⊎_, inl, inr, ⊎-elim}
 use mathlib.Core.List.{List, [], _∷_, _++_, map, append-nil}
 use mathlib.Core.Bool.{Bool, true, false}
-use Prim.Native.Nat.{ℕ, zero, suc, _≤_, _<_}
-use native.Mathlib.Nat.{le-refl, not-suc-le-zero, lt-irrefl}
+use Prim.Native.Nat.{ℕ, zero, suc, _<_}
+use native.Mathlib.Nat.{not-suc-le-zero}
 use native.Mathlib.Omega.{arith}
 use lib.Dec.{T}
 use lib.ListN.{length, length-append, List·getD-append}
-use lib.Seq.{getD-append-seam, ext-getD}
+use lib.Seq.{getD-append-seam}
 use Rattle.numbers.specs.Finite.{only, sum, count}
 use Rattle.numbers.specs.Lists.{at}
-use Rattle.numbers.proofs.Truth.{le-or-lt}
 use Rattle.numbers.proofs.Finite.{below}
-
--- ---- the numbers that pass a test
 
 abbrev pub one : Bool → ℕ → List ℕ
 one true x = x ∷ []
@@ -86,52 +82,3 @@ pub map-one : (g : ℕ → ℕ) (xs : List ℕ) (b : Bool) (x : ℕ) → map g (
 map-one g [] true x = refl
 map-one g [] false x = refl
 map-one g (y ∷ ys) b x = ap {B = List ℕ} (λ r. g y ∷ r) (map-one g ys b x)
-
--- ---- an ascending list is known by its elements
-
-pub record Ascending (K : ℕ → ℕ → Type 0) (ws : List ℕ) : Type 0 where
-  pub key : (k : ℕ) → k < length ws → (a : ℕ) × K (at ws k) a
-  pub order : (k l a b : ℕ) → k < l → l < length ws → K (at ws k) a → K (at ws l) b → a < b
-
--- each element of ws is one of vs
-abbrev Within : List ℕ → List ℕ → Type 0
-Within ws vs = (k : ℕ) → k < length ws → (l : ℕ) × (l < length vs) × (at vs l ≡ at ws k)
-
-module _ (K : ℕ → ℕ → Type 0) where
-  apart : (ws : List ℕ) → Ascending K ws → (k l : ℕ) → k < l → l < length ws → at ws k ≡ at ws l → ⊥
-  apart ws A k l h m e =
-      let a = A .key l m in
-      lt-irrefl (a .0) (A .order k l (a .0) (a .0) h m (subst (λ (w : ℕ). K w (a .0)) (sym e) (a .1)) (a .1))
-
-  module _ (ws vs : List ℕ) (A : Ascending K ws) (B : Ascending K vs) (to : Within ws vs) (fro : Within vs ws) where
-    same-at : (n k : ℕ) → k < n → k < length ws → k < length vs → at ws k ≡ at vs k
-    same-at zero k b h i = absurd (not-suc-le-zero b)
-    same-at (suc n) k b h i =
-        let m = to k h in
-        let l = fro k i in
-        let mk : ¬ (m .0 < k) = λ q. apart ws A (m .0) k q h (same-at n (m .0) (omega arith) (omega arith) (m .1) ∙ m .2) in
-        let lk : ¬ (l .0 < k) = λ q. apart vs B (l .0) k q i (sym (same-at n (l .0) (omega arith) (l .1) (omega arith)) ∙ l .2) in
-        ⊎-elim
-        (λ (q : m .0 ≤ k). sym (m .2) ∙ ap (at vs) (let e : m .0 ≡ k = omega arith in e))
-        (λ (q : k < m .0). ⊎-elim
-        (λ (r : l .0 ≤ k). ap (at ws) (let e : k ≡ l .0 = omega arith in e) ∙ l .2)
-        (λ (r : k < l .0).
-        let a = A .key k h in
-        let c = B .key k i in
-        let x : a .0 < c .0 = A .order k (l .0) (a .0) (c .0) r (l .1) (a .1) (subst (λ (w : ℕ). K w (c .0)) (sym (l .2)) (c .1)) in
-        let y : c .0 < a .0 = B .order k (m .0) (c .0) (a .0) q (m .1) (c .1) (subst (λ (w : ℕ). K w (a .0)) (sym (m .2)) (a .1)) in
-        absurd (let z : ⊥ = omega arith in z))
-        (le-or-lt (l .0) k))
-        (le-or-lt (m .0) k)
-
-    no-longer : length vs < length ws → ⊥
-    no-longer h =
-        let m = to (length vs) h in
-        apart ws A (m .0) (length vs) (m .1) h (same-at (suc (m .0)) (m .0) (le-refl _) (omega (arith, m .1)) (m .1) ∙ m .2)
-
-  pub ascending-only : (ws vs : List ℕ) → Ascending K ws → Ascending K vs → Within ws vs → Within vs ws → ws ≡ vs
-  ascending-only ws vs A B to fro =
-      let x : ¬ (length vs < length ws) = no-longer ws vs A B to fro in
-      let y : ¬ (length ws < length vs) = no-longer vs ws B A fro to in
-      let e : length ws ≡ length vs = omega arith in
-      ext-getD 0 ws vs e (λ i h. same-at ws vs A B to fro (suc i) i (le-refl (suc i)) h (omega arith))

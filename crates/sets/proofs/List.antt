@@ -1,4 +1,4 @@
--- The list of overlap sets of rows on a line: the walk up the line makes it, no other list is one, and what it is used for.
+-- The list of overlap sets of rows on a line: the walk up the line makes it, and what it is used for.
 --
 --   acrossWord n first second e   the word of the rows across e
 --   setsTo n first second e       the words of the overlap sets whose least second end is below e
@@ -19,11 +19,12 @@ use Rattle.numbers.proofs.Truth.{both, fst, snd, same, along}
 use Rattle.numbers.proofs.Finite.{any-le, sum-le, sum-swap, sum-const, sum-term, sumIn-eq, only-le}
 use Rattle.numbers.proofs.Word.{word, bit-word, bit-ext}
 use Rattle.rules.specs.Line.{meet, OverlapSet, Least, SetList}
+use Rattle.rules.proofs.Sets.{set-in, sets-only}
 use Rattle.sets.specs.Walk.{across, endsAt}
 use Rattle.numbers.proofs.Lists.{at-map}
 use Rattle.numbers.proofs.Finite.{count-eqb}
 use Rattle.sets.proofs.Overlap.{closes, meet-of, across-is, across-of, ends-is, least-same, closing, inside, closed}
-use Rattle.sets.proofs.Ascending.{one, keep, keep-each, keep-order, keep-all, keep-length, map-one, Ascending, ascending-only}
+use Rattle.sets.proofs.Ascending.{one, keep, keep-each, keep-order, keep-all, keep-length, map-one}
 
 abbrev pub acrossWord : ℕ → (first second : ℕ → ℕ) → ℕ → ℕ
 acrossWord n first second e = word n (across n first second e)
@@ -82,17 +83,6 @@ module _ (n : ℕ) (first second : ℕ → ℕ) where
       closing-ends x = only-le (closes n first second x) (endsAt n second x) 1 1 (fst (endsAt n second x) _) (λ t. le-refl 1)
 
   module _ (line : (i : ℕ) → i < n → first i < second i) (pos : 0 < n) where
-    -- ---- one list fits, and no other
-
-    pub sets-only : (ws vs : List ℕ) → SetList n (meet first second) second ws → SetList n (meet first second) second vs → ws ≡ vs
-    sets-only ws vs A B =
-        ascending-only (λ w e. Least second (bit w) e) ws vs (ascending ws A) (ascending vs B)
-        (λ k h. B .all (at ws k) (A .each k h)) (λ k h. A .all (at vs k) (B .each k h))
-      where
-        ascending : (us : List ℕ) → SetList n (meet first second) second us → Ascending (λ w e. Least second (bit w) e) us
-        ascending us S =
-            record { key = λ k h. let c = closed n first second line pos (S .each k h) in (c .0, c .2); order = S .order }
-
     -- the walk makes it, once it is past every second end
     module _ (E : ℕ) (end : (i : ℕ) → i < n → second i < E) where
       -- a word of the list is the word across the end in the same place
@@ -145,16 +135,12 @@ module _ (n : ℕ) (first second : ℕ → ℕ) where
       pub sets-few : length ws ≤ n
       sets-few =
           let E = suc (sum n second) in
-          let e = sets-only ws (setsTo n first second E) S (sets-are E (λ i l. omega (arith, sum-term n second i l))) in
+          let e = sets-only pos S (sets-are E (λ i l. omega (arith, sum-term n second i l))) in
           omega (arith, ap length e, setsTo-few E)
 
       -- an overlap set is shown by a word of the list
       pub shown : (D : ℕ → Bool) → OverlapSet n (meet first second) D → (k : ℕ) × (k < length ws) × ((i : ℕ) → bit (at ws k) i ≡ D i)
-      shown D o =
-          let c = closed n first second line pos o in
-          let e : bit (acrossWord n first second (c .0)) ≡ D = shows (c .0) ∙ sym (fun-ext (c .3)) in
-          let r = S .all (acrossWord n first second (c .0)) (subst (λ (C : ℕ → Bool). OverlapSet n (meet first second) C) (sym e) o) in
-          (r .0, r .1, λ i. ap (λ (w : ℕ). bit w i) (r .2) ∙ ap (λ (C : ℕ → Bool). C i) e)
+      shown D o = let r = set-in S o in (r .0, r .1, λ i. ap (λ (C : ℕ → Bool). C i) (r .2))
 
       -- rows that all overlap one another are together in a set of the list
       pub together : (C : ℕ → Bool) → ((i : ℕ) → T (C i) → i < n)

@@ -8,8 +8,8 @@ use lib.ListN.{length, take, length-take}
 use lib.Seq.{getD-take, ext-getD}
 use Rattle.numbers.specs.Lists.{at}
 use Rattle.numbers.proofs.Truth.{le-or-lt}
+use Rattle.rules.proofs.Sets.{sets-only}
 use Rattle.sets.specs.Sets.{OnLine, Listed}
-use Rattle.sets.proofs.List.{sets-only}
 
 pub listed-length : {n : ℕ} {first second : ℕ → ℕ} {top k : ℕ} {words : List ℕ} → OnLine n first second top
     → Listed n first second k words → length (take k words) ≡ k
@@ -18,8 +18,7 @@ listed-length {k = k} {words = words} O L = omega (arith, length-take k words, O
 pub listed-only : {n : ℕ} {first second : ℕ → ℕ} {top k l : ℕ} {words others : List ℕ} → OnLine n first second top
     → Listed n first second k words → Listed n first second l others → (k ≡ l) × (words ≡ others)
 listed-only {n} {first} {second} {k = k} {l = l} {words = words} {others = others} O A B =
-    let e : take k words ≡ take l others =
-    sets-only n first second (O .line) (O .some) (take k words) (take l others) (A .sets) (B .sets) in
+    let e : take k words ≡ take l others = sets-only (O .some) (A .sets) (B .sets) in
     let q : k ≡ l = omega (arith, listed-length O A, listed-length O B, ap length e) in (
       q,
       ext-getD 0 words others (A .size ∙ sym (B .size))

@@ -9,11 +9,12 @@ use mathlib.Core.Bool.{Bool, false, not, _&&_, _||_}
 use Prim.Native.Nat.{ℕ, zero, suc, _-_, _≤_, _<_}
 use native.Mathlib.Nat.{le-refl, not-suc-le-zero}
 use native.Mathlib.Omega.{arith}
-use lib.Dec.{T, ltb, leb, eqb, ltb→lt, lt→ltb, leb→le, le→leb, eqb→eq, eqb-refl}
+use lib.Dec.{T, ltb, leb, eqb, ltb→lt, lt→ltb, leb→le, le→leb, eqb→eq}
 use Rattle.numbers.specs.Finite.{any}
 use Rattle.numbers.proofs.Truth.{both, fst, snd, orl, orr, or-cases, decide, refuted, refutes, same, eqb-of}
 use Rattle.numbers.proofs.Finite.{below, any-of, least}
 use Rattle.rules.specs.Line.{meet, OverlapSet, Least}
+use Rattle.rules.proofs.Sets.{minimum}
 use Rattle.sets.specs.Walk.{across, endsAt}
 
 unfoldable pub started : ℕ → (first second : ℕ → ℕ) → ℕ → Bool
@@ -60,26 +61,6 @@ module _ (n : ℕ) (ends : ℕ → ℕ) (e : ℕ) where
 pub least-same : {g : ℕ → ℕ} {D : ℕ → Bool} {d e : ℕ} → Least g D d → Least g D e → d ≡ e
 least-same {g} h k =
     omega (arith, h .under (k .reached .0) (k .reached .1), k .under (h .reached .0) (h .reached .1), h .reached .2, k .reached .2)
-
--- a set with a member has a least
-pub minimum : (n : ℕ) (g : ℕ → ℕ) (D : ℕ → Bool) → ((i : ℕ) → T (D i) → i < n) → (j : ℕ) → T (D j) → (e : ℕ) × Least g D e
-minimum n g D rows j t =
-    let hits-at : (i : ℕ) → T (D i) → T (hits (g i)) =
-    λ i u. any-of n (hit (g i)) i (rows i u) (both (D i) (eqb (g i) (g i)) u (eqb-refl (g i))) in
-    let r = least (suc (g j)) hits (any-of (suc (g j)) hits (g j) (le-refl (suc (g j))) (hits-at j t)) in
-    let m = least n (hit (r .0)) (r .2) in (
-      r .0,
-      record {
-        reached = (m .0, fst (D (m .0)) _ (m .2), eqb→eq _ _ (snd (D (m .0)) _ (m .2)));
-        under = λ i u. let k : ¬ (g i < r .0) = λ l. r .3 (g i) l (hits-at i u) in omega arith;
-      },
-    )
-  where
-    hit : ℕ → ℕ → Bool
-    hit e i = D i && eqb (g i) e
-
-    hits : ℕ → Bool
-    hits e = any n (hit e)
 
 module _ (n : ℕ) (first second : ℕ → ℕ) where
   -- ---- the one bool of the walk
@@ -163,9 +144,9 @@ module _ (n : ℕ) (first second : ℕ → ℕ) where
         → ((i j : ℕ) → T (C i) → T (C j) → T (meet first second i j)) → (j : ℕ) → T (C j)
         → (e : ℕ) × T (closes n first second e) × ((i : ℕ) → T (C i) → T (across n first second e i))
     closing-inside C rows pairs j t =
-        let m = minimum n second C rows j t in
+        let m = minimum n C rows second j t in
         let e = m .0 in
-        let b = minimum n (λ i. e - first i) C rows j t in
+        let b = minimum n C rows (λ i. e - first i) j t in
         let p = m .1 .reached in
         let q = b .1 .reached in
         let starts : (i : ℕ) → T (C i) → first i < e =
