@@ -1,0 +1,7 @@
+pub mod Kept
+pub mod Upto
+pub mod Scan
+pub mod Ends
+pub mod Walk
+pub mod Placed
+pub mod Filled
