@@ -31,7 +31,7 @@ struct file {
 /* An admitted table of so many rows whose interval is L and whose plan has `intervals` intervals: costs are raised from the least that
  * passes until the bus is well loaded. */
 static int make(struct file *f, unsigned rows, unsigned interval, unsigned intervals) {
-    /* a row's load is at least 1 / L, so with a short interval few rows can share a segment: such tables have short routes, spread evenly */
+    /* a row's load is at least 1 / L, so with a short interval few rows can share a segment: such tables have short routes, spread out */
     unsigned elements = rows < 16 ? 8 : 32, span = interval < 8 && rows > 16 ? 1 : rows < 16 ? 4 : 3;
     f->length = 7 + 6 * (size_t)rows;
     memcpy(f->byte, "RBT\1\0", 5);
@@ -44,7 +44,8 @@ static int make(struct file *f, unsigned rows, unsigned interval, unsigned inter
         while (intervals % divisor);
         if (i == 0) divisor = intervals;
         if (i == 1) divisor = 1;
-        unsigned period = interval * divisor, first = 1 + (span == 1 ? i : below(elements)) % (elements - 1), second = first + 1 + below(span);
+        unsigned period = interval * divisor;
+        unsigned first = 1 + (span == 1 ? i : below(elements)) % (elements - 1), second = first + 1 + below(span);
         if (second > elements) second = elements;
         r[0] = (uint8_t)(divisor & 255);
         r[1] = (uint8_t)(divisor >> 8);

@@ -187,7 +187,8 @@ static void compare(const struct file *given) {
         for (unsigned k = 0; k < v.hyper / v.interval; k++) {
             if (!oracle_loads(&v, k, had, load)) fail(given, "no loads qualify");
             oracle_words(&v, load, word);
-            if (memcmp(word, lent + GUARD + k * v.interval, v.interval * sizeof *word)) fail(given, "loads are not the greatest in row order");
+            if (memcmp(word, lent + GUARD + k * v.interval, v.interval * sizeof *word))
+                fail(given, "loads are not the greatest in row order");
             for (unsigned i = 0; i < v.table.rows; i++) had[i] += load[i];
         }
         exact++;
