@@ -10,6 +10,8 @@
 #include <stdio.h>
 #include <stdlib.h>
 #include <string.h>
+#include <sys/mman.h>
+#include <unistd.h>
 
 enum { FILE_ROOM = 600, GUARD = 64, FEW_ROWS = 12 };
 
@@ -62,7 +64,8 @@ static void random_table(struct table *t) {
     unsigned most = small[below(sizeof small / sizeof *small)];
     unsigned interval = between(1, below(3) ? 24 : MAX_SLOTS / most);
     unsigned equal = below(4) == 0;
-    unsigned span = between(1, t->elements);
+    unsigned span = t->rows > 16 ? between(1, 2) : between(1, t->elements);
+    if (t->rows > 16 && below(4)) t->elements = MAX_ELEMENTS, cut = between(1, t->elements), interval = between(8, MAX_SLOTS / most);
     for (unsigned i = 0; i < t->rows; i++) {
         struct row *r = &t->row[i];
         unsigned divisor;
@@ -70,7 +73,7 @@ static void random_table(struct table *t) {
         while (most % divisor);
         r->period = interval * (equal ? most : divisor);
         unsigned least = (r->period + interval - 1) / interval;
-        r->cost = between(below(40) ? least : 1, below(3) ? least : r->period);
+        r->cost = between(below(40) ? least : 1, below(t->rows) < 3 ? r->period : least);
         if (r->cost > r->period) r->cost = r->period;
         if (any_route) {
             r->first = between(1, t->elements);
@@ -140,46 +143,66 @@ static void fail(const struct file *f, const char *what) {
     exit(1);
 }
 
-static uint64_t lent[GUARD + MAX_SLOTS + GUARD], kept[GUARD + MAX_SLOTS + GUARD];
+/* ---- lent memory. Both buffers end where a page begins that nobody may touch, so a read or write past an end stops the run; what stands
+ * before them and past the part in use is compared. */
 
-static void fill_lent(void) {
-    for (size_t i = 0; i < sizeof lent / sizeof *lent; i++) lent[i] = kept[i] = ((uint64_t)below(1u << 31) << 32) | below(1u << 31);
+static uint8_t *file_end;
+static uint64_t *plan_end, kept[GUARD + MAX_SLOTS];
+
+static void *fenced(size_t bytes) {
+    size_t page = (size_t)sysconf(_SC_PAGESIZE), room = (bytes + page - 1) / page * page;
+    uint8_t *at = mmap(NULL, room + page, PROT_READ | PROT_WRITE, MAP_PRIVATE | MAP_ANONYMOUS, -1, 0);
+    if (at == MAP_FAILED || mprotect(at + room, page, PROT_NONE)) {
+        perror("compare");
+        exit(2);
+    }
+    return at + room;
 }
 
-/* the lent slots from `from` on, and all guards, are as they were */
-static int unchanged_from(unsigned from) {
-    return !memcmp(lent, kept, GUARD * sizeof *lent)
-        && !memcmp(lent + GUARD + from, kept + GUARD + from, (MAX_SLOTS - from + GUARD) * sizeof *lent);
+/* Lends a plan of `room` words, with guard words before it. */
+static uint64_t *lend(unsigned room) {
+    uint64_t *plan = plan_end - room;
+    for (uint64_t *w = plan - GUARD; w < plan_end; w++) *w = ((uint64_t)below(1u << 31) << 32) | below(1u << 31);
+    memcpy(kept, plan - GUARD, (GUARD + room) * sizeof *kept);
+    return plan;
+}
+
+/* the words from `from` on, and the guard before them all, are as they were */
+static int unchanged_from(unsigned from, const uint64_t *plan, unsigned room) {
+    return !memcmp(plan - GUARD, kept, GUARD * sizeof *kept) && !memcmp(plan + from, kept + GUARD + from, (room - from) * sizeof *kept);
 }
 
 static void compare(const struct file *given) {
-    struct verdict v;
-    struct file f = *given;
-    oracle_verdict(f.byte, f.length, &v);
-    uint32_t answer = ring_verdict(f.byte, f.length);
+    static struct verdict v;
+    uint8_t *file = file_end - given->length;
+    memcpy(file, given->byte, given->length);
+    oracle_verdict(given->byte, given->length, &v);
+    uint32_t answer = ring_verdict(file, given->length);
     if (answer != 256 * v.number + v.place) {
         printf("library %u, %u; oracle %u, %u\n", answer / 256, answer % 256, v.number, v.place);
         fail(given, "verdicts differ");
     }
     seen[v.number]++;
-    fill_lent();
     unsigned room = v.number ? below(MAX_SLOTS + 1) : v.hyper;
     if (v.number == 0 && below(4) == 0) {
-        room = below(v.hyper);
-        if (ring_plan(f.byte, f.length, lent + GUARD, room) != 256 * RING_SHORT_OUTPUT) fail(given, "a short plan was not refused with 17");
-        if (!unchanged_from(0)) fail(given, "a refusal for room changed lent memory");
+        unsigned few = below(v.hyper);
+        uint64_t *plan = lend(few);
+        if (ring_plan(file, given->length, plan, few) != 256 * RING_SHORT_OUTPUT) fail(given, "a short plan was not refused with 17");
+        if (!unchanged_from(0, plan, few)) fail(given, "a refusal for room changed lent memory");
         seen[RING_SHORT_OUTPUT]++;
         room = between(v.hyper, MAX_SLOTS);
     }
-    answer = ring_plan(f.byte, f.length, lent + GUARD, room);
+    uint64_t *plan = lend(room);
+    answer = ring_plan(file, given->length, plan, room);
     if (answer != 256 * v.number + v.place) fail(given, "plan and verdict differ");
+    if (memcmp(file, given->byte, given->length)) fail(given, "the file's own bytes changed");
     if (v.number) {
-        if (!unchanged_from(0)) fail(given, "a refusal changed lent memory");
+        if (!unchanged_from(0, plan, room)) fail(given, "a refusal changed lent memory");
         return;
     }
-    if (!unchanged_from(v.hyper)) fail(given, "memory past the plan changed");
+    if (!unchanged_from(v.hyper, plan, room)) fail(given, "memory past the plan changed");
     const char *why = "";
-    if (!oracle_keeps(&v, lent + GUARD, &why)) fail(given, why);
+    if (!oracle_keeps(&v, plan, &why)) fail(given, why);
     admitted++;
     slots += v.hyper;
     if (v.table.rows <= FEW_ROWS) {
@@ -187,16 +210,17 @@ static void compare(const struct file *given) {
         for (unsigned k = 0; k < v.hyper / v.interval; k++) {
             if (!oracle_loads(&v, k, had, load)) fail(given, "no loads qualify");
             oracle_words(&v, load, word);
-            if (memcmp(word, lent + GUARD + k * v.interval, v.interval * sizeof *word))
+            if (memcmp(word, plan + k * v.interval, v.interval * sizeof *word))
                 fail(given, "loads are not the greatest in row order");
             for (unsigned i = 0; i < v.table.rows; i++) had[i] += load[i];
         }
         exact++;
     }
-    if (memcmp(&f, given, sizeof f)) fail(given, "the file's own bytes changed");
 }
 
 int main(int argc, char **argv) {
+    file_end = fenced(FILE_ROOM);
+    plan_end = fenced((GUARD + MAX_SLOTS) * sizeof *plan_end);
     unsigned long tables = argc > 1 ? strtoul(argv[1], NULL, 10) : 20000;
     state = 0x9e3779b97f4a7c15u ^ (argc > 2 ? strtoull(argv[2], NULL, 10) * 0x2545f4914f6cdd1du : 1);
     for (unsigned long n = 0; n < tables; n++) {

@@ -1,0 +1,11 @@
+/* Plain C under the library's names, so that it can be put in its place. */
+#include "plain.h"
+#include "ringplan.h"
+
+uint32_t ring_verdict(const uint8_t *file, size_t file_bytes) {
+    return plain_verdict(file, file_bytes);
+}
+
+uint32_t ring_plan(const uint8_t *file, size_t file_bytes, uint64_t *plan, size_t plan_words) {
+    return plain_plan(file, file_bytes, plan, plan_words);
+}
