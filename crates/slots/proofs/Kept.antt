@@ -1,10 +1,8 @@
--- A lent slice of which only the first l places change.
---
---   Cleared l was s now    its places below s are 0
-use mathlib.Core.Path.{_≡_, refl, sym, ap, _∙_, subst}
+-- A lent slice of which only the first l places change, and how it is cleared.
+use mathlib.Core.Path.{_≡_, refl, ap, _∙_}
 use mathlib.Core.Logic.{⊎-elim}
 use mathlib.Core.List.{List}
-use Prim.Native.Nat.{ℕ, suc, _+_, _<_}
+use Prim.Native.Nat.{ℕ, suc, _+_, _≤_, _<_}
 use native.Mathlib.Nat.{not-suc-le-zero}
 use native.Mathlib.Omega.{arith}
 use lib.ListN.{length, set, length-set}
@@ -12,6 +10,7 @@ use lib.Seq.{getD-set-same, getD-set-other, drop-set-lt}
 use Rattle.numbers.specs.Lists.{at}
 use Rattle.numbers.proofs.Finite.{below}
 use Rattle.slots.specs.Filled.{Kept}
+use Rattle.slots.specs.Walk.{Cleared}
 
 pub kept-none : (l : ℕ) (was : List ℕ) → Kept l was was
 kept-none l was = record { rest = refl; long = refl }
@@ -23,15 +22,7 @@ pub kept-set : {l : ℕ} {was now : List ℕ} (s v : ℕ) → Kept l was now →
 kept-set {l} {was} {now} s v K h =
     record { rest = drop-set-lt l now s v h ∙ K .rest; long = length-set now s v ∙ K .long }
 
--- the same of an equal list
-pub kept-as : {l : ℕ} {was now now′ : List ℕ} → now′ ≡ now → Kept l was now → Kept l was now′
-kept-as {l} {was} q K = subst (λ (b : List ℕ). Kept l was b) (sym q) K
-
 -- ---- clearing
-
-pub record Cleared (l : ℕ) (was : List ℕ) (s : ℕ) (now : List ℕ) : Type 0 where
-  pub zeros : (u : ℕ) → u < s → at now u ≡ 0
-  pub kept : Kept l was now
 
 pub cleared-none : (l : ℕ) (was : List ℕ) → Cleared l was 0 was
 cleared-none l was = record { zeros = λ u h. absurd (not-suc-le-zero h); kept = kept-none l was }
@@ -45,3 +36,6 @@ cleared-more {l} {s} {was} {now} C h m = record {
       (below (let d : u < suc s = omega arith in d));
   kept = kept-set s 0 (C .kept) h;
 }
+
+pub cleared-all : {l s : ℕ} {was now : List ℕ} → Cleared l was s now → l ≤ s → Cleared l was l now
+cleared-all C h = record { zeros = λ u d. C .zeros u (omega arith); kept = C .kept }

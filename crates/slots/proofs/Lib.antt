@@ -1,4 +1,5 @@
 pub mod Kept
+pub mod Chained
 pub mod Upto
 pub mod Scan
 pub mod Ends

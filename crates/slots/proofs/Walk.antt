@@ -4,10 +4,14 @@
 --                   row i's turn: its scan has come to slot s, with `left` of its load to place; it began with last₀ and words₀
 --   turn-start, turn-skip, turn-take, turn-end
 --                   the turn begins; slot s is not free; row i takes it; the turn is over, at the last slot or with no load left
---   walk-start, row-passed, element-passed, walk-end
---                   no row is taken; row i starts elsewhere and has no turn; the walk goes on to the next element; all rows are taken
+--   walk-start, walk-end
+--                   no row is taken; all are
+--   Along n f g x l e r last words
+--                   of the rows that start at element e, those before the one that r links to are taken
+--   along-start, along-row, along-next, along-end
+--                   the walk comes to the element; to the row that r links to; its turn is over; no row is left there
 --
--- Names of the code's variables after a branch are only known to be equal to what was put there: the laws that end in -as pass to them.
+-- Names of the code's variables after a branch are only known to be equal to what was put there: turn-as passes to them.
 use mathlib.Core.Path.{_≡_, refl, sym, ap, _∙_, subst, subst₂}
 use mathlib.Core.Logic.{_⊎_, inl, inr, ⊎-elim}
 use mathlib.Core.List.{List}
@@ -26,6 +30,7 @@ use Rattle.numbers.proofs.Truth.{both, fst, snd, orl, orr, or-cases, decide, sa
 use Rattle.numbers.proofs.Word.{bit-zero}
 use Rattle.rules.specs.Line.{meet}
 use Rattle.rules.specs.Interval.{before, free, moves}
+use Rattle.slots.specs.Chained.{Link}
 use Rattle.slots.specs.Filled.{Kept, FilledSlots}
 use Rattle.slots.specs.Walk.{taken, chosen, Last, Walked}
 use Rattle.slots.proofs.Kept.{kept-none, kept-set}
@@ -75,23 +80,29 @@ module _ (n : ℕ) (f : ℕ → ℕ) (e : ℕ) where
       orl (taken n f e r j) (eqb j r) (taken-of n f e r j (w .0) (⊎-elim (λ b. inl b) (λ b. inr (b .0, omega arith)) (w .1))))
       (decide (eqb j r)))
 
-  pub taken-same : (r : ℕ) → ¬ (f r ≡ e) → (j : ℕ) → taken n f e r j ≡ taken n f e (r + 1) j
-  taken-same r q j =
-      same (taken n f e r j) (taken n f e (r + 1) j)
-      (λ h. let w = taken-is n f e r j h in
-      taken-of n f e (r + 1) j (w .0) (⊎-elim (λ b. inl b) (λ b. inr (b .0, omega arith)) (w .1)))
-      (λ h. let w = taken-is n f e (r + 1) j h in
-      taken-of n f e r j (w .0)
-      (⊎-elim (λ b. inl b) (λ b. let ne : ¬ (j ≡ r) = λ p. q (ap f (sym p) ∙ b .0) in inr (b .0, omega arith)) (w .1)))
+  -- no row that the link skips starts at e
+  pub taken-skip : {k r : ℕ} → Link n f e k r → 0 < r → (j : ℕ) → taken n f e k j ≡ taken n f e (r - 1) j
+  taken-skip {k} {r} L some j =
+      same (taken n f e k j) (taken n f e (r - 1) j)
+      (λ h. let w = taken-is n f e k j h in
+      taken-of n f e (r - 1) j (w .0) (⊎-elim (λ b. inl b) (λ b. inr (b .0, omega (arith, L .starts some))) (w .1)))
+      (λ h. let w = taken-is n f e (r - 1) j h in
+      taken-of n f e k j (w .0)
+      (⊎-elim (λ b. inl b)
+      (λ b. inr (b .0, ⊎-elim (λ d. absurd (omega (arith, L .lowest j d (w .0) (b .0)))) (λ d. d) (le-or-lt k j))) (w .1)))
 
-  pub taken-next : (j : ℕ) → taken n f e n j ≡ taken n f (e + 1) 0 j
-  taken-next j =
-      same (taken n f e n j) (taken n f (e + 1) 0 j)
-      (λ h. let w = taken-is n f e n j h in
+  -- where no row from k on starts at e, all that do are taken
+  pub taken-next : {k : ℕ} → Link n f e k 0 → (j : ℕ) → taken n f e k j ≡ taken n f (e + 1) 0 j
+  taken-next {k} L j =
+      same (taken n f e k j) (taken n f (e + 1) 0 j)
+      (λ h. let w = taken-is n f e k j h in
       taken-of n f (e + 1) 0 j (w .0) (inl (⊎-elim (λ b. omega arith) (λ b. omega arith) (w .1))))
       (λ h. let w = taken-is n f (e + 1) 0 j h in
       let m : f j < e + 1 = ⊎-elim (λ b. b) (λ b. absurd (not-suc-le-zero (b .1))) (w .1) in
-      taken-of n f e n j (w .0) (⊎-elim (λ b. inr (omega arith, w .0)) (λ b. inl b) (le-or-lt e (f j))))
+      taken-of n f e k j (w .0) (⊎-elim (λ b. inr (here j (w .0) (omega arith))) (λ b. inl b) (le-or-lt e (f j))))
+    where
+      here : (j : ℕ) → j < n → f j ≡ e → (f j ≡ e) × (j < k)
+      here j d q = (q, ⊎-elim (λ a. absurd (omega (arith, L .lowest j a d q))) (λ a. a) (le-or-lt k j))
 
   pub taken-none : ((j : ℕ) → j < n → e ≤ f j) → (j : ℕ) → taken n f e 0 j ≡ false
   taken-none h j =
@@ -179,10 +190,6 @@ module _ {n : ℕ} {f g x : ℕ → ℕ} {l e i : ℕ} {last₀ words₀ : List 
 
 -- ---- the walk
 
-pub walked-as : {n : ℕ} {f g x : ℕ → ℕ} {l : ℕ} {D : ℕ → Bool} {last last′ words words′ : List ℕ} → last′ ≡ last → words′ ≡ words
-    → Walked n f g x l D last words → Walked n f g x l D last′ words′
-walked-as {n} {f} {g} {x} {l} {D} p q B = subst₂ (λ (a b : List ℕ). Walked n f g x l D a b) (sym p) (sym q) B
-
 -- no word has a bit, and no slot a last end
 pub walk-start : {n : ℕ} {f g x : ℕ → ℕ} {l e : ℕ} {last words : List ℕ} → ((j : ℕ) → j < n → e ≤ f j)
     → l ≤ length words → ((s : ℕ) → s < l → at words s ≡ 0) → l ≤ length last → ((s : ℕ) → s < l → at last s ≡ 0)
@@ -198,15 +205,6 @@ walk-start {n} {f} {g} {x} {l} {e} {last} {words} h room zeros size ends = recor
     none : (i s : ℕ) → s < l → moves words i s ≡ false
     none i s m = ap (λ (w : ℕ). bit w i) (zeros s m) ∙ bit-zero i
 
-pub row-passed : {n : ℕ} {f g x : ℕ → ℕ} {l e i : ℕ} {last words : List ℕ} → Walked n f g x l (taken n f e i) last words
-    → ¬ (f i ≡ e) → Walked n f g x l (taken n f e (i + 1)) last words
-row-passed {n} {f} {e = e} {i = i} B q = walked-eq (taken n f e (i + 1)) (taken-same n f e i q) B
-
-pub element-passed : {n : ℕ} {f g x : ℕ → ℕ} {l : ℕ} (e : ℕ) {i : ℕ} {last words : List ℕ} → i ≡ n
-    → Walked n f g x l (taken n f e i) last words → Walked n f g x l (taken n f (e + 1) 0) last words
-element-passed {n} {f} {g} {x} {l} e {last = last} {words = words} q B =
-    walked-eq (taken n f (e + 1) 0) (taken-next n f e) (subst (λ (k : ℕ). Walked n f g x l (taken n f e k) last words) q B)
-
 pub walk-end : {n : ℕ} {f g x : ℕ → ℕ} {l e : ℕ} {last words was : List ℕ} → Walked n f g x l (taken n f e 0) last words
     → ((j : ℕ) → j < n → f j < e) → Kept l was words → FilledSlots n f g x l was words
 walk-end {n} {f} {g} {x} {l} {e} {words = words} B past K = record {
@@ -215,3 +213,27 @@ walk-end {n} {f} {g} {x} {l} {e} {words = words} B past K = record {
       (taken-all n f e past) (B .upto));
   kept = K;
 }
+
+-- ---- the rows that start at an element
+
+-- the walk has taken those below row k, and r links on from there
+pub record Along (n : ℕ) (f g x : ℕ → ℕ) (l e r : ℕ) (last words : List ℕ) : Type 0 where
+  pub k : ℕ
+  pub link : Link n f e k r
+  pub walked : Walked n f g x l (taken n f e k) last words
+
+module _ {n : ℕ} {f g x : ℕ → ℕ} {l e r : ℕ} {last words : List ℕ} where
+  pub along-start : Link n f e 0 r → Walked n f g x l (taken n f e 0) last words → Along n f g x l e r last words
+  along-start L B = record { k = 0; link = L; walked = B }
+
+  -- it is the turn of the row that r links to
+  pub along-row : Along n f g x l e r last words → 0 < r → Walked n f g x l (taken n f e (r - 1)) last words
+  along-row A some = walked-eq (taken n f e (r - 1)) (taken-skip n f e (A .link) some) (A .walked)
+
+  pub along-next : {i : ℕ} → Link n f (f i) (i + 1) r → f i ≡ e → Walked n f g x l (taken n f e (i + 1)) last words
+      → Along n f g x l e r last words
+  along-next {i} L q B = record { k = i + 1; link = subst (λ (d : ℕ). Link n f d (i + 1) r) q L; walked = B }
+
+  pub along-end : Along n f g x l e r last words → r ≡ 0 → Walked n f g x l (taken n f (e + 1) 0) last words
+  along-end A q =
+      walked-eq (taken n f (e + 1) 0) (taken-next n f e (subst (λ (d : ℕ). Link n f e (A .k) d) q (A .link))) (A .walked)

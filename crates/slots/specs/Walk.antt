@@ -1,6 +1,7 @@
 -- The walk along the line that gives the rows of one interval their slots: element by element, and at each the rows that start there, by
 -- row number. It keeps the last second end of the rows in each slot.
 --
+--   Cleared l was s now     a lent slice of which only the first l places may have changed; those below s are 0
 --   taken n first e r j     row j is taken before row r of those that start at element e
 --   chosen p k s            slot s is one of the first k that have p
 --   Upto n o first x l D P  the rows of D have their slots, and no other row has any
@@ -18,6 +19,11 @@ use Rattle.numbers.specs.Finite.{count}
 use Rattle.numbers.specs.Lists.{at}
 use Rattle.rules.specs.Line.{meet}
 use Rattle.rules.specs.Interval.{free, moves}
+use Rattle.slots.specs.Filled.{Kept}
+
+pub record Cleared (l : ℕ) (was : List ℕ) (s : ℕ) (now : List ℕ) : Type 0 where
+  pub zeros : (u : ℕ) → u < s → at now u ≡ 0
+  pub kept : Kept l was now
 
 unfoldable pub taken : ℕ → (first : ℕ → ℕ) → ℕ → ℕ → ℕ → Bool
 taken n first e r j = ltb j n && (ltb (first j) e || (eqb (first j) e && ltb j r))

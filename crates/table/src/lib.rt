@@ -1,9 +1,17 @@
 // The table file: its bounds, its rows, its reader and writer.
+mod checks;
+mod reader;
+mod writer;
+
+pub use reader::check;
+pub use reader::read;
+pub use writer::write;
 ghost use mathlib.Core.Path.{_≡_};
 ghost use Prim.Native.Nat.{_+_, _*_, _<_, _≤_};
 ghost use lib.ListN.{length};
-ghost use Rattle.rules.specs.TableFile.{fileTable};
-ghost use Rattle.table.specs.Rows.{IsRow};
+ghost use Rattle.rules.specs.Bounds.{max-elements, max-rows, max-slots};
+ghost use Rattle.rules.specs.TableFile.{headerSize, rowSize, rowNumbers, fileTable};
+ghost use Rattle.table.specs.Rows.{IsHead, IsRow};
 
 // A table: how many elements the ring has, and how many rows.
 pub struct Table {
@@ -23,6 +31,64 @@ impl Table {
     pub const ROW_BYTES: usize = 6;
 
     pub const ROW_NUMBERS: usize = 4;
+    // the header: the mark, and where the version, the elements and the rows stand
+    const MARK: [u8; 3] = [b'R', b'B', b'T'];
+
+    const VERSION: u16 = 1;
+
+    const VERSION_AT: usize = 3;
+
+    const ELEMENTS_AT: usize = 5;
+
+    const ROWS_AT: usize = 6;
+
+    // What a file that has a header says of its table.
+    pub fn of(file: &[u8]) -> Table
+        requires { ⌜ headerSize ≤ length (now file) ⌝ }
+        ensures { λ r. ⌜ IsHead (now (file .entry)) r ⌝ }
+    {
+        Table {
+            elements: wide(file[Table::ELEMENTS_AT]) as usize,
+            rows: wide(file[Table::ROWS_AT]) as usize,
+        }
+    }
+
+    // That the bounds are document 01's.
+    pub fn elements_limit() -> usize
+        ensures { λ r. ⌜ r ≡ max-elements ⌝ }
+    {
+        Table::ELEMENTS
+    }
+
+    pub fn rows_limit() -> usize
+        ensures { λ r. ⌜ r ≡ max-rows ⌝ }
+    {
+        Table::ROWS
+    }
+
+    pub fn slots_limit() -> usize
+        ensures { λ r. ⌜ r ≡ max-slots ⌝ }
+    {
+        Table::SLOTS
+    }
+
+    pub fn header_size() -> usize
+        ensures { λ r. ⌜ r ≡ headerSize ⌝ }
+    {
+        Table::HEADER
+    }
+
+    pub fn row_size() -> usize
+        ensures { λ r. ⌜ r ≡ rowSize ⌝ }
+    {
+        Table::ROW_BYTES
+    }
+
+    pub fn row_numbers() -> usize
+        ensures { λ r. ⌜ r ≡ rowNumbers ⌝ }
+    {
+        Table::ROW_NUMBERS
+    }
 }
 
 // One periodic transfer.
@@ -31,6 +97,56 @@ pub struct Row {
     pub period: u16,
     pub first: u16,
     pub second: u16,
+}
+
+// What a call answers: a refusal number and its place, or twice 0.
+pub struct Answer {
+    pub number: u32,
+    pub place: u32,
+}
+
+impl Answer {
+    pub const DONE: u32 = 0;
+
+    pub const SHORT_FILE: u32 = 1;
+
+    pub const WRONG_MARK: u32 = 2;
+
+    pub const WRONG_VERSION: u32 = 3;
+
+    pub const WRONG_ELEMENTS: u32 = 4;
+
+    pub const WRONG_ROWS: u32 = 5;
+
+    pub const WRONG_LENGTH: u32 = 6;
+
+    pub const WRONG_ENDS: u32 = 7;
+
+    pub const WRONG_PERIOD: u32 = 8;
+
+    pub const WRONG_COST: u32 = 9;
+
+    pub const NO_CUT: u32 = 10;
+
+    pub const LONG_HYPERPERIOD: u32 = 11;
+
+    pub const TIED_SETS: u32 = 12;
+
+    pub const LIGHT_ROW: u32 = 13;
+
+    pub const OVER_BOUND: u32 = 14;
+
+    pub const OFF_STATE: u32 = 15;
+
+    pub const HAS_FINISHED: u32 = 16;
+
+    pub const SHORT_OUTPUT: u32 = 17;
+}
+
+// What the reader returns beside the numbers that it fills in.
+pub struct Reading {
+    pub answer: Answer,
+    pub table: Table,
 }
 
 fn wide(x: u8) -> u16

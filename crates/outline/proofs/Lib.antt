@@ -1,0 +1,4 @@
+pub mod Periods
+pub mod Sets
+pub mod Outlined
+pub mod Listed

@@ -1,0 +1,76 @@
+-- `chain` meets its contract: the rows from row i on are chained.
+use Prim.Native.Nat.{_≤_}
+use native.Mathlib.Omega.{arith}
+use borrow.Author.Needs.{needs}
+use Rattle.numbers.specs.Lists.{at}
+use Rattle.slots.specs.Chained.{ChainedFrom}
+use Rattle.slots.proofs.Chained.{chain-start, chain-more, chain-end}
+use Rattle.slots.proofs.chain.Statement.{statement}
+use Rattle.slots.proofs.chain.Tie as tie
+
+abbrev Inv-loop : tie.InvT-loop
+Inv-loop first rows head₀ next₀ i₀ head next i = (i ≤ rows) × ChainedFrom rows (at first) i head next
+
+abbrev μ-loop : tie.MeasureT-loop
+μ-loop first rows head₀ next₀ i₀ head next i = i
+
+loop-holds : tie.Need-loop-holds Inv-loop μ-loop
+loop-holds c = (omega arith, chain-start _ _)
+
+sub-wide : tie.Need-sub-wide Inv-loop μ-loop
+sub-wide c = omega arith
+
+element-copy-out-wide : tie.Need-element-copy-out-wide Inv-loop μ-loop
+element-copy-out-wide c = omega arith
+
+wide-requires : tie.Need-wide-requires Inv-loop μ-loop
+wide-requires c κs = search needs
+
+array-read-next : tie.Need-array-read-next Inv-loop μ-loop
+array-read-next c = omega arith
+
+sub-next : tie.Need-sub-next Inv-loop μ-loop
+sub-next c = omega arith
+
+array-write-next : tie.Need-array-write-next Inv-loop μ-loop
+array-write-next c = omega arith
+
+cast-head : tie.Need-cast-head Inv-loop μ-loop
+cast-head c = omega arith
+
+array-write-head : tie.Need-array-write-head Inv-loop μ-loop
+array-write-head c = omega arith
+
+sub-i : tie.Need-sub-i Inv-loop μ-loop
+sub-i c = omega arith
+
+loop-less : tie.Need-loop-less Inv-loop μ-loop
+loop-less c = omega arith
+
+loop-again : tie.Need-loop-again Inv-loop μ-loop
+loop-again c =
+    let z = c .wide .ensures in
+    (omega arith, chain-more (c .before .before .before .loop .inv .1) (omega arith) (omega arith) (omega arith) (z .0) (z .1))
+
+returns : tie.Need-returns Inv-loop μ-loop
+returns c = chain-end (c .before .loop .inv .1) (omega arith)
+
+pub chain-spec : {M : Type 1} → statement M
+chain-spec =
+    tie.close
+    (tie.spec
+    Inv-loop
+    μ-loop
+    loop-holds
+    sub-wide
+    element-copy-out-wide
+    wide-requires
+    array-read-next
+    sub-next
+    array-write-next
+    cast-head
+    array-write-head
+    sub-i
+    loop-less
+    loop-again
+    returns)

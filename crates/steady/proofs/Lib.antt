@@ -1,0 +1,3 @@
+pub mod Extra
+pub mod Keeping
+pub mod Steady

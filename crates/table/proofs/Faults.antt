@@ -1,0 +1,285 @@
+-- What the checks of a table say: of its size, of a row, of a whole file.
+--
+-- A file that passes checks 1 to 9 has its mark and its version, and is `Passed`; and the other way round.
+use mathlib.Core.Path.{_≡_, refl, sym, ap, _∙_}
+use mathlib.Core.Logic.{inl, inr, ⊎-elim, _≢_}
+use mathlib.Core.List.{List, [], _∷_, _++_}
+use mathlib.Core.Bool.{Bool, true, false, not}
+use Prim.Native.Nat.{ℕ, _+_, _*_, _≤_, _<_}
+use native.Mathlib.Omega.{arith}
+use native.Mathlib.Decide.{ℕ-discrete}
+use lib.ListN.{length}
+use lib.Seq.{getD-take}
+use borrow.Author.Tests.{not-true, not-false}
+use Rattle.numbers.specs.Lists.{at, each}
+use Rattle.numbers.proofs.Truth.{of-true, le-or-lt}
+use Rattle.rules.specs.Bounds.{max-elements, max-rows, max-slots}
+use Rattle.rules.specs.Bus.{Table}
+use Rattle.rules.specs.TableFile.{table-mark, table-version, headerSize, rowSize, rowNumbers, mark, version, fileTable, memoryTable}
+use Rattle.rules.specs.Refusals.{Check, Answers, wrong-ends, row-checks, header-checks, file-checks}
+use Rattle.rules.proofs.Answers.{None, none-of, none-join, none-left, none-right, none-each, none-at, none-next}
+use Rattle.rules.proofs.Answers.{Numbered, numbered-join, numbered-each, passed, answered, stopped, stopped-at, joined}
+use Rattle.table.specs.declared.Row.{Row}
+use Rattle.table.specs.Sound.{SoundRow, Sound, Passed}
+use Rattle.table.specs.Rows.{IsRow, single, faults, EndsFit}
+use Rattle.table.specs.Sizes.{Decides, size-checks, memory-checks}
+
+-- ---- tests
+
+pub decides-no : {A : Type 0} → (A → ⊥) → Decides A false
+decides-no h = record { holds = λ e. absurd (of-true e); fails = λ e a. h a }
+
+-- what a branch on a test that is not met shows
+
+pub denied : {A : Type 0} {b : Bool} → Decides A b → not b ≡ true → A → ⊥
+denied {b = b} d e = d .fails (not-true b e)
+
+pub granted : {A : Type 0} {b : Bool} → Decides A b → not b ≡ false → A
+granted {b = b} d e = d .holds (not-false b e)
+
+-- ---- a number of which it is refuted that it is out of its limits
+
+pub limits : (x a b : ℕ) → (((a ≤ x) × (x ≤ b) → ⊥) → ⊥) → (a ≤ x) × (x ≤ b)
+limits x a b h = (
+  ⊎-elim (λ l. l) (λ l. absurd (h (λ w. let z : ⊥ = omega arith in z))) (le-or-lt a x),
+  ⊎-elim (λ l. l) (λ l. absurd (h (λ w. let z : ⊥ = omega arith in z))) (le-or-lt x b),
+)
+
+pub equals : (x y : ℕ) → (x ≢ y → ⊥) → x ≡ y
+equals x y h = go (ℕ-discrete x y)
+  where
+    go : Dec (x ≡ y) → x ≡ y
+    go (yes e) = e
+    go (no n) = absurd (h n)
+
+-- ---- no refusal has the number 0
+
+pub faults-numbered : (t : Table) (i : ℕ) → Numbered (faults t i)
+unfolding Numbered
+faults-numbered t i = omega arith
+
+pub rows-numbered : (t : Table) → Numbered (row-checks t)
+unfolding row-checks
+rows-numbered t = numbered-each (faults t) (t .rows) (faults-numbered t)
+
+pub header-numbered : (f : List ℕ) → Numbered (header-checks f)
+unfolding header-checks Numbered
+header-numbered f = omega arith
+
+pub sizes-numbered : (M n has wants : ℕ) → Numbered (size-checks M n has wants)
+unfolding Numbered
+sizes-numbered M n has wants = omega arith
+
+pub file-numbered : (f : List ℕ) → Numbered (file-checks f)
+unfolding file-checks
+file-numbered f = numbered-join (header-checks f) (row-checks (fileTable f)) (header-numbered f) (rows-numbered (fileTable f))
+
+-- ---- one row
+
+-- check 7 does not apply
+pub ends-right : (t : Table) (i : ℕ) → (1 ≤ t .first i) × (t .first i ≤ t .elements) → (1 ≤ t .second i) × (t .second i ≤ t .elements)
+    → t .first i ≢ t .second i → wrong-ends t i .applies → ⊥
+ends-right t i f s d w = ⊎-elim (λ h. h f) (λ v. ⊎-elim (λ h. h s) d v) w
+
+-- what a row alone is refused for, it is refused for in every table that has it
+pub row-found : (M n : ℕ) (r : Row) (t : Table) (i : ℕ) → t .elements ≡ M → IsRow t i r → n ≢ 0
+    → Answers (faults (single M r) 0) n 0 → Answers (faults t i) n i
+unfolding Answers
+row-found M n r t i e q h a =
+    rw (e, ← q .cost, ← q .period, ← q .first, ← q .second)
+    (⊎-elim
+    (λ w. inl (w .0, w .1, refl))
+    (λ v. inr (
+      v .0,
+      ⊎-elim
+          (λ w. inl (w .0, w .1, refl))
+          (λ v. inr (v .0, ⊎-elim (λ w. inl (w .0, w .1, refl)) (λ v. absurd (h (v .1 .0))) (v .1)))
+          (v .1),
+    ))
+    a)
+
+pub row-clean : (M : ℕ) (r : Row) (t : Table) (i : ℕ) → t .elements ≡ M → IsRow t i r
+    → Answers (faults (single M r) 0) 0 0 → None (faults t i)
+unfolding None
+row-clean M r t i e q a =
+    rw (e, ← q .cost, ← q .period, ← q .first, ← q .second) (none-of (faults (single M r) 0) 0 (faults-numbered (single M r) 0) a)
+
+pub row-sound : (t : Table) (i : ℕ) → None (faults t i) → SoundRow t i
+unfolding None
+row-sound t i a =
+    let f = limits (t .first i) 1 (t .elements) (λ w. a .0 (inl w)) in
+    let s = limits (t .second i) 1 (t .elements) (λ w. a .0 (inr (inl w))) in
+    let p = limits (t .period i) 1 max-slots (a .1 .0) in
+    let c = limits (t .cost i) 1 (t .period i) (a .1 .1 .0) in
+    record {
+      first-low = f .0;
+      first-high = f .1;
+      second-low = s .0;
+      second-high = s .1;
+      ends-differ = λ e. a .0 (inr (inr e));
+      period-low = p .0;
+      period-high = p .1;
+      cost-low = c .0;
+      cost-high = c .1;
+    }
+
+pub row-none : (t : Table) (i : ℕ) → SoundRow t i → None (faults t i)
+unfolding None
+row-none t i s = (
+  ends-right t i (s .first-low, s .first-high) (s .second-low, s .second-high) (s .ends-differ),
+  (λ h. h (s .period-low, s .period-high), (λ h. h (s .cost-low, s .cost-high), tt)),
+)
+
+-- ---- the whole table
+
+pub rows-sound : (t : Table) → None (row-checks t) → (i : ℕ) → i < t .rows → SoundRow t i
+unfolding row-checks
+rows-sound t a i l = row-sound t i (none-at (faults t) (t .rows) i l a)
+
+pub rows-none : (t : Table) → ((i : ℕ) → i < t .rows → SoundRow t i) → None (row-checks t)
+unfolding row-checks
+rows-none t h = none-each (faults t) (t .rows) (λ i l. row-none t i (h i l))
+
+pub sizes-right : (M n has wants : ℕ) → None (size-checks M n has wants)
+    → (2 ≤ M) × (M ≤ max-elements) × (1 ≤ n) × (n ≤ max-rows) × (has ≡ wants)
+unfolding None
+sizes-right M n has wants a =
+    let m = limits M 2 max-elements (a .0) in
+    let r = limits n 1 max-rows (a .1 .0) in
+    (m .0, m .1, r .0, r .1, equals has wants (a .1 .1 .0))
+
+pub table-sound : (t : Table) (has wants : ℕ) → None (size-checks (t .elements) (t .rows) has wants) → None (row-checks t) → Sound t
+table-sound t has wants a b =
+    let s = sizes-right (t .elements) (t .rows) has wants a in
+    record { elements-low = s .0; elements-high = s .1; rows-low = s .2; rows-high = s .3; row = rows-sound t b }
+
+pub table-none : (t : Table) (has wants : ℕ) → Sound t → has ≡ wants → None (size-checks (t .elements) (t .rows) has wants)
+unfolding None
+table-none t has wants s e =
+    (λ h. h (s .elements-low, s .elements-high), (λ h. h (s .rows-low, s .rows-high), (λ n. n e, tt)))
+
+-- ---- the mark
+
+pub mark-of : (f : List ℕ) → 3 ≤ length f → at f 0 ≡ 0x52 → at f 1 ≡ 0x42 → at f 2 ≡ 0x54 → mark f ≡ table-mark
+mark-of [] l a b c = absurd (let z : ⊥ = omega arith in z)
+mark-of (x ∷ []) l a b c = absurd (let z : ⊥ = omega arith in z)
+mark-of (x ∷ y ∷ []) l a b c = absurd (let z : ⊥ = omega arith in z)
+mark-of (x ∷ y ∷ z ∷ f) l a b c = rw (a, b, c)
+
+pub mark-at : (f : List ℕ) (k : ℕ) → k < 3 → mark f ≡ table-mark → at f k ≡ at table-mark k
+mark-at f k l e = sym (getD-take 3 f k 0 l) ∙ ap (λ (g : List ℕ). at g k) e
+
+pub mark-right : (f : List ℕ) → 3 ≤ length f → (mark f ≢ table-mark → ⊥) → mark f ≡ table-mark
+mark-right f l h =
+    mark-of f l
+    (equals (at f 0) 0x52 (λ n. h (λ e. n (mark-at f 0 (omega arith) e))))
+    (equals (at f 1) 0x42 (λ n. h (λ e. n (mark-at f 1 (omega arith) e))))
+    (equals (at f 2) 0x54 (λ n. h (λ e. n (mark-at f 2 (omega arith) e))))
+
+-- ---- the whole file
+
+-- what passing checks 1 to 6 says, with checks 4 to 6 by themselves
+pub header-split : (f : List ℕ) → None (header-checks f)
+    → (headerSize ≤ length f) × (mark f ≡ table-mark) × (version f ≡ table-version)
+    × None (size-checks (fileTable f .elements) (fileTable f .rows) (length f) (headerSize + rowSize * fileTable f .rows))
+unfolding header-checks None
+header-split f a =
+    let l : headerSize ≤ length f = ⊎-elim (λ h. h) (λ h. absurd (a .0 h)) (le-or-lt headerSize (length f)) in
+    (l, mark-right f (omega arith) (a .1 .0), equals (version f) table-version (a .1 .1 .0), a .1 .1 .1)
+
+-- past checks 1 to 3 the size decides
+pub header-rest : (f : List ℕ) (n : ℕ) → headerSize ≤ length f → mark f ≡ table-mark → version f ≡ table-version
+    → Answers (size-checks (fileTable f .elements) (fileTable f .rows) (length f) (headerSize + rowSize * fileTable f .rows)) n 0
+    → Answers (header-checks f) n 0
+unfolding header-checks
+header-rest f n l m v a =
+    passed _ _ n 0 (λ (h : length f < headerSize). let z : ⊥ = omega arith in z) (passed _ _ n 0 (λ h. h m) (passed _ _ n 0 (λ h. h v) a))
+
+pub header-size : (f : List ℕ) → None (header-checks f) → length f ≡ headerSize + rowSize * fileTable f .rows
+header-size f a = sizes-right _ _ _ _ (header-split f a .3) .4
+
+pub passed-none : (f : List ℕ) → None (file-checks f) → Passed f
+unfolding file-checks
+passed-none f a =
+    let h = none-left (header-checks f) (row-checks (fileTable f)) a in
+    record {
+      size = header-size f h;
+      sound = table-sound (fileTable f) _ _ (header-split f h .3) (none-right (header-checks f) (row-checks (fileTable f)) a);
+    }
+
+pub passed-of : (f : List ℕ) (p : ℕ) → Answers (file-checks f) 0 p → Passed f
+passed-of f p a = passed-none f (none-of (file-checks f) p (file-numbered f) a)
+
+pub none-passed : (f : List ℕ) → mark f ≡ table-mark → version f ≡ table-version → Passed f → None (file-checks f)
+unfolding file-checks header-checks None
+none-passed f m v p =
+    none-join (header-checks f) (row-checks (fileTable f)) (
+      λ (l : length f < headerSize). let z : ⊥ = omega (arith, p .size) in z,
+      (λ h. h m, (λ h. h v, table-none (fileTable f) (length f) (headerSize + rowSize * fileTable f .rows) (p .sound) (p .size))),
+    )
+    (rows-none (fileTable f) (p .sound .row))
+
+-- ---- rows checked one after the other
+
+-- the rows below i are there and have no fault
+pub record Checked (t : Table) (i : ℕ) : Type 0 where
+  pub there : i ≤ t .rows
+  pub clear : None (each i (faults t))
+
+pub checked-start : (t : Table) → Checked t 0
+unfolding each None
+checked-start t = record { there = omega arith; clear = tt }
+
+module _ {t : Table} {i : ℕ} (M n : ℕ) {r : Row} (e : t .elements ≡ M) (q : IsRow t i r) (a : Answers (faults (single M r) 0) n 0) where
+  pub checked-next : Checked t i → i < t .rows → n ≡ 0 → Checked t (i + 1)
+  checked-next c l z = record {
+    there = omega arith;
+    clear = none-next (faults t) i (c .clear) (row-clean M r t i e q (rw z at a));
+  }
+
+  pub checked-stop : Checked t i → i < t .rows → n ≢ 0 → Answers (row-checks t) n i
+  unfolding row-checks
+  checked-stop c l h = stopped-at (faults t) (t .rows) i n i l h (c .clear) (row-found M n r t i e q h a)
+
+pub checked-end : {t : Table} {i : ℕ} → Checked t i → t .rows ≤ i → Answers (row-checks t) 0 0
+unfolding row-checks
+checked-end {t} {i} c l =
+    let e : i ≡ t .rows = omega (arith, c .there) in
+    answered (each (t .rows) (faults t)) (rw e at (c .clear))
+
+-- ---- a table in memory
+
+module _ (M n : ℕ) (xs : List ℕ) where
+  abbrev t : Table
+  t = memoryTable M n xs
+
+  abbrev sizes : List Check
+  sizes = size-checks M n (length xs) (rowNumbers * n)
+
+  pub memory-stopped : (m : ℕ) → m ≢ 0 → Answers sizes m 0 → Answers (memory-checks M n xs) m 0
+  unfolding memory-checks
+  memory-stopped m h a = stopped sizes (row-checks t) m 0 h a
+
+  pub memory-joined : (m p : ℕ) → None sizes → Answers (row-checks t) m p → Answers (memory-checks M n xs) m p
+  unfolding memory-checks
+  memory-joined m p a b = joined sizes (row-checks t) m p a b
+
+  pub memory-numbered : Numbered (memory-checks M n xs)
+  unfolding memory-checks
+  memory-numbered = numbered-join sizes (row-checks t) (sizes-numbered M n (length xs) (rowNumbers * n)) (rows-numbered t)
+
+  pub memory-sound : None (memory-checks M n xs) → Sound t × (length xs ≡ rowNumbers * n)
+  unfolding memory-checks
+  memory-sound a =
+      let s = none-left sizes (row-checks t) a in
+      (table-sound t (length xs) (rowNumbers * n) s (none-right sizes (row-checks t) a), sizes-right M n (length xs) (rowNumbers * n) s .4)
+
+  pub memory-none : Sound t → length xs ≡ rowNumbers * n → None (memory-checks M n xs)
+  unfolding memory-checks
+  memory-none s e = none-join sizes (row-checks t) (table-none t (length xs) (rowNumbers * n) s e) (rows-none t (s .row))
+
+  pub ends-fit : Sound t → EndsFit (memoryTable 0 n xs)
+  ends-fit s = record {
+    first = λ i l. let r = s .row i l in omega (arith, r .first-high, s .elements-high);
+    second = λ i l. let r = s .row i l in omega (arith, r .second-high, s .elements-high);
+  }

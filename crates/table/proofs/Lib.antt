@@ -1,0 +1,5 @@
+pub mod Faults
+pub mod Fills
+pub mod Calls
+pub mod Codec
+pub mod RoundTrip

@@ -1,0 +1,64 @@
+-- `table::writer::check_row_numbers` meets its contract.
+use mathlib.Core.Path.{refl}
+use Prim.Native.Nat.{_-_}
+use native.Mathlib.Omega.{arith}
+use borrow.Author.Needs.{needs}
+use Rattle.rules.specs.TableFile.{memoryTable}
+use Rattle.table.proofs.Faults.{Checked, checked-start, checked-next, checked-stop, checked-end}
+use Rattle.table.proofs.writer.check_row_numbers.Statement.{statement}
+use Rattle.table.proofs.writer.check_row_numbers.Tie as tie
+
+abbrev Inv-loop : tie.InvT-loop
+Inv-loop elements rows numbers i₀ i = Checked (memoryTable elements rows numbers) i
+
+abbrev μ-loop : tie.MeasureT-loop
+μ-loop elements rows numbers i₀ i = rows - i
+
+loop-holds : tie.Need-loop-holds Inv-loop μ-loop
+loop-holds c = checked-start _
+
+row-of-requires : tie.Need-row-of-requires Inv-loop μ-loop
+row-of-requires c κs = omega (arith, c .before .before .before .pre .1)
+
+row-fault-requires : tie.Need-row-fault-requires Inv-loop μ-loop
+row-fault-requires c κs = search needs
+
+cast-t8 : tie.Need-cast-t8 Inv-loop μ-loop
+cast-t8 c = omega (arith, c .before .before .before .before .before .before .pre .0)
+
+returns : tie.Need-returns Inv-loop μ-loop
+returns c =
+    let a = c .before .before .before .before .before .before .args in
+    checked-stop _ _ refl (c .before .before .row-of .ensures (a .elements) (a .rows)) (c .before .row-fault .ensures)
+    (c .before .before .before .before .loop .inv) (c .before .before .before .loop-test .taken) (c .if1 .taken)
+
+add-i : tie.Need-add-i Inv-loop μ-loop
+add-i c = search needs
+
+loop-less : tie.Need-loop-less Inv-loop μ-loop
+loop-less c = search needs
+
+loop-again : tie.Need-loop-again Inv-loop μ-loop
+loop-again c =
+    let a = c .before .before .before .before .before .before .args in
+    checked-next _ _ refl (c .before .before .row-of .ensures (a .elements) (a .rows)) (c .before .row-fault .ensures)
+    (c .before .before .before .before .loop .inv) (c .before .before .before .loop-test .taken) (c .if1 .left)
+
+returns-2 : tie.Need-returns-2 Inv-loop μ-loop
+returns-2 c = checked-end (c .before .loop .inv) (omega arith)
+
+pub check-row-numbers-spec : {M : Type 1} → statement M
+check-row-numbers-spec =
+    tie.close
+    (tie.spec
+    Inv-loop
+    μ-loop
+    loop-holds
+    row-of-requires
+    row-fault-requires
+    cast-t8
+    returns
+    add-i
+    loop-less
+    loop-again
+    returns-2)
