@@ -3,9 +3,9 @@
 --   None cs            no check of cs applies
 --   Numbered cs        every check of cs has a number above 0
 use mathlib.Core.Path.{_≡_, refl, sym, _∙_}
-use mathlib.Core.Logic.{inl, inr, ⊎-elim, _≢_}
+use mathlib.Core.Logic.{inl, inr, ⊎-elim, _≢_, _⊎_}
 use mathlib.Core.List.{List, [], _∷_, _++_}
-use Prim.Native.Nat.{ℕ, zero, suc, _+_, _<_}
+use Prim.Native.Nat.{ℕ, zero, suc, _+_, _<_, _≤_}
 use native.Mathlib.Nat.{not-suc-le-zero, le-refl}
 use native.Mathlib.Numerals.{add-one}
 use native.Mathlib.Omega.{arith}
@@ -125,3 +125,35 @@ answers-only (c ∷ cs) m n p q r s =
     (λ a. ⊎-elim (λ b. (a .1 ∙ sym (b .1), a .2 ∙ sym (b .2))) (λ b. absurd (b .0 (a .0))) s)
     (λ a. ⊎-elim (λ b. absurd (a .0 (b .0))) (λ b. answers-only cs m n p q (a .1) (b .1)) s)
     r
+
+-- ---- how large number and place can be
+
+-- the first list refuses, or it gives none and the second decides
+pub answers-split : (cs ds : List Check) (n p : ℕ) → Answers (cs ++ ds) n p → Answers cs n p ⊎ (None cs × Answers ds n p)
+unfolding Answers None
+answers-split [] ds n p r = inr (tt, r)
+answers-split (c ∷ cs) ds n p r =
+    ⊎-elim (λ w. inl (inl w))
+    (λ w. ⊎-elim (λ a. inl (inr (w .0, a))) (λ a. inr ((w .0, a .0), a .1)) (answers-split cs ds n p (w .1)))
+    r
+
+-- every check of cs has a number up to b and a place up to d
+unfoldable pub Fit : ℕ → ℕ → List Check → Type 0
+Fit b d [] = Unit {0}
+Fit b d (c ∷ cs) = (c .number ≤ b) × (c .place ≤ d) × Fit b d cs
+
+pub answers-fit : (b d : ℕ) (cs : List Check) (n p : ℕ) → Fit b d cs → Answers cs n p → (n ≤ b) × (p ≤ d)
+unfolding Answers Fit
+answers-fit b d [] n p f r = (omega (arith, r .0), omega (arith, r .1))
+answers-fit b d (c ∷ cs) n p f r =
+    ⊎-elim (λ w. (omega (arith, w .1, f .0), omega (arith, w .2, f .1))) (λ w. answers-fit b d cs n p (f .2) (w .1)) r
+
+pub fit-join : (b d : ℕ) (cs ds : List Check) → Fit b d cs → Fit b d ds → Fit b d (cs ++ ds)
+unfolding Fit
+fit-join b d [] ds f g = g
+fit-join b d (c ∷ cs) ds f g = (f .0, f .1, fit-join b d cs ds (f .2) g)
+
+pub fit-each : (b d : ℕ) (f : ℕ → List Check) (n : ℕ) → ((i : ℕ) → i < n → Fit b d (f i)) → Fit b d (each n f)
+unfolding each Fit
+fit-each b d f zero h = tt
+fit-each b d f (suc n) h = fit-join b d (each n f) (f n) (fit-each b d f n (λ i l. h i (omega arith))) (h n (le-refl (suc n)))

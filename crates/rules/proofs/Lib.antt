@@ -1,4 +1,5 @@
 pub mod Answers
+pub mod Small
 pub mod Interval
 pub mod Sets
 pub mod Verdict
