@@ -1,0 +1,101 @@
+-- One interval as the code does it: shares, loads, slots and totals, each from what the one before it gives.
+use mathlib.Core.Path.{_≡_, sym, ap, ap₂, _∙_}
+use mathlib.Core.List.{List}
+use Prim.Native.Nat.{ℕ, _+_, _-_, _*_, _≤_, _<_}
+use native.Mathlib.Omega.{arith}
+use lib.ListN.{length, take}
+use Rattle.numbers.specs.Lists.{at}
+use Rattle.rules.specs.Bounds.{max-rows, max-slots}
+use Rattle.rules.specs.Bus.{Table}
+use Rattle.rules.specs.Line.{meet}
+use Rattle.rules.specs.Loads.{hyperperiod, start, end, intervals, share}
+use Rattle.rules.specs.Interval.{SlotWords}
+use Rattle.outline.specs.Outlined.{ByRow}
+use Rattle.lags.specs.Lags.{Steady}
+use Rattle.lags.proofs.Intervals.{end-far}
+use Rattle.loads.specs.Loads.{Spans, Lags, Greatest}
+use Rattle.loads.specs.Laid.{Laid}
+use Rattle.loads.specs.declared.Network.{Network}
+use Rattle.slots.specs.Chained.{all-heads, Chained}
+use Rattle.slots.specs.Filled.{FilledSlots}
+use Rattle.interval.specs.Interval.{Added}
+use Rattle.interval.specs.Ready.{Ready, Advanced}
+use Rattle.interval.proofs.Choice.{share-small, total-small, lags-of, chosen-qualify, moved-of}
+use Rattle.interval.proofs.RowSets.{list-length, ranged-low, ranged-high, ranged-spans}
+use Rattle.interval.proofs.Ready.{ready-words, ready-share}
+
+module _ {t : Table} {rows sets top hyper : ℕ} {first second rate from to : List ℕ} {net : Network} {head next : List ℕ}
+    (R : Ready t rows sets top hyper first second rate from to net head next) where
+  -- ---- what is laid, for the code's counts
+
+  pub few-rows : rows ≤ max-rows
+  few-rows = omega (arith, R .row-count, R .admissible .sound .rows-high)
+
+  -- a byte holds each of the line's elements
+  pub low-top : top < all-heads
+  low-top = omega (arith, R .top-end, R .admissible .sound .elements-high)
+
+  pub spans-laid : Spans rows sets (at from) (at to)
+  spans-laid = rw (R .row-count) (ranged-spans (R .admissible) (R .list) (R .room) (R .ranged))
+
+  pub network-laid : Laid rows sets (at from) (at to) net
+  network-laid = rw (R .row-count) (R .laid)
+
+  pub chains-laid : Chained rows (at first) head next
+  chains-laid = rw (R .row-count) (R .chained)
+
+  module _ {k b e : ℕ} (in-range : k < intervals t) (begins : b ≡ start t k) (ends : e ≡ end t k) where
+    pub ends-after : b ≤ e
+    ends-after = omega (arith, end-far (R .admissible .sound) k in-range)
+
+    -- ---- the shares
+
+    row-share : (i : ℕ) → i < t .rows → at rate i * e ≡ share t i (end t k)
+    row-share i l = ap (λ (s : ℕ). at rate i * s) ends ∙ ready-share R i (end t k) l
+
+    pub shares-fit : (i : ℕ) → i < rows → at rate i * e ≤ max-slots * max-slots
+    shares-fit i l =
+        let m : i < t .rows = omega (arith, R .row-count) in
+        omega (arith, row-share i m, share-small (R .admissible) in-range i m)
+
+    module _ {had : ℕ → ℕ} (st : Steady t b had) {shares : List ℕ} (S : ByRow rows (λ i. at rate i * e) shares) where
+      steady : Steady t (start t k) had
+      steady = rw begins at st
+
+      shares-are : (i : ℕ) → i < t .rows → at shares i ≡ share t i (end t k)
+      shares-are i l = S .row i (omega (arith, R .row-count)) ∙ row-share i l
+
+      -- ---- the loads
+
+      pub lags-fit : Lags rows hyper (at shares) had
+      lags-fit = rw (R .row-count, R .hyper-is) (lags-of (R .admissible) in-range steady (at shares) shares-are)
+
+      module _ {x : ℕ → ℕ} (G : Greatest rows sets (at from) (at to) hyper (at shares) had x) where
+        chosen : Greatest (t .rows) (length (take sets (R .words))) (at from) (at to) (hyperperiod t) (at shares) had x
+        chosen = rw (list-length (R .room) (R .ranged)) (rw (R .row-count, R .hyper-is) at G)
+
+        pub totals-fit : (i : ℕ) → i < rows → had i + x i ≤ max-slots
+        totals-fit i l =
+            total-small (R .admissible) in-range
+            (chosen-qualify (R .admissible) in-range steady (at shares) shares-are (R .list) (at from) (at to)
+            (ranged-low (R .room) (R .ranged)) (ranged-high (R .room) (R .ranged)) chosen)
+            i (omega (arith, R .row-count))
+
+        -- ---- the slots and the totals
+
+        pub advanced-of : {totals now was out : List ℕ} → had ≡ at totals → length now ≡ max-rows
+            → FilledSlots rows (at first) (at second) x (e - b) was out → Added rows had x (at now) → Advanced t k totals now was out
+        advanced-of {totals} {now} {was} {out} h n F D =
+            let long : e - b ≡ end t k - start t k = ap₂ _-_ ends begins in
+            let W : SlotWords (t .rows) (meet (at first) (at second)) (at first) x (end t k - start t k) (take (end t k - start t k) out) =
+            rw (R .row-count, long) at (F .words) in
+            record {
+              size = n;
+              moved =
+                  rw (sym h)
+                  (moved-of (R .admissible) in-range steady (at shares) shares-are (R .list) (at from) (at to)
+                  (ranged-low (R .room) (R .ranged)) (ranged-high (R .room) (R .ranged)) chosen
+                  (at now) (take (end t k - start t k) out) (ready-words R W)
+                  (λ i l. D .rows i (omega (arith, R .row-count))) (λ i l. D .spare i (omega (arith, R .row-count))));
+              kept = rw long at (F .kept);
+            }

@@ -1,0 +1,6 @@
+pub mod Moved
+pub mod RowSets
+pub mod Choice
+pub mod Fill
+pub mod Ready
+pub mod Course

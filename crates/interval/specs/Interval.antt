@@ -1,0 +1,27 @@
+-- One planning interval of a table, done: what `advance` gives.
+--
+--   Moved t k had now ws    interval k takes rows that have had `had` slots to `now`, writing the words ws, by the loads that are greatest
+--                           in the order of rows among those that qualify
+--   Added n had x now       n rows have had the slots x more
+--
+-- Only one ws fits, and only one `now` (proofs/Moved).
+use mathlib.Core.Path.{_≡_}
+use mathlib.Core.List.{List}
+use Prim.Native.Nat.{ℕ, _+_, _-_, _≤_, _<_}
+use Rattle.rules.specs.Bus.{Table, overlap}
+use Rattle.rules.specs.Line.{lineFirst}
+use Rattle.rules.specs.Loads.{start, end}
+use Rattle.rules.specs.Interval.{Qualify, SlotWords}
+
+-- Row 0's load is the greatest that any qualifying loads have, among those row 1's, and so on.
+pub record Moved (t : Table) (k : ℕ) (had now : ℕ → ℕ) (ws : List ℕ) : Type 0 where
+  pub loads : ℕ → ℕ
+  pub qualify : Qualify t k had loads
+  pub greatest : (z : ℕ → ℕ) → Qualify t k had z → (i : ℕ) → i < t .rows → ((j : ℕ) → j < i → z j ≡ loads j) → z i ≤ loads i
+  pub words : SlotWords (t .rows) (overlap t) (lineFirst t) loads (end t k - start t k) ws
+  pub moved : (i : ℕ) → i < t .rows → now i ≡ had i + loads i
+  pub spare : (i : ℕ) → t .rows ≤ i → now i ≡ had i
+
+pub record Added (n : ℕ) (had x now : ℕ → ℕ) : Type 0 where
+  pub rows : (i : ℕ) → i < n → now i ≡ had i + x i
+  pub spare : (i : ℕ) → n ≤ i → now i ≡ had i

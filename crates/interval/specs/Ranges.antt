@@ -1,0 +1,23 @@
+-- Which of the listed overlap sets a row is in. A row's sets are consecutive, so the lowest and the highest of them say it.
+--
+--   lowestSet K ws i        the lowest of K sets that row i is in, or K where it is in none
+--   highestSet K ws i       the highest, or 0 where it is in none
+--   Ranged n K ws from to   the arrays hold the lowest and the highest set of each of n rows
+--
+-- Only one pair of arrays fits (proofs/RowSets, `ranged-only`).
+use mathlib.Core.List.{List}
+use Prim.Native.Nat.{ℕ}
+use Rattle.numbers.specs.Finite.{lowest, highest}
+use Rattle.numbers.specs.Word.{bit}
+use Rattle.numbers.specs.Lists.{at}
+use Rattle.outline.specs.Outlined.{ByRow}
+
+abbrev pub lowestSet : ℕ → List ℕ → ℕ → ℕ
+lowestSet K ws i = lowest K (λ k. bit (at ws k) i)
+
+abbrev pub highestSet : ℕ → List ℕ → ℕ → ℕ
+highestSet K ws i = highest K (λ k. bit (at ws k) i)
+
+pub record Ranged (n K : ℕ) (ws from to : List ℕ) : Type 0 where
+  pub lowest : ByRow n (lowestSet K ws) from
+  pub highest : ByRow n (highestSet K ws) to

@@ -1,0 +1,158 @@
+// One planning interval of an admitted table: from totals that keep step at its first slot to its loads, its words and the totals after it
+// (document 01, "Loads of one interval, and its slots").
+ghost use mathlib.Core.Path.{_≡_};
+ghost use Prim.Native.Nat.{ℕ, _+_, _-_, _*_, _≤_, _<_};
+ghost use lib.ListN.{length};
+ghost use Rattle.numbers.specs.Lists.{at};
+ghost use Rattle.rules.specs.Bounds.{max-rows, max-slots};
+ghost use Rattle.rules.specs.TableFile.{fileTable};
+ghost use Rattle.rules.specs.Loads.{intervals};
+ghost use Rattle.rules.specs.Loads as loads;
+ghost use Rattle.outline.specs.Outlined.{ByRow};
+ghost use Rattle.lags.specs.Lags.{Steady};
+ghost use Rattle.interval.specs.Ranges.{lowestSet, highestSet, Ranged};
+ghost use Rattle.interval.specs.Interval.{Added};
+ghost use Rattle.interval.specs.Ready.{Ready, Advanced};
+use loads::Network;
+use slots::Chains;
+use table::Table;
+
+// ---- the sets of each row
+
+// The lowest set that row `i` is in; `sets` where it is in none.
+fn lowest_set(words: &[u64; Table::ROWS], sets: usize, i: usize) -> u8
+    requires { ⌜ (sets ≤ max-rows) × (i < max-rows) ⌝ }
+    ensures { λ r. ⌜ r ≡ lowestSet sets (now (words .entry)) i ⌝ }
+{
+    let mut k: usize = 0;
+    while k < sets {
+        if (words[k] >> i) % 2 == 1 {
+            return k as u8;
+        }
+        k += 1;
+    }
+    k as u8
+}
+
+// The highest set that row `i` is in; 0 where it is in none.
+fn highest_set(words: &[u64; Table::ROWS], sets: usize, i: usize) -> u8
+    requires { ⌜ (sets ≤ max-rows) × (i < max-rows) ⌝ }
+    ensures { λ r. ⌜ r ≡ highestSet sets (now (words .entry)) i ⌝ }
+{
+    let mut k: usize = sets;
+    while k > 0 {
+        k -= 1;
+        if (words[k] >> i) % 2 == 1 {
+            return k as u8;
+        }
+    }
+    0
+}
+
+// The lowest and the highest set of each row; 0 past the last row.
+pub struct Ranges {
+    pub from: [u8; Table::ROWS],
+    pub to: [u8; Table::ROWS],
+}
+
+pub fn ranges_of(rows: usize, sets: usize, words: &[u64; Table::ROWS]) -> Ranges
+    requires { ⌜ (rows ≤ max-rows) × (sets ≤ max-rows) ⌝ }
+    ensures { λ r. ⌜ Ranged rows sets (now (words .entry)) (r .from) (r .to) ⌝ }
+{
+    let mut from = [0u8; Table::ROWS];
+    let mut to = [0u8; Table::ROWS];
+    let mut i: usize = 0;
+    while i < rows {
+        from[i] = lowest_set(words, sets, i);
+        to[i] = highest_set(words, sets, i);
+        i += 1;
+    }
+    Ranges { from, to }
+}
+
+// ---- shares and totals
+
+// The rows' shares at slot `slot`.
+fn shares(rate: &[u64; Table::ROWS], rows: usize, slot: u64) -> [u64; Table::ROWS]
+    requires { ⌜ (rows ≤ max-rows) × ((i : ℕ) → i < rows → at (now rate) i * slot ≤ max-slots * max-slots) ⌝ }
+    ensures { λ r. ⌜ ByRow rows (λ i. at (now (rate .entry)) i * slot) r ⌝ }
+{
+    let mut share = [0u64; Table::ROWS];
+    let mut i: usize = 0;
+    while i < rows {
+        share[i] = rate[i] * slot;
+        i += 1;
+    }
+    share
+}
+
+// The totals after the loads.
+fn add_loads(
+    totals: [u64; Table::ROWS],
+    loads: &[u64; Table::ROWS],
+    rows: usize,
+) -> [u64; Table::ROWS]
+    requires { ⌜ (rows ≤ max-rows) × ((i : ℕ) → i < rows → at totals i + at (now loads) i ≤ max-slots) ⌝ }
+    ensures { λ r. ⌜ (length r ≡ max-rows) × Added rows (at totals) (at (now (loads .entry))) (at r) ⌝ }
+{
+    let mut after = totals;
+    let mut i: usize = 0;
+    while i < rows {
+        after[i] = after[i] + loads[i];
+        i += 1;
+    }
+    after
+}
+
+// ---- the interval
+
+// Does interval `interval` of the table in `file`, which runs from slot `start` up to slot `end`: writes its words to the front of
+// `words`, and gives the totals after it. `file` and `interval` only say which interval it is; from `rows` to `next` all is laid once for
+// the table.
+// `last` is lent for the work: what it holds before and after says nothing.
+pub fn advance(
+    file: &[u8],
+    interval: usize,
+    start: usize,
+    end: usize,
+    rows: usize,
+    sets: usize,
+    top: usize,
+    hyper: u64,
+    first: &[u8; Table::ROWS],
+    second: &[u8; Table::ROWS],
+    rate: &[u64; Table::ROWS],
+    from: &[u8; Table::ROWS],
+    to: &[u8; Table::ROWS],
+    net: Network,
+    head: &[u8; Chains::HEADS],
+    next: &[u8; Table::ROWS],
+    totals: [u64; Table::ROWS],
+    last: &mut [u8],
+    words: &mut [u64],
+) -> [u64; Table::ROWS]
+    requires { ⌜ Ready (fileTable (now file)) rows sets top hyper (now first) (now second) (now rate) (now from) (now to) net
+        (now head) (now next)
+        × (interval < intervals (fileTable (now file)))
+        × (start ≡ loads.start (fileTable (now file)) interval) × (end ≡ loads.end (fileTable (now file)) interval)
+        × Steady (fileTable (now file)) start (at totals)
+        × (end - start ≤ length (now last)) × (end - start ≤ length (now words)) ⌝ }
+    ensures { λ r. ⌜ Advanced (fileTable (now (file .entry))) interval totals r (now (words .entry)) (now (words .exit))
+        × (length (now (last .exit)) ≡ length (now (last .entry))) ⌝ }
+{
+    let share = shares(rate, rows, end as u64);
+    let load = loads::choose(net, from, to, rows, sets, hyper, &share, &totals);
+    slots::fill(
+        first,
+        second,
+        head,
+        next,
+        &load,
+        rows,
+        top,
+        end - start,
+        last,
+        words,
+    );
+    add_loads(totals, &load, rows)
+}

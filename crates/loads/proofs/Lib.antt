@@ -1,0 +1,4 @@
+pub mod Extra
+pub mod Line
+pub mod Filling
+pub mod Choice

@@ -1,0 +1,49 @@
+-- The loads of one interval, for n rows and K sets. Row i belongs to the consecutive sets a i, .., b i.
+--
+--   covers a b k            a row of the sets a, .., b belongs to set k
+--   inSet a b k             the rows of set k
+--   share-most, lag-most    no row's share, and no set's lag, is above these, in units of 1 / h
+--   Spans n K a b           n rows and K sets, few enough, and every row's sets are among them
+--   Lags n h share had      no row has had more slots than its share, which is in units of 1 / h
+--   Qualified               x are loads that qualify: with the slots already had, every row's and every set's sum is its share rounded
+--   Greatest                of all that qualify, x are the loads in which row 0's is greatest, among those row 1's, and so on
+use mathlib.Core.Path.{_≡_}
+use mathlib.Core.Bool.{Bool, _&&_}
+use Prim.Native.Nat.{ℕ, _+_, _*_, _≤_, _<_}
+use lib.Dec.{leb}
+use Rattle.numbers.specs.Finite.{sumIn}
+use Rattle.numbers.specs.Rounding.{Rounded}
+use Rattle.rules.specs.Bounds.{max-rows, max-slots}
+
+abbrev pub covers : ℕ → ℕ → ℕ → Bool
+covers a b k = leb a k && leb k b
+
+abbrev pub inSet : (a b : ℕ → ℕ) → ℕ → ℕ → Bool
+inSet a b k i = covers (a i) (b i) k
+
+pub record Spans (n K : ℕ) (a b : ℕ → ℕ) : Type 0 where
+  pub few-rows : n ≤ max-rows
+  pub few-sets : K ≤ max-rows
+  pub row : (i : ℕ) → i < n → (a i ≤ b i) × (b i < K)
+
+-- A row's share is its part of at most max-slots slots, of at most max-slots units each.
+abbrev pub share-most : ℕ
+share-most = max-slots * max-slots
+
+abbrev pub lag-most : ℕ
+lag-most = max-rows * share-most
+
+pub record Lags (n h : ℕ) (share had : ℕ → ℕ) : Type 0 where
+  pub some : 0 < h
+  pub fits : h ≤ max-slots
+  pub row : (i : ℕ) → i < n → (had i * h ≤ share i) × (share i ≤ share-most)
+
+pub record Qualified (n K : ℕ) (a b : ℕ → ℕ) (h : ℕ) (share had x : ℕ → ℕ) : Type 0 where
+  pub rows : (i : ℕ) → i < n → Rounded (had i + x i) (share i) h
+  pub sets : (k : ℕ) → k < K → Rounded (sumIn n (inSet a b k) had + sumIn n (inSet a b k) x) (sumIn n (inSet a b k) share) h
+
+-- Only one x fits (proofs/Choice).
+pub record Greatest (n K : ℕ) (a b : ℕ → ℕ) (h : ℕ) (share had x : ℕ → ℕ) : Type 0 where
+  pub qualified : Qualified n K a b h share had x
+  pub greatest : (z : ℕ → ℕ) → Qualified n K a b h share had z → (i : ℕ) → i < n → ((j : ℕ) → j < i → z j ≡ x j) → z i ≤ x i
+  pub past : (i : ℕ) → n ≤ i → x i ≡ 0
