@@ -1,0 +1,9 @@
+pub mod Chosen
+pub mod State
+pub mod Off
+pub mod Course
+pub mod Checks
+pub mod Laying
+pub mod Answering
+pub mod Only
+pub mod Promises

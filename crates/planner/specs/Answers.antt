@@ -1,0 +1,41 @@
+-- What the planner's calls answer. `was` and `now` are what the lent slice holds before and after.
+--
+--   StepAnswer f p r was now   a step of p with file f answers r
+--   StandingsAnswer f p r      the standings of p with file f are r
+--   PlanAnswer f r was now     the whole plan of file f answers r
+--
+-- Each holds what document 01 says of the call, and beside it which of the steps that document 01 allows is taken. Only one answer fits
+-- (proofs/Only).
+use mathlib.Core.Path.{_≡_}
+use mathlib.Core.Logic.{_≢_}
+use mathlib.Core.List.{List}
+use Prim.Native.Nat.{ℕ}
+use lib.IntN.{pos}
+use lib.ListN.{length, getD}
+use Rattle.rules.specs.Bounds.{max-rows}
+use Rattle.rules.specs.TableFile.{fileTable}
+use Rattle.rules.specs.Loads.{intervals}
+use Rattle.rules.specs.Planner as rules
+use Rattle.rules.specs.Calls.{lent, Planned, Stepped, Stood}
+use Rattle.table.specs.declared.Answer.{Answer}
+use Rattle.planner.specs.declared.Planner.{Planner}
+use Rattle.planner.specs.declared.MovedOn.{MovedOn}
+use Rattle.planner.specs.declared.Standings.{Standings}
+use Rattle.planner.specs.State.{plannerOf}
+use Rattle.planner.specs.Chosen.{Chosen, ChosenRun}
+
+-- A refusal hands back the very planner it was given.
+pub record StepAnswer (f : List ℕ) (p : Planner) (r : MovedOn) (was now : List ℕ) : Type 0 where
+  pub stepped : Stepped f (plannerOf p) (plannerOf (r .planner)) was now (r .number) (r .place)
+  pub chosen : r .number ≡ 0 → (ws : List ℕ) × Chosen (fileTable f) (plannerOf p) (plannerOf (r .planner)) ws × (now ≡ lent ws was)
+  pub same : r .number ≢ 0 → r .planner ≡ p
+  pub size : length (r .planner .totals) ≡ max-rows
+
+pub record StandingsAnswer (f : List ℕ) (p : Planner) (r : Standings) : Type 0 where
+  pub stood : Stood f (plannerOf p) (λ i. getD (r .values) i (pos 0)) (r .number) (r .place)
+  pub size : length (r .values) ≡ max-rows
+
+pub record PlanAnswer (f : List ℕ) (r : Answer) (was now : List ℕ) : Type 0 where
+  pub planned : Planned f was now (r .number) (r .place)
+  pub chosen : r .number ≡ 0
+      → (q : rules.Planner) × (ws : List ℕ) × ChosenRun (fileTable f) (intervals (fileTable f)) q ws × (now ≡ lent ws was)

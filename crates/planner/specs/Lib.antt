@@ -1,0 +1,4 @@
+pub mod State
+pub mod Chosen
+pub mod Answers
+pub mod Promises

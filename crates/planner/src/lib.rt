@@ -1,0 +1,280 @@
+// The planner (document 01, "The planner"): a step, the standings, and the whole plan.
+//
+// A planner is kept by the caller and any state may be handed in. So its interval number is held to the table's intervals first, then its
+// spare totals, and then its totals row by row, before any product is taken.
+use table::Answer;
+use table::Table;
+use verdict::Analysis;
+ghost use mathlib.Core.Path.{_≡_};
+ghost use mathlib.Core.List.{List};
+ghost use Prim.Native.Nat.{ℕ, _/_, _≤_, _<_};
+ghost use lib.ListN.{length};
+ghost use Rattle.rules.specs.Bounds.{max-slots};
+ghost use Rattle.rules.specs.TableFile.{fileTable};
+ghost use Rattle.rules.specs.Planner.{Off};
+ghost use Rattle.table.specs.Sizes.{Decides};
+ghost use Rattle.verdict.specs.Analysed.{Accepted};
+ghost use Rattle.planner.specs.State.{plannerOf, freshPlanner, InRange, slotOf, nextOf, noStandings};
+ghost use Rattle.planner.specs.Chosen.{Plannable, Coursed};
+ghost use Rattle.planner.specs.Answers.{StepAnswer, StandingsAnswer, PlanAnswer};
+
+// Due, with the number of the next interval, or finished.
+pub enum Stage {
+    Due(u64),
+    Finished,
+}
+
+// A stage, and beside it the totals, one for each row.
+pub struct Planner {
+    pub stage: Stage,
+    pub totals: [u64; Table::ROWS],
+}
+
+// What a step answers: the planner moved on by one interval, or the one it was given and the number and place of a refusal.
+pub struct MovedOn {
+    pub planner: Planner,
+    pub number: u32,
+    pub place: u32,
+}
+
+// All standings together, 0 past the last row.
+pub struct Standings {
+    pub number: u32,
+    pub place: u32,
+    pub values: [i64; Table::ROWS],
+}
+
+// ---- stages
+
+// The interval due is one of the table's.
+fn in_range(stage: Stage, hyper: u64, interval: u64) -> bool
+    requires { ⌜ 0 < interval ⌝ }
+    ensures { λ r. ⌜ Decides (InRange stage (hyper / interval)) r ⌝ }
+{
+    match stage {
+        Stage::Due(k) => k < hyper / interval,
+        Stage::Finished => true,
+    }
+}
+
+// The first slot of the interval due, or h when finished.
+fn slot_reached(stage: Stage, hyper: u64, interval: u64) -> u64
+    requires { ⌜ (0 < interval) × (hyper ≤ max-slots) × InRange stage (hyper / interval) ⌝ }
+    ensures { λ r. ⌜ r ≡ slotOf hyper interval stage ⌝ }
+{
+    match stage {
+        Stage::Due(k) => k * interval,
+        Stage::Finished => hyper,
+    }
+}
+
+// The stage after interval `k`: finished after the last.
+fn next_stage(k: u64, hyper: u64, interval: u64) -> Stage
+    requires { ⌜ (0 < interval) × (k < hyper / interval) × (hyper ≤ max-slots) ⌝ }
+    ensures { λ r. ⌜ r ≡ nextOf (hyper / interval) k ⌝ }
+{
+    if k + 1 == hyper / interval {
+        return Stage::Finished;
+    }
+    Stage::Due(k + 1)
+}
+
+// ---- intervals
+
+// Plans the intervals from number `from` up to number `to` of an admitted table, for rows that have had `totals`: writes their words to the
+// front of `plan`, each interval's to its own stretch, and gives the totals after the last. What the intervals share is laid out once.
+fn plan_intervals(
+    file: &[u8],
+    table: Analysis,
+    from: u64,
+    to: u64,
+    totals: [u64; Table::ROWS],
+    plan: &mut [u64],
+) -> [u64; Table::ROWS]
+    requires { ⌜ Plannable (now file) table from to totals (length (now plan)) ⌝ }
+    ensures { λ r. ⌜ Coursed (fileTable (now (file .entry))) from to totals r (now (plan .entry)) (now (plan .exit)) ⌝ }
+{
+    let first = table.first;
+    let second = table.second;
+    let rate = table.rate;
+    let words = table.words;
+    let ranges = interval::ranges_of(table.rows, table.sets, &words);
+    let lowest = ranges.from;
+    let highest = ranges.to;
+    let net = loads::lay(&lowest, &highest, table.rows, table.sets);
+    let chains = slots::chain(&first, table.rows);
+    let head = chains.head;
+    let next = chains.next;
+    let mut last = [0u8; Table::SLOTS];
+    let mut after = totals;
+    let mut slot = (from * table.interval) as usize;
+    let mut at: usize = 0;
+    let mut k = from;
+    while k < to {
+        let end = slot + table.interval as usize;
+        let moved = interval::advance(
+            file,
+            k as usize,
+            slot,
+            end,
+            table.rows,
+            table.sets,
+            table.elements + 1,
+            table.hyper,
+            &first,
+            &second,
+            &rate,
+            &lowest,
+            &highest,
+            net,
+            &head,
+            &next,
+            after,
+            &mut last,
+            &mut plan[at..],
+        );
+        after = moved;
+        at += end - slot;
+        slot = end;
+        k += 1;
+    }
+    after
+}
+
+// ---- standings
+
+fn no_standings(number: u32, place: u32) -> Standings
+    ensures { λ r. ⌜ r ≡ noStandings number place ⌝ }
+{
+    Standings {
+        number: number,
+        place: place,
+        values: [0; Table::ROWS],
+    }
+}
+
+impl Planner {
+    // Interval 0 due, and all totals 0.
+    pub fn fresh() -> Planner
+        ensures { λ r. ⌜ r ≡ freshPlanner ⌝ }
+    {
+        Planner {
+            stage: Stage::Due(0),
+            totals: [0; Table::ROWS],
+        }
+    }
+
+    // The state is off, on an admitted table.
+    fn is_off(self, table: Analysis) -> bool
+        requires { ⌜ ((f : List ℕ) × Accepted f table) ⌝ }
+        ensures { λ r. ⌜ ((f : List ℕ) → Accepted f table → Decides (Off (fileTable f) (plannerOf self)) r) ⌝ }
+    {
+        let stage = self.stage;
+        if !in_range(stage, table.hyper, table.interval) {
+            return true;
+        }
+        let totals = self.totals;
+        if !steady::spare_clear(table.rows, &totals) {
+            return true;
+        }
+        let slot = slot_reached(stage, table.hyper, table.interval);
+        let rate = table.rate;
+        let words = table.words;
+        !steady::keeps_step(table.rows, table.hyper, slot, &rate, table.sets, &words, &totals)
+    }
+
+    // The standings: each row's total × h, less its share at the slot reached in units of 1 / h.
+    pub fn standings(self, file: &[u8]) -> Standings
+        ensures { λ r. ⌜ StandingsAnswer (now (file .entry)) self r ⌝ }
+    {
+        let table = verdict::analyse(file);
+        if table.number != Answer::DONE {
+            return no_standings(table.number, table.place);
+        }
+        if self.is_off(table) {
+            return no_standings(Answer::OFF_STATE, 0);
+        }
+        let stage = self.stage;
+        let slot = slot_reached(stage, table.hyper, table.interval);
+        let rate = table.rate;
+        let totals = self.totals;
+        Standings {
+            number: Answer::DONE,
+            place: 0,
+            values: steady::standings(table.rows, table.hyper, slot, &rate, &totals),
+        }
+    }
+
+    // One interval: writes its words to the front of `out` and hands back the planner moved on by it. After the last it is finished.
+    pub fn step(mut self, file: &[u8], out: &mut [u64]) -> MovedOn
+        ensures { λ r. ⌜ StepAnswer (now (file .entry)) self r (now (out .entry)) (now (out .exit)) ⌝ }
+    {
+        let table = verdict::analyse(file);
+        if table.number != Answer::DONE {
+            return MovedOn {
+                planner: self,
+                number: table.number,
+                place: table.place,
+            };
+        }
+        if self.is_off(table) {
+            return MovedOn {
+                planner: self,
+                number: Answer::OFF_STATE,
+                place: 0,
+            };
+        }
+        let stage = self.stage;
+        let Stage::Due(k) = stage else {
+            return MovedOn {
+                planner: self,
+                number: Answer::HAS_FINISHED,
+                place: 0,
+            };
+        };
+        if out.len() < table.interval as usize {
+            return MovedOn {
+                planner: self,
+                number: Answer::SHORT_OUTPUT,
+                place: 0,
+            };
+        }
+        let totals = self.totals;
+        let after = plan_intervals(file, table, k, k + 1, totals, out);
+        self = Planner {
+            stage: next_stage(k, table.hyper, table.interval),
+            totals: after,
+        };
+        MovedOn {
+            planner: self,
+            number: Answer::DONE,
+            place: 0,
+        }
+    }
+}
+
+// The whole plan: the words of every interval, each at its own slots, as a fresh planner's steps write them.
+pub fn whole_plan(file: &[u8], plan: &mut [u64]) -> Answer
+    ensures { λ r. ⌜ PlanAnswer (now (file .entry)) r (now (plan .entry)) (now (plan .exit)) ⌝ }
+{
+    let table = verdict::analyse(file);
+    if table.number != Answer::DONE {
+        return Answer {
+            number: table.number,
+            place: table.place,
+        };
+    }
+    if plan.len() < table.hyper as usize {
+        return Answer {
+            number: Answer::SHORT_OUTPUT,
+            place: 0,
+        };
+    }
+    let fresh = Planner::fresh();
+    let totals = fresh.totals;
+    plan_intervals(file, table, 0, table.hyper / table.interval, totals, plan);
+    Answer {
+        number: Answer::DONE,
+        place: 0,
+    }
+}

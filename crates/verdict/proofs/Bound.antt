@@ -1,0 +1,166 @@
+-- Refusals 13 and 14 of a table whose overlap sets are listed, what holds of a table that gets no refusal, and that none gets 12.
+--
+--   NoneLight t        no row of the table is light
+use mathlib.Core.Path.{_≡_, refl, sym, subst}
+use mathlib.Core.Logic.{⊎-elim}
+use mathlib.Core.Bool.{Bool}
+use mathlib.Core.List.{List, [], _∷_}
+use Prim.Native.Nat.{ℕ, _+_, _≤_, _<_}
+use native.Mathlib.Omega.{arith}
+use lib.Dec.{T}
+use lib.ListN.{length}
+use Rattle.numbers.specs.Finite.{sum}
+use Rattle.numbers.specs.Word.{bit}
+use Rattle.numbers.specs.Lists.{at, each}
+use Rattle.numbers.proofs.Truth.{le-or-lt}
+use Rattle.numbers.proofs.Finite.{sum-term}
+use Rattle.rules.specs.Bus.{Table, overlap}
+use Rattle.rules.specs.TableFile.{fileTable}
+use Rattle.rules.specs.Line.{cut, OverlapSet, Sets, lineFirst, lineSecond}
+use Rattle.rules.specs.Loads.{light, over}
+use Rattle.rules.specs.Refusals.{Check, Answers, wrong-ends, wrong-period, wrong-cost, light-row, over-bound}
+use Rattle.rules.specs.Refusals.{row-checks, header-checks, file-checks, line-checks, bound-checks, verdict-checks}
+use Rattle.rules.proofs.Answers.{None, Numbered, stopped, joined, none-join, none-left, none-right, numbered-join}
+use Rattle.rules.proofs.Sets.{sets-only, set-in}
+use Rattle.table.specs.Sound.{Sound}
+use Rattle.table.proofs.Faults.{passed-none}
+use Rattle.ring.proofs.Cut.{cut-high, cut-none}
+use Rattle.ring.proofs.OnLine.{line-ordered}
+use Rattle.sets.proofs.List.{setsTo, setsTo-few, sets-are}
+use Rattle.outline.proofs.Sets.{ring-list, sets-untied}
+use Rattle.outline.specs.Outlined.{outline-checks}
+use Rattle.outline.proofs.Outlined.{outline-numbered, outline-passed, outline-short}
+use Rattle.lags.specs.Lags.{Admissible}
+use Rattle.verdict.proofs.Extra.{single-none, none-single, single-numbered, single-stopped}
+use Rattle.verdict.proofs.Extra.{Lacks, lacks-join, lacks-each, lacks-first, lacks-last}
+
+-- the checks of 13, and those of 14
+abbrev lights : Table → List Check
+lights t = each (t .rows) (λ i. light-row t i ∷ [])
+
+abbrev overs : Table → List Check
+overs t = each (t .rows) (λ k. over-bound t k ∷ [])
+
+abbrev pub NoneLight : Table → Type 0
+NoneLight t = (i : ℕ) → i < t .rows → T (light t i) → ⊥
+
+module _ (t : Table) where
+  pub bound-numbered : Numbered (bound-checks t)
+  unfolding bound-checks
+  bound-numbered =
+      numbered-join (lights t) (overs t) (single-numbered (light-row t) (t .rows) (λ i. omega arith))
+      (single-numbered (over-bound t) (t .rows) (λ k. omega arith))
+
+  pub refuses-thirteen : (i : ℕ) → i < t .rows → T (light t i) → ((j : ℕ) → j < i → T (light t j) → ⊥) → Answers (bound-checks t) 13 i
+  unfolding bound-checks
+  refuses-thirteen i l h u =
+      stopped (lights t) (overs t) 13 i (omega arith) (single-stopped (light-row t) (t .rows) i l (omega arith) u h)
+
+  module _ (some : 1 ≤ t .rows) (ws : List ℕ) (S : Sets t ws) where
+    -- set k is within its bound: then 14 is not given for it, as no other list fits
+    within : (k : ℕ) → (T (over t (bit (at ws k))) → ⊥) → over-bound t k .applies → ⊥
+    within k h w =
+        let e : w .0 ≡ ws = sets-only some (w .1) S in
+        h (subst (λ (vs : List ℕ). T (over t (bit (at vs k)))) e (w .3))
+
+    pub refuses-fourteen : NoneLight t → (k : ℕ) → k < length ws → length ws ≤ t .rows → T (over t (bit (at ws k)))
+        → ((j : ℕ) → j < k → T (over t (bit (at ws j))) → ⊥) → Answers (bound-checks t) 14 k
+    unfolding bound-checks
+    refuses-fourteen heavy k l few h u =
+        joined (lights t) (overs t) 14 k (single-none (light-row t) (t .rows) heavy)
+        (single-stopped (over-bound t) (t .rows) k (omega arith) (omega arith) (λ j m. within j (u j m)) (ws, S, l, h))
+
+    pub bound-none : NoneLight t → ((k : ℕ) → k < length ws → T (over t (bit (at ws k))) → ⊥) → None (bound-checks t)
+    unfolding bound-checks
+    bound-none heavy u =
+        none-join (lights t) (overs t) (single-none (light-row t) (t .rows) heavy)
+        (single-none (over-bound t) (t .rows)
+        (λ k l w. let e : w .0 ≡ ws = sets-only some (w .1) S in within k (u k (rw e at (w .2))) w))
+
+    -- where no listed set is over its bound, no overlap set is
+    pub bounded : ((k : ℕ) → k < length ws → T (over t (bit (at ws k))) → ⊥)
+        → (D : ℕ → Bool) → OverlapSet (t .rows) (overlap t) D → T (over t D) → ⊥
+    bounded u D o h =
+        let r = set-in S o in
+        u (r .0) (r .1) (subst (λ (C : ℕ → Bool). T (over t C)) (sym (r .2)) h)
+
+    pub none-heavy : None (bound-checks t) → NoneLight t
+    unfolding bound-checks
+    none-heavy a = none-single (light-row t) (t .rows) (none-left (lights t) (overs t) a)
+
+    pub none-within : None (bound-checks t) → length ws ≤ t .rows → (k : ℕ) → k < length ws → T (over t (bit (at ws k))) → ⊥
+    unfolding bound-checks
+    none-within a few k l h =
+        none-single (over-bound t) (t .rows) (none-right (lights t) (overs t) a) k (omega arith) (ws, S, l, h)
+
+pub verdict-numbered : (f : List ℕ) → Numbered (verdict-checks f)
+unfolding verdict-checks
+verdict-numbered f =
+    numbered-join (outline-checks f) (bound-checks (fileTable f)) (outline-numbered f) (bound-numbered (fileTable f))
+
+-- ---- nothing is refused
+
+pub sets-exist : (t : Table) → Sound t → cut t ≤ t .elements → (ws : List ℕ) × Sets t ws × (length ws ≤ t .rows)
+sets-exist t s c =
+    let E = 1 + sum (t .rows) (lineSecond t) in
+    let far : (i : ℕ) → i < t .rows → lineSecond t i < E = λ i l. omega (arith, sum-term (t .rows) (lineSecond t) i l) in
+    let ws = setsTo (t .rows) (lineFirst t) (lineSecond t) E in (
+      ws,
+      ring-list t s c (lineFirst t) (lineSecond t) (λ i l. (refl, refl)) ws
+          (sets-are (t .rows) (lineFirst t) (lineSecond t) (line-ordered t s c) (s .rows-low) E far),
+      setsTo-few (t .rows) (lineFirst t) (lineSecond t) E,
+    )
+
+pub admissible-of : (f : List ℕ) → None (verdict-checks f) → Admissible (fileTable f)
+unfolding verdict-checks
+admissible-of f a =
+    let t = fileTable f in
+    let b = none-left (outline-checks f) (bound-checks t) a in
+    let n = none-right (outline-checks f) (bound-checks t) a in
+    let s = outline-passed f b .sound in
+    let l = outline-short f b in
+    let e = sets-exist t s (l .0) in
+    record {
+      sound = s;
+      clear = l .0;
+      short = l .1;
+      heavy = none-heavy t (s .rows-low) (e .0) (e .1) n;
+      bounded = bounded t (s .rows-low) (e .0) (e .1) (none-within t (s .rows-low) (e .0) (e .1) n (e .2));
+    }
+
+-- ---- refusal 12 is never given
+
+row-faults-lack : (t : Table) → Lacks 12 (row-checks t)
+unfolding row-checks Lacks
+row-faults-lack t = lacks-each (λ i. wrong-ends t i ∷ wrong-period t i ∷ wrong-cost t i ∷ []) 12 (t .rows) (λ i. omega arith)
+
+file-lacks : (f : List ℕ) → Lacks 12 (file-checks f)
+unfolding file-checks header-checks Lacks
+file-lacks f = lacks-join 12 (header-checks f) (row-checks (fileTable f)) (omega arith) (row-faults-lack (fileTable f))
+
+bound-lacks : (t : Table) → Lacks 12 (bound-checks t)
+unfolding bound-checks Lacks
+bound-lacks t =
+    lacks-join 12 (lights t) (overs t) (lacks-each (λ i. light-row t i ∷ []) 12 (t .rows) (λ i. omega arith))
+    (lacks-each (λ k. over-bound t k ∷ []) 12 (t .rows) (λ k. omega arith))
+
+line-never-twelve : (t : Table) → Sound t → (p : ℕ) → Answers (line-checks t) 12 p → ⊥
+unfolding line-checks Answers
+line-never-twelve t s p a =
+    ⊎-elim (λ w. omega arith)
+    (λ w. ⊎-elim (λ v. omega arith)
+    (λ v. ⊎-elim
+    (λ u. sets-untied t s
+    (⊎-elim (λ l. l) (λ l. absurd (w .0 (cut-none t .1 (omega (arith, cut-high t))))) (le-or-lt (cut t) (t .elements)))
+    (u .0))
+    (λ u. omega arith) (v .1))
+    (w .1))
+    a
+
+pub never-twelve : (f : List ℕ) (p : ℕ) → Answers (verdict-checks f) 12 p → ⊥
+unfolding verdict-checks
+never-twelve f p a =
+    let t = fileTable f in
+    let b = lacks-last 12 p (outline-checks f) (bound-checks t) (omega arith) (bound-lacks t) a in
+    let c = lacks-first 12 p (file-checks f) (line-checks t) (file-lacks f) b in
+    line-never-twelve t (passed-none f (c .0) .sound) p (c .1)

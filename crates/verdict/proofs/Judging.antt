@@ -1,0 +1,92 @@
+-- The verdict on a file: what it is of each analysis, that only one fits, and demand 2.
+use mathlib.Core.Path.{_≡_, refl, sym, ap, ap₂, _∙_}
+use mathlib.Core.Logic.{_≢_}
+use mathlib.Core.List.{List}
+use Prim.Native.Nat.{ℕ}
+use native.Mathlib.Omega.{arith}
+use lib.ListN.{length, take, length-take}
+use Rattle.rules.specs.TableFile.{fileTable}
+use Rattle.rules.specs.Loads.{reported}
+use Rattle.rules.specs.Refusals.{verdict-checks}
+use Rattle.rules.specs.Calls as calls
+use Rattle.rules.proofs.Answers.{none-of, answered, answers-only}
+use Rattle.rules.proofs.Sets.{sets-only}
+use Rattle.ring.proofs.Cut.{cut-low}
+use Rattle.verdict.specs.declared.Analysis.{Analysis}
+use Rattle.verdict.specs.declared.Verdict.{Verdict}
+use Rattle.verdict.specs.declared.Verdict.the-variants.{Admitted, Refused}
+use Rattle.verdict.specs.Analysed.{Analysed}
+use Rattle.verdict.specs.Verdict.{numberOf, IsVerdict}
+use Rattle.verdict.specs.Demand.{Demand-2}
+use Rattle.verdict.proofs.Extra.{none-position, position-none}
+use Rattle.verdict.proofs.Bound.{verdict-numbered, admissible-of, never-twelve}
+
+-- ---- the verdict of an analysis
+
+module _ {f : List ℕ} {a : Analysis} (A : Analysed f a) where
+  pub judged-refused : a .number ≢ 0 → IsVerdict f (Refused (a .number) (a .place))
+  judged-refused h = record { answers = A .answers; done = λ e. absurd (h e); refused = λ e. (refl, refl, refl, refl, refl) }
+
+  pub judged-admitted : a .number ≡ 0 → (cut interval hyper load sets : ℕ) → cut ≡ a .cut → interval ≡ a .interval → hyper ≡ a .hyper
+      → load ≡ a .load → sets ≡ a .sets → IsVerdict f (Admitted cut interval hyper load sets)
+  judged-admitted z cut interval hyper load sets c i h l s =
+      let F = A .found z in
+      let O = F .outline in
+      let sound = O .passed .sound in
+      let none = none-of (verdict-checks f) (a .place) (verdict-numbered f) (rw z at (A .answers)) in
+      record {
+        answers = answered (verdict-checks f) none;
+        done = λ e. record {
+          list = take (a .sets) (a .words);
+          listed = O .list;
+          cut-is = c ∙ O .cut;
+          interval-is = i ∙ O .interval;
+          hyper-is = h ∙ O .hyper;
+          load-is = l ∙ F .load;
+          sets-is = omega (arith, length-take (a .sets) (a .words), O .few, O .size);
+        };
+        refused = λ e. absurd (e refl);
+      }
+
+-- ---- only one verdict fits
+
+module _ (f : List ℕ) where
+  -- a table that is admitted has a cut, so no refusal has the number 0
+  refused-number : (n p : ℕ) → IsVerdict f (Refused n p) → n ≢ 0
+  refused-number n p X e = omega (arith, X .done e .cut-is, cut-low (fileTable f))
+
+  admitted-only : (c i h l s c′ i′ h′ l′ s′ : ℕ) → IsVerdict f (Admitted c i h l s) → IsVerdict f (Admitted c′ i′ h′ l′ s′)
+      → Admitted c i h l s ≡ Admitted c′ i′ h′ l′ s′
+  admitted-only c i h l s c′ i′ h′ l′ s′ X Y =
+      let A = X .done refl in
+      let B = Y .done refl in
+      let some = admissible-of f (none-of (verdict-checks f) 0 (verdict-numbered f) (X .answers)) .sound .rows-low in
+      let e : A .list ≡ B .list = sets-only some (A .listed) (B .listed) in
+      λ k. Admitted
+      ((A .cut-is ∙ sym (B .cut-is)) k)
+      ((A .interval-is ∙ sym (B .interval-is)) k)
+      ((A .hyper-is ∙ sym (B .hyper-is)) k)
+      ((A .load-is ∙ ap (reported (fileTable f)) e ∙ sym (B .load-is)) k)
+      ((A .sets-is ∙ ap length e ∙ sym (B .sets-is)) k)
+
+  pub judged-only : (r s : Verdict) → IsVerdict f r → IsVerdict f s → r ≡ s
+  judged-only (Admitted c i h l n) (Admitted c′ i′ h′ l′ n′) X Y = admitted-only c i h l n c′ i′ h′ l′ n′ X Y
+  judged-only (Admitted c i h l n) (Refused m p) X Y =
+      absurd (refused-number m p Y (answers-only (verdict-checks f) m 0 p 0 (Y .answers) (X .answers) .0))
+  judged-only (Refused m p) (Admitted c i h l n) X Y =
+      absurd (refused-number m p X (answers-only (verdict-checks f) m 0 p 0 (X .answers) (Y .answers) .0))
+  judged-only (Refused m p) (Refused n q) X Y =
+      let e = answers-only (verdict-checks f) m n p q (X .answers) (Y .answers) in
+      ap₂ Refused (e .0) (e .1)
+
+-- ---- demand 2
+
+pub demand-2 : (f : List ℕ) (r : Verdict) → IsVerdict f r → Demand-2 f r
+demand-2 f r X = (
+  λ z. none-position (verdict-checks f) (none-of (verdict-checks f) _ (verdict-numbered f) (rw z at (X .answers))),
+  λ u. answers-only (verdict-checks f) _ 0 _ 0 (X .answers) (answered (verdict-checks f) (position-none (verdict-checks f) u)) .0,
+)
+
+-- refusal 12 is never given
+pub verdict-untied : (f : List ℕ) (r : Verdict) → IsVerdict f r → numberOf r ≢ 12
+verdict-untied f r X e = never-twelve f _ (rw e at (X .answers))

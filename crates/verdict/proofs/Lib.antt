@@ -1,0 +1,5 @@
+pub mod Extra
+pub mod Weighing
+pub mod Bound
+pub mod Analysing
+pub mod Judging

@@ -1,0 +1,197 @@
+-- The weights of a sound table's rows and sets, found row by row and set by set: what one turn of each loop does, and that the code's
+-- weights are document 01's loads and bound.
+--
+--   Same t i             the periods of the first i rows equal row 0's
+--   Heavy t i            none of the first i rows is light
+--   Summed xs w i x      x is the load of the set w in the first i rows
+use mathlib.Core.Path.{_≡_, refl, sym, ap, _∙_}
+use mathlib.Core.Logic.{⊎-elim}
+use mathlib.Core.Bool.{Bool, true, false, not, _&&_}
+use mathlib.Core.List.{List}
+use Prim.Native.Nat.{ℕ, _+_, _-_, _*_, _/_, _%_, _^_, _≤_, _<_, max}
+use native.Mathlib.Nat.{le-of-dvd, eq-or-lt-of-le, mul-le-mul-right, le-of-mul-le-mul-right}
+use native.Mathlib.Omega.{arith}
+use lib.Dec.{T, ltb, eqb, eqb→eq, lt→ltb}
+use borrow.Author.Count.{below-more}
+use borrow.Author.Tests.{eq-eqb}
+use Rattle.numbers.specs.Finite.{every, lowest, only, sum, largest}
+use Rattle.numbers.specs.Word.{bit}
+use Rattle.numbers.specs.Lists.{at}
+use Rattle.numbers.proofs.Truth.{both, fst, snd, decide, is-true, is-false, of-true, of-false, eqb-of, refutes}
+use Rattle.numbers.proofs.Finite.{every-of, every-at, lowest-is, lowest-none, lowest-le, lowest-has, lowest-below}
+use Rattle.numbers.proofs.Finite.{sum-next, only-true, only-false, sumIn-eq, largest-next}
+use Rattle.numbers.proofs.Divisors.{gcd-divides}
+use Rattle.rules.specs.Bounds.{max-rows, max-slots}
+use Rattle.rules.specs.Bus.{Table}
+use Rattle.rules.specs.Loads.{hyperperiod, shortest, rate, load, equalPeriods, light, over}
+use Rattle.table.specs.Sound.{Sound}
+use Rattle.outline.specs.Outlined.{ByRow}
+use Rattle.lags.proofs.Intervals.{period-positive, shortest-positive, rate-le}
+use Rattle.verdict.specs.Weights.{costBelow, SmallRates, weight, past, nextLowest, Weighed}
+
+-- ---- the interval
+
+-- L divides row 0's period, so it is no longer
+pub shortest-le : {t : Table} → Sound t → shortest t ≤ max-slots
+unfolding shortest
+shortest-le {t} s =
+    let r = s .row 0 (s .rows-low) in
+    omega (arith, le-of-dvd (r .period-low) (gcd-divides (t .rows) (t .period) (s .rows-low) (period-positive s) 0 (s .rows-low)))
+
+-- ---- equal periods
+
+pub record Same (t : Table) (i : ℕ) : Type 0 where
+  pub rows : i ≤ t .rows
+  pub alike : (j : ℕ) → j < i → t .period j ≡ t .period 0
+
+module _ {t : Table} where
+  pub same-start : Same t 0
+  same-start = record { rows = omega arith; alike = λ j l. absurd (omega arith) }
+
+  pub same-next : {i : ℕ} → Same t i → i < t .rows → t .period i ≡ t .period 0 → Same t (i + 1)
+  same-next s l e = record { rows = omega arith; alike = below-more _ _ (s .alike) e }
+
+  pub same-end : {i : ℕ} → Same t i → t .rows ≤ i → equalPeriods t ≡ true
+  unfolding equalPeriods
+  same-end s l =
+      is-true (every (t .rows) (λ j. eqb (t .period j) (t .period 0)))
+      (every-of (t .rows) (λ j. eqb (t .period j) (t .period 0))
+      (λ j m. eqb-of (t .period j) (t .period 0) (s .alike j (omega arith))))
+
+pub different : (t : Table) (i : ℕ) → i < t .rows → (t .period i ≡ t .period 0 → ⊥) → equalPeriods t ≡ false
+unfolding equalPeriods
+different t i l d =
+    is-false (every (t .rows) (λ j. eqb (t .period j) (t .period 0)))
+    (λ e. d (eqb→eq (t .period i) (t .period 0) (every-at (t .rows) (λ j. eqb (t .period j) (t .period 0)) e i l)))
+
+-- ---- light rows
+
+pub light-equal : (t : Table) → equalPeriods t ≡ true → (i : ℕ) → T (light t i) → ⊥
+unfolding light
+light-equal t e i h = refutes (equalPeriods t) (fst (not (equalPeriods t)) (ltb (t .cost i * shortest t) (t .period i)) h) (of-true e)
+
+pub light-is : (t : Table) → equalPeriods t ≡ false → (i : ℕ) → light t i ≡ costBelow t i
+unfolding light
+light-is t e i = rw e
+
+pub record Heavy (t : Table) (i : ℕ) : Type 0 where
+  pub rows : i ≤ t .rows
+  pub none : (j : ℕ) → j < i → T (light t j) → ⊥
+
+module _ {t : Table} where
+  pub heavy-start : Heavy t 0
+  heavy-start = record { rows = omega arith; none = λ j l. absurd (omega arith) }
+
+  pub heavy-next : {i : ℕ} → Heavy t i → i < t .rows → light t i ≡ false → Heavy t (i + 1)
+  heavy-next h l e = record { rows = omega arith; none = below-more _ _ (h .none) (of-false e) }
+
+  pub heavy-stop : {i : ℕ} → Heavy t i → i < t .rows → light t i ≡ true → i ≡ lowest (t .rows) (light t)
+  heavy-stop {i} h l e = sym (lowest-is (t .rows) (light t) i l (of-true e) (h .none))
+
+  pub heavy-end : {i : ℕ} → Heavy t i → t .rows ≤ i → i ≡ lowest (t .rows) (light t)
+  heavy-end {i} h l = omega (arith, lowest-none (t .rows) (light t) (λ j m. h .none j (omega arith)))
+
+-- ---- the load of a set
+
+pub record Summed (xs : List ℕ) (w i x : ℕ) : Type 0 where
+  pub is : x ≡ weight i xs w
+  pub small : x ≤ i * max-slots
+
+weight-next : (xs : List ℕ) (w i : ℕ) → weight (i + 1) xs w ≡ weight i xs w + only (bit w i) (at xs i)
+unfolding weight
+weight-next xs w i = sum-next i (λ j. only (bit w j) (at xs j))
+
+module _ {xs : List ℕ} {w : ℕ} where
+  pub summed-start : Summed xs w 0 0
+  unfolding weight sum
+  summed-start = record { is = refl; small = omega arith }
+
+  pub summed-in : {i x : ℕ} → Summed xs w i x → w / 2 ^ i % 2 ≡ 1 → at xs i ≤ max-slots → Summed xs w (i + 1) (x + at xs i)
+  unfolding bit
+  summed-in {i} {x} s b h = record {
+    is = omega (arith, s .is, weight-next xs w i, only-true (bit w i) (at xs i) (eq-eqb (w / 2 ^ i % 2) 1 b));
+    small = omega (arith, s .small);
+  }
+
+  pub summed-out : {i x : ℕ} → Summed xs w i x → (w / 2 ^ i % 2 ≡ 1 → ⊥) → Summed xs w (i + 1) x
+  unfolding bit
+  summed-out {i} {x} s b = record {
+    is = omega (
+      arith,
+      s .is,
+      weight-next xs w i,
+      only-false (bit w i) (at xs i) (is-false (eqb (w / 2 ^ i % 2) 1) (λ h. b (eqb→eq (w / 2 ^ i % 2) 1 h))),
+    );
+    small = omega (arith, s .small);
+  }
+
+-- ---- the lowest set over its bound
+
+pub lowest-next : (n : ℕ) (p : ℕ → Bool) → lowest (n + 1) p ≡ nextLowest (lowest n p) n (p n)
+unfolding nextLowest
+lowest-next n p =
+    ⊎-elim
+    (λ (e : lowest n p ≡ n).
+    ⊎-elim
+    (λ t. lowest-is (n + 1) p n (omega arith) t (λ j l. lowest-below n p j (omega arith))
+    ∙ rw (is-true (p n) t, is-false (eqb (lowest n p) n && false) (λ h. snd (eqb (lowest n p) n) false h)) (sym e))
+    (λ f. lowest-none (n + 1) p (below-more _ _ (λ j l. lowest-below n p j (omega arith)) f)
+    ∙ rw (is-false (p n) f, is-true (eqb (lowest n p) n && true) (both (eqb (lowest n p) n) true (eqb-of (lowest n p) n e) tt)))
+    (decide (p n)))
+    (λ (l : lowest n p < n).
+    lowest-is (n + 1) p (lowest n p) (omega arith) (lowest-has n p l) (lowest-below n p)
+    ∙ rw (is-false (eqb (lowest n p) n && not (p n)) (λ h. omega (arith, eqb→eq (lowest n p) n (fst (eqb (lowest n p) n) (not (p n)) h)))))
+    (eq-or-lt-of-le (lowest-le n p))
+
+-- ---- the pass over the sets
+
+module _ {n : ℕ} {xs ws : List ℕ} {e : Bool} {h l : ℕ} where
+  pub weighed-start : Weighed n xs 0 ws e h l 0 0
+  unfolding lowest largest
+  weighed-start = record { over-is = refl; largest-is = refl; small = omega arith }
+
+  pub weighed-next : {k a b x : ℕ} → Weighed n xs k ws e h l a b → x ≡ weight n xs (at ws k) → x ≤ max-rows * max-slots
+      → Weighed n xs (k + 1) ws e h l (nextLowest a k (past e h l x)) (max b x)
+  weighed-next {k} {a} {b} {x} w i s = record {
+    over-is =
+        ap (λ (j : ℕ). nextLowest j k (past e h l x)) (w .over-is)
+        ∙ ap (λ (j : ℕ). nextLowest (lowest k (λ j. past e h l (weight n xs (at ws j)))) k (past e h l j)) i
+        ∙ sym (lowest-next k (λ j. past e h l (weight n xs (at ws j))));
+    largest-is =
+        ap (λ (j : ℕ). max j x) (w .largest-is) ∙ ap (λ (j : ℕ). max (largest k (λ j. weight n xs (at ws j))) j) i
+        ∙ sym (largest-next (λ j. weight n xs (at ws j)) k);
+    small = omega (arith, w .small);
+  }
+
+  pub weighed-end : {k m a b : ℕ} → Weighed n xs k ws e h l a b → k ≡ m → Weighed n xs m ws e h l a b
+  weighed-end w q = rw q at w
+
+-- ---- as document 01 has them
+
+module _ (t : Table) (xs : List ℕ) (r : (i : ℕ) → i < t .rows → at xs i ≡ rate t i) where
+  pub weight-load : (w : ℕ) → weight (t .rows) xs w ≡ load t (bit w)
+  unfolding weight
+  weight-load w = sumIn-eq (t .rows) (bit w) (bit w) (at xs) (rate t) (λ i l. refl) (λ i l b. r i l)
+
+-- the rates that the code keeps are small
+pub rates-small : {t : Table} → Sound t → hyperperiod t ≤ max-slots → {xs : List ℕ} → ByRow (t .rows) (rate t) xs → SmallRates xs (t .rows)
+rates-small s h B = record { few = s .rows-high; small = λ i l. omega (arith, B .row i l, rate-le s i l) }
+
+pub past-over : (t : Table) (D : ℕ → Bool) → past (equalPeriods t) (hyperperiod t) (shortest t) (load t D) ≡ over t D
+unfolding past over
+past-over t D = refl
+
+-- a set that is not over its bound has a load of at most 1
+pub within-one : {t : Table} → Sound t → (D : ℕ → Bool) → (T (over t D) → ⊥) → load t D ≤ hyperperiod t
+unfolding over
+within-one {t} s D u = go (equalPeriods t) refl
+  where
+    go : (b : Bool) → equalPeriods t ≡ b → load t D ≤ hyperperiod t
+    go true e =
+        let h : ¬ (hyperperiod t < load t D) = λ l. u (rw e (lt→ltb (hyperperiod t) (load t D) l)) in
+        omega arith
+    go false e =
+        let h : ¬ ((shortest t - 1) * hyperperiod t < load t D * shortest t) =
+        λ l. u (rw e (lt→ltb ((shortest t - 1) * hyperperiod t) (load t D * shortest t) l)) in
+        let m : (shortest t - 1) * hyperperiod t ≤ shortest t * hyperperiod t = mul-le-mul-right (hyperperiod t) (omega arith) in
+        le-of-mul-le-mul-right (omega arith) (shortest-positive s)

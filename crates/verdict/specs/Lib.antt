@@ -1,0 +1,4 @@
+pub mod Weights
+pub mod Analysed
+pub mod Verdict
+pub mod Demand

@@ -1,0 +1,41 @@
+-- The verdict's answer, an enum, as document 01's number and values for each of its cases.
+--
+--   numberOf, placeOf                             the refusal's number and place, 0 and 0 where admitted
+--   cutOf, intervalOf, hyperOf, loadOf, setsOf    cut, L, h, reported load and number of sets; 0 on a refusal
+--   IsVerdict f r                                 r is the verdict on file f
+use mathlib.Core.List.{List}
+use Prim.Native.Nat.{ℕ}
+use Rattle.rules.specs.Calls.{Judged}
+use Rattle.verdict.specs.declared.Verdict.{Verdict}
+use Rattle.verdict.specs.declared.Verdict.the-variants.{Admitted, Refused}
+
+abbrev pub numberOf : Verdict → ℕ
+numberOf (Admitted cut interval hyper load sets) = 0
+numberOf (Refused number place) = number
+
+abbrev pub placeOf : Verdict → ℕ
+placeOf (Admitted cut interval hyper load sets) = 0
+placeOf (Refused number place) = place
+
+abbrev pub cutOf : Verdict → ℕ
+cutOf (Admitted cut interval hyper load sets) = cut
+cutOf (Refused number place) = 0
+
+abbrev pub intervalOf : Verdict → ℕ
+intervalOf (Admitted cut interval hyper load sets) = interval
+intervalOf (Refused number place) = 0
+
+abbrev pub hyperOf : Verdict → ℕ
+hyperOf (Admitted cut interval hyper load sets) = hyper
+hyperOf (Refused number place) = 0
+
+abbrev pub loadOf : Verdict → ℕ
+loadOf (Admitted cut interval hyper load sets) = load
+loadOf (Refused number place) = 0
+
+abbrev pub setsOf : Verdict → ℕ
+setsOf (Admitted cut interval hyper load sets) = sets
+setsOf (Refused number place) = 0
+
+abbrev pub IsVerdict : List ℕ → Verdict → Type 0
+IsVerdict f r = Judged f (numberOf r) (placeOf r) (cutOf r) (intervalOf r) (hyperOf r) (loadOf r) (setsOf r)

@@ -1,0 +1,49 @@
+-- The loads of rows and sets as the code weighs them: whole numbers of 1 / h, from the rows' rates in an array.
+--
+--   Counted f n          file f passed the file's checks, and n is its row count
+--   costBelow t i        row i's cost × L is below its period
+--   SmallRates xs n      no rate of n rows is above 4096
+--   weight n xs w        the load of the set whose word is w, from the rates xs of n rows
+--   past e h l x         load x is over the bound: 1 where e says that all periods are equal, (l − 1) / l where they differ
+--   nextLowest a n b     the lowest number below n + 1 that passes a test, where a is the one below n (or n), and b the test of n
+--   Weighed n xs k ws e h l over largest
+--                        what one pass over k sets finds: the lowest set over its bound (k where none is), and the largest load
+use mathlib.Core.Path.{_≡_}
+use mathlib.Core.Bool.{Bool, not, _&&_, cond}
+use mathlib.Core.List.{List}
+use Prim.Native.Nat.{ℕ, _+_, _-_, _*_, _≤_, _<_}
+use lib.Dec.{ltb, eqb}
+use Rattle.numbers.specs.Finite.{lowest, sumIn}
+use Rattle.numbers.specs.Finite as finite
+use Rattle.numbers.specs.Word.{bit}
+use Rattle.numbers.specs.Lists.{at}
+use Rattle.rules.specs.Bounds.{max-rows, max-slots}
+use Rattle.rules.specs.Bus.{Table}
+use Rattle.rules.specs.TableFile.{fileTable}
+use Rattle.rules.specs.Loads.{shortest}
+use Rattle.table.specs.Sound.{Passed}
+
+pub record Counted (f : List ℕ) (n : ℕ) : Type 0 where
+  pub passed : Passed f
+  pub rows : n ≡ fileTable f .rows
+
+abbrev pub costBelow : Table → ℕ → Bool
+costBelow t i = ltb (t .cost i * shortest t) (t .period i)
+
+pub record SmallRates (xs : List ℕ) (n : ℕ) : Type 0 where
+  pub few : n ≤ max-rows
+  pub small : (i : ℕ) → i < n → at xs i ≤ max-slots
+
+unfoldable pub weight : ℕ → List ℕ → ℕ → ℕ
+weight n xs w = sumIn n (bit w) (at xs)
+
+unfoldable pub past : Bool → ℕ → ℕ → ℕ → Bool
+past e h l x = cond e (ltb h x) (ltb ((l - 1) * h) (x * l))
+
+unfoldable pub nextLowest : ℕ → ℕ → Bool → ℕ
+nextLowest a n b = cond (eqb a n && not b) (n + 1) a
+
+pub record Weighed (n : ℕ) (xs : List ℕ) (k : ℕ) (ws : List ℕ) (e : Bool) (h l over largest : ℕ) : Type 0 where
+  pub over-is : over ≡ lowest k (λ j. past e h l (weight n xs (at ws j)))
+  pub largest-is : largest ≡ finite.largest k (λ j. weight n xs (at ws j))
+  pub small : largest ≤ max-rows * max-slots
