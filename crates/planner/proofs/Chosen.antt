@@ -29,8 +29,7 @@ module _ {t : Table} where
   pub chosen-only : {p q r : Planner} {ws vs : List ℕ} → Chosen t p q ws → Chosen t p r vs → (q ≡ r) × (ws ≡ vs)
   chosen-only {p} {q} {r} {ws} {vs} c d =
       let e : d .interval ≡ c .interval = let a = c .is-due in let b = d .is-due in cc in
-      let m : Moved t (c .interval) (p .totals) (r .totals) vs = subst (λ (k : ℕ). Moved t k (p .totals) (r .totals) vs) e (d .moved) in
-      (
+      let m : Moved t (c .interval) (p .totals) (r .totals) vs = subst (λ (k : ℕ). Moved t k (p .totals) (r .totals) vs) e (d .moved) in (
         planner-same (c .after ∙ ap (next t) (sym e) ∙ sym (d .after)) (moved-totals (c .moved) m),
         moved-words (c .moved) m,
       )

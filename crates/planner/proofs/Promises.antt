@@ -62,7 +62,7 @@ never-refused f p r was now k A a s o room =
     let is-due : plannerOf p .stage ≡ due k = ap stageOf s in
     let room′ : end (fileTable f) k - start (fileTable f) k ≤ length was = rw s at room in
     let e = answers-only (step-checks f (plannerOf p) (length was)) _ 0 _ 0 (A .stepped .answers)
-        (step-done f (admitted-none f a) (plannerOf p) (length was) o k is-due room′) in
+    (step-done f (admitted-none f a) (plannerOf p) (length was) o k is-due room′) in
     (e .0, e .1, not-off .1 (not-off-next (admitted-table f a) (not-off .0 o) (chosen-step (A .chosen (e .0) .1))))
 
 -- the words of a step are the front of what it was lent
@@ -87,8 +87,7 @@ pub whole-is-steps : Whole-is-steps
 whole-is-steps f r was now p ws A z s =
     let w = A .chosen z in
     let e = run-only (intervals (fileTable f)) (w .2) (steps-run s) in
-    let a = admissible-of f (plan-passed f (length was) (r .place) (rw z at (A .planned .answers))) in
-    (
+    let a = admissible-of f (plan-passed f (length was) (r .place) (rw z at (A .planned .answers))) in (
       w .3 ∙ ap (λ (vs : List ℕ). lent vs was) (e .1),
       stage-same (p .stage) Finished (plan-finished a (plannerOf p, chosen-run (steps-run s))),
     )

@@ -180,7 +180,15 @@ impl Planner {
         let slot = slot_reached(stage, table.hyper, table.interval);
         let rate = table.rate;
         let words = table.words;
-        !steady::keeps_step(table.rows, table.hyper, slot, &rate, table.sets, &words, &totals)
+        !steady::keeps_step(
+            table.rows,
+            table.hyper,
+            slot,
+            &rate,
+            table.sets,
+            &words,
+            &totals,
+        )
     }
 
     // The standings: each row's total × h, less its share at the slot reached in units of 1 / h.

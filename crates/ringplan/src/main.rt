@@ -3,6 +3,7 @@
 use libc::STDOUT_FILENO;
 use table::Table;
 use verdict::Verdict;
+ghost use Prim.Native.Nat.{_≤_};
 
 // One byte more than the longest table file has, so that a longer input is refused for its length.
 const INPUT: usize = 392;
@@ -23,21 +24,22 @@ fn line_of_two(name: &[u8], one: u64, other: u64) {
     line(b"", other);
 }
 
-// The first `count` overlap sets.
-fn print_sets(words: &[u64], count: usize) {
-    let mut k: usize = 0;
-    while k < count && k < words.len() {
+// `n`, but no more than there is room for.
+fn at_most(n: u32, room: usize) -> usize
+    ensures { λ r. ⌜ r ≤ room ⌝ }
+{
+    if room < n as usize { room } else { n as usize }
+}
+
+fn print_sets(words: &[u64; Table::ROWS], sets: u32) {
+    for k in 0..at_most(sets, Table::ROWS) {
         line(b"set", words[k]);
-        k += 1;
     }
 }
 
-// The first `count` slots.
-fn print_slots(plan: &[u64], count: usize) {
-    let mut s: usize = 0;
-    while s < count && s < plan.len() {
+fn print_slots(plan: &[u64; Table::SLOTS], hyper: u32) {
+    for s in 0..at_most(hyper, Table::SLOTS) {
         line_of_two(b"slot", s as u64, plan[s]);
-        s += 1;
     }
 }
 
@@ -47,7 +49,14 @@ fn main() {
     let file = &input[..read];
     let answer = verdict::judge(file);
     line_of_two(b"verdict", answer.number() as u64, answer.place() as u64);
-    let Verdict::Admitted { cut, interval, hyper, load, sets } = answer else {
+    let Verdict::Admitted {
+        cut,
+        interval,
+        hyper,
+        load,
+        sets,
+    } = answer
+    else {
         return;
     };
     line(b"cut", cut as u64);
@@ -56,8 +65,8 @@ fn main() {
     line(b"load", load as u64);
     let mut words = [0u64; Table::ROWS];
     outline::list_of_sets(file, &mut words);
-    print_sets(&words, sets as usize);
+    print_sets(&words, sets);
     let mut plan = [0u64; Table::SLOTS];
     planner::whole_plan(file, &mut plan);
-    print_slots(&plan, hyper as usize);
+    print_slots(&plan, hyper);
 }

@@ -55,8 +55,7 @@ loop-holds : tie.Need-loop-holds Inv-loop μ-loop
 loop-holds c =
     let S = entry c in
     let A = S .pre .accepted in
-    let e = start-is A (S .args .from) in
-    (
+    let e = start-is A (S .args .from) in (
       S .pre .order,
       refl,
       planning-start (A .admissible) (S .args .from) (S .args .totals) (S .args .plan .now) _ e (search needs) (rw e (S .pre .steady)),
@@ -113,8 +112,7 @@ advance-requires c κs =
     let I = c .before .before .before .before .before .before .before .before .before .before in
     let L = I .before .loop in
     let P = I .before .before in
-    let S = entry P in
-    (
+    let S = entry P in (
       ready-of (S .pre .accepted) (P .before .before .before .before .before .before .before .before .before .before .ranges-of .ensures) (P .before .before .before .before .before .lay .ensures) (P .before .before .before .chain .ensures),
       in-range I,
       L .inv .2 .slot,
@@ -141,12 +139,11 @@ loop-again c =
     let I = c .before .before .before .before .before .before .before .before .before .before .before .before .before .before in
     let L = I .before .loop in
     let S = entry (I .before .before) in
-    let D = c .before .before .before .advance in
-    (
+    let D = c .before .before .before .advance in (
       omega (arith, I .loop-test .taken),
       D .ensures .1 ∙ L .inv .1,
       planning-next (S .pre .accepted .admissible) (S .args .from) (S .args .totals) (S .args .plan .now) (S .args .to) (S .pre .in-range)
-      (S .pre .roomy) (L .inv .2) (I .loop-test .taken) _ (ends I) (D .result) (D .last .1 .1 .1 .1 .1 .1 .1 .1 .1 .1 .1 .1 .1 .1 .1 .1 .1 .1 .0) (D .ensures .0),
+          (S .pre .roomy) (L .inv .2) (I .loop-test .taken) _ (ends I) (D .result) (D .last .1 .1 .1 .1 .1 .1 .1 .1 .1 .1 .1 .1 .1 .1 .1 .1 .1 .1 .0) (D .ensures .0),
     )
 
 same-length : tie.Need-same-length Inv-loop μ-loop

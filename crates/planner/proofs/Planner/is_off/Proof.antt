@@ -30,8 +30,7 @@ keeps-step-requires : tie.Need-keeps-step-requires
 keeps-step-requires c κs =
     let S = c .before .before .before .before .before .before .before .before .before .before .before .before in
     let E = c .before .before .before .before .before .before .before .before .before .before in
-    let r = E .before .in-range .ensures .holds (not-false _ (E .if1 .left)) in
-    (
+    let r = E .before .in-range .ensures .holds (not-false _ (E .if1 .left)) in (
       rw (c .before .before .before .before .before .slot-reached .ensures) (state-bounded (S .pre .1) (S .args .self) r),
       analysis-shown (S .pre .1) .few,
     )

@@ -71,10 +71,9 @@ standings-requires : tie.Need-standings-requires
 standings-requires c κs =
     let R = c .before .before .before .before in
     let E = R .before .before .before in
-    let S = E .before .before .before .before in
-    (
+    let S = E .before .before .before .before in (
       rw (R .slot-reached .ensures)
-      (state-bounded (accepted E) (S .args .self) (state-in-range (accepted E) (S .args .self) (still (R .before)))),
+          (state-bounded (accepted E) (S .args .self) (state-in-range (accepted E) (S .args .self) (still (R .before)))),
       state-keeps (accepted E) (S .args .self) (still (R .before)) (R .slot-reached .result) (R .slot-reached .ensures),
     )
 

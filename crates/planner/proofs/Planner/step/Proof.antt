@@ -105,8 +105,7 @@ next-stage-requires c κs =
     let D = c .before .before .before .before .before .before .before in
     let N = D .before .before in
     let E = N .before .before in
-    let S = E .before .before .before .before .before in
-    (
+    let S = E .before .before .before .before .before in (
       interval-positive (accepted E),
       state-in-range (accepted E) (S .args .self) (still N) (D .stage .given .0 .0) (D .stage .given .1),
       hyper-short (accepted E),
