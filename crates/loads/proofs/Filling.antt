@@ -9,7 +9,7 @@ use Rattle.numbers.proofs.Finite.{only-true, only-false, sum-next, sum-zero}
 use Rattle.flow.specs.Network.{Put}
 use Rattle.loads.specs.Loads.{inSet, share-most, lag-most, Spans, Lags}
 use Rattle.loads.specs.Laid.{Lines, Lagging, Lifted, Summed, Bounded, Divided}
-use Rattle.loads.proofs.Extra.{sumIn-most}
+use Rattle.numbers.proofs.Finite.{sumIn-most}
 use Rattle.loads.proofs.Line.{covers-in, covers-before, covers-after}
 
 -- what holds below m, and of m, holds below m + 1

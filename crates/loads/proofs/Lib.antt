@@ -1,4 +1,3 @@
-pub mod Extra
 pub mod Line
 pub mod Filling
 pub mod Choice

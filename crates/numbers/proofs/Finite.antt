@@ -14,6 +14,7 @@ use native.Mathlib.Nat.{mod-add-div', add-mul-mod-self-right, zero-mod}
 use native.Mathlib.Numerals.{add-one}
 use native.Mathlib.Omega.{arith}
 use lib.Dec.{T, ltb, eqb, eqb→eq}
+use borrow.Author.Count.{below-more}
 use borrow.Author.Tests.{ltb-true, ltb-false}
 use Rattle.numbers.specs.Finite.{any, every, lowest, highest, only, sum, sumIn, count, largest}
 use Rattle.numbers.proofs.Truth.{both, fst, snd, orl, orr, or-cases, decide, is-true, is-false, le-or-lt}
@@ -403,6 +404,14 @@ sumIn-scaled n D g c =
     sum-eq n (λ i. only (D i) (g i * c)) (λ i. only (D i) (g i) * c) (λ i l. only-scaled (D i) (g i) c)
     ∙ sum-scaled n (λ i. only (D i) (g i)) c
 
+only-under : (b : Bool) (x c : ℕ) → x ≤ c → only b x ≤ c
+only-under true x c l = omega (arith, only-true true x refl)
+only-under false x c l = omega (arith, only-false false x refl)
+
+pub sumIn-most : (n : ℕ) (D : ℕ → Bool) (g : ℕ → ℕ) (c : ℕ) → ((i : ℕ) → i < n → g i ≤ c) → sumIn n D g ≤ n * c
+sumIn-most n D g c h =
+    omega (arith, sum-le n (λ i. only (D i) (g i)) (λ i. c) (λ i l. only-under (D i) (g i) c (h i l)), sum-const n c)
+
 -- ---- counts: count n p is sumIn n p (λ i. 1), so the laws of sums hold for it
 
 pub count-eq : (n : ℕ) (p q : ℕ → Bool) → ((i : ℕ) → i < n → p i ≡ q i) → count n p ≡ count n q
@@ -476,3 +485,21 @@ module _ (g : ℕ → ℕ) where
   unfolding largest
   largest-under zero b h = omega arith
   largest-under (suc n) b h = omega (arith, largest-under n b (λ i l. h i (omega arith)), h n (omega arith))
+
+pub largest-eq : (n : ℕ) (g h : ℕ → ℕ) → ((i : ℕ) → i < n → g i ≡ h i) → largest n g ≡ largest n h
+unfolding largest
+largest-eq zero g h e = refl
+largest-eq (suc n) g h e = ap₂ max (largest-eq n g h (λ i l. e i (omega arith))) (e n (omega arith))
+
+-- ---- finitely many decided facts
+
+-- all hold, or one does not
+pub all-or-one : (P : ℕ → Type 0) (n : ℕ) → ((i : ℕ) → i < n → Dec (P i)) → ((i : ℕ) → i < n → P i) ⊎ ((i : ℕ) × (i < n) × ¬ P i)
+all-or-one P zero d = inl (λ i l. absurd (omega arith))
+all-or-one P (suc n) d = go (all-or-one P n (λ i l. d i (omega arith))) (d n (omega arith))
+  where
+    go : ((i : ℕ) → i < n → P i) ⊎ ((i : ℕ) × (i < n) × ¬ P i) → Dec (P n)
+        → ((i : ℕ) → i < suc n → P i) ⊎ ((i : ℕ) × (i < suc n) × ¬ P i)
+    go (inl a) (yes p) = inl (λ i l. below-more P n a p i (rw add-one l))
+    go (inl a) (no f) = inr (n, omega arith, f)
+    go (inr w) d = inr (w .0, omega (arith, w .1), w .2)

@@ -10,7 +10,7 @@ use native.Mathlib.Nat.{suc-mul, zero-mul, mul-one, le-of-eq, mul-le-mul-right, 
 use native.Mathlib.Numerals.{add-one}
 use native.Mathlib.Omega.{arith}
 use lib.ListN.{length, take, drop, set, length-append, length-drop, length-set, take-append-drop, drop-of-length-le, replicate}
-use lib.Seq.{drop-cons, take-suc, set-at, append-snoc, take-at, drop-at, take-all, take-add, drop-drop, take-append-le, drop-append-le}
+use lib.Seq.{drop-cons, take-suc, set-at, append-snoc, take-at, drop-at, take-all, take-add, drop-drop, take-append-le, drop-append-le, sets, length-take-le, sets-eq}
 use lib.Seq.{getD-take, getD-drop, getD-append-add, ext-getD}
 use Rattle.numbers.specs.Lists.{at, each}
 
@@ -177,6 +177,22 @@ filled-rest {was} {out} {n = n} F i l =
 -- full: nothing is left of what was there
 pub filled-end : {was out xs : List ℕ} {n : ℕ} → Filled was out n xs → length was ≤ n → out ≡ xs
 filled-end {was} {xs = xs} {n = n} F h = F .holds ∙ ap (λ (d : List ℕ). xs ++ d) (drop-of-length-le was h) ∙ append-nil xs
+
+-- a run of numbers more, from place n on
+pub filled-sets : {was out xs : List ℕ} {n : ℕ} (vs : List ℕ) (m : ℕ) → Filled was out n xs → m ≡ n + length vs → m ≤ length was
+    → Filled was (sets out n vs) m (xs ++ vs)
+filled-sets {was} {out} {xs} {n} vs m F e l =
+    let rest : drop (n + length vs) out ≡ drop m was =
+    sym (drop-drop (length vs) n out) ∙ ap (drop (length vs)) (filled-drop F) ∙ drop-drop (length vs) n was
+    ∙ ap (λ (k : ℕ). drop k was) (sym e) in
+    filled-of was (sets out n vs) m (xs ++ vs)
+    (sets-eq vs out n (omega (arith, F .same)) ∙ ap₂ (λ (a b : List ℕ). a ++ vs ++ b) (filled-take F) rest)
+    (length-append xs vs ∙ ap (λ (k : ℕ). k + length vs) (F .count) ∙ sym e)
+    l
+
+-- the first k numbers are kept
+pub filled-front : (was : List ℕ) (k : ℕ) → k ≤ length was → Filled was was k (take k was)
+filled-front was k l = filled-of was was k (take k was) (sym (take-append-drop k was)) (length-take-le k was l) l
 
 -- ---- map, replicate
 

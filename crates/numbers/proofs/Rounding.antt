@@ -136,3 +136,12 @@ rounded-shift n m a b pos = (
   λ r. let z = rounded-is (a + n * b) b pos (n + m) r in rounded-of a b pos m (omega arith) (omega arith),
   λ r. let z = rounded-is a b pos m r in rounded-of (a + n * b) b pos (n + m) (omega arith) (omega arith),
 )
+
+module _ (a b : ℕ) (pos : 0 < b) where
+  pub up-more : down a b * b < a → up a b ≡ down a b + 1
+  up-more h =
+      let l : down a b < up a b = lt-of-mul-lt-mul-right b (omega (arith, up-over a b pos)) in
+      omega (arith, up-next a b pos)
+
+  pub up-same : a ≤ down a b * b → up a b ≡ down a b
+  up-same h = omega (arith, up-least a b pos (down a b) h, down-up a b pos)

@@ -1,11 +1,14 @@
 -- Bool tests as facts. `T b` says that the test b holds, `T b → ⊥` that it fails; code hands over `b ≡ true` and `b ≡ false`.
 use mathlib.Core.Path.{_≡_, refl, sym, subst}
-use mathlib.Core.Logic.{_⊎_, inl, inr}
+use mathlib.Core.Logic.{_⊎_, inl, inr, ⊎-elim, _≢_}
 use mathlib.Core.Bool.{Bool, true, false, not, _&&_, _||_}
 use Prim.Native.Nat.{ℕ, _≤_, _<_}
 use native.Mathlib.Nat.{lt-of-not-le}
-use native.Mathlib.Decide.{decLe}
+use native.Mathlib.Decide.{decLe, ℕ-discrete}
+use native.Mathlib.Omega.{arith}
+use borrow.Author.Tests.{not-true, not-false}
 use lib.Dec.{T, eqb, eqb-refl, not-T, T-not}
+use Rattle.numbers.specs.Decides.{Decides}
 
 -- ---- both, either
 
@@ -82,3 +85,39 @@ le-or-lt a b = go (decLe a b)
     go : Dec (a ≤ b) → (a ≤ b) ⊎ (b < a)
     go (yes h) = inl h
     go (no h) = inr (lt-of-not-le h)
+
+-- p and q need to agree only where a holds
+pub and-under : (a p q : Bool) → (T a → p ≡ q) → (a && p) ≡ (a && q)
+and-under true p q h = h tt
+and-under false p q h = refl
+
+-- ---- what is not refuted of numbers holds
+
+pub limits : (x a b : ℕ) → (((a ≤ x) × (x ≤ b) → ⊥) → ⊥) → (a ≤ x) × (x ≤ b)
+limits x a b h = (
+  ⊎-elim (λ l. l) (λ l. absurd (h (λ w. let z : ⊥ = omega arith in z))) (le-or-lt a x),
+  ⊎-elim (λ l. l) (λ l. absurd (h (λ w. let z : ⊥ = omega arith in z))) (le-or-lt x b),
+)
+
+pub equals : (x y : ℕ) → (x ≢ y → ⊥) → x ≡ y
+equals x y h = go (ℕ-discrete x y)
+  where
+    go : Dec (x ≡ y) → x ≡ y
+    go (yes e) = e
+    go (no n) = absurd (h n)
+
+-- ---- tests that decide
+
+pub decides-yes : {A : Type 0} → A → Decides A true
+decides-yes a = record { holds = λ e. a; fails = λ e. absurd (of-false e tt) }
+
+pub decides-no : {A : Type 0} → (A → ⊥) → Decides A false
+decides-no h = record { holds = λ e. absurd (of-true e); fails = λ e a. h a }
+
+-- what a branch on a test that is not met shows
+
+pub denied : {A : Type 0} {b : Bool} → Decides A b → not b ≡ true → A → ⊥
+denied {b = b} d e = d .fails (not-true b e)
+
+pub granted : {A : Type 0} {b : Bool} → Decides A b → not b ≡ false → A
+granted {b = b} d e = d .holds (not-false b e)

@@ -4,3 +4,4 @@ pub mod Divisors
 pub mod Rounding
 pub mod Lists
 pub mod Pairs
+pub mod Decides

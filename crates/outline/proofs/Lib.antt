@@ -2,3 +2,4 @@ pub mod Periods
 pub mod Sets
 pub mod Outlined
 pub mod Listed
+pub mod ByRow

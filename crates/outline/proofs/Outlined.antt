@@ -37,6 +37,7 @@ use Rattle.ring.proofs.Cut.{cut-high, cut-none}
 use Rattle.sets.specs.Sets.{OnLine, Listed}
 use Rattle.sets.proofs.Listed.{listed-only}
 use Rattle.outline.specs.declared.Outline.{Outline}
+use Rattle.outline.proofs.ByRow.{by-row-only}
 use Rattle.outline.specs.Outlined.{ByRow, Found, blank, outline-checks, Outlined}
 use Rattle.outline.proofs.Sets.{Ends, own-ends, ends-on-line, line-list, sets-untied}
 
@@ -144,14 +145,6 @@ module _ {f : List ℕ} {o : Outline} (F : Found f o) where
     }
 
 -- ---- only one outline fits
-
-by-row-only : {n : ℕ} {g : ℕ → ℕ} {xs ys : List ℕ} → ByRow n g xs → ByRow n g ys → xs ≡ ys
-by-row-only {n} {g} {xs} {ys} X Y =
-    ext-getD 0 xs ys (X .size ∙ sym (Y .size))
-    (λ i l.
-    ⊎-elim (λ h. let m : i < max-rows = omega (arith, X .size) in X .rest i h m ∙ sym (Y .rest i h m))
-    (λ h. X .row i h ∙ sym (Y .row i h))
-    (le-or-lt n i))
 
 found-only : {f : List ℕ} {o u : Outline} → o .number ≡ u .number → o .place ≡ u .place → Found f o → Found f u → o ≡ u
 found-only {f} {o} {u} n p F G =

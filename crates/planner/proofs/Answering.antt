@@ -1,8 +1,8 @@
 -- The answers of the planner's calls: which the contracts allow, outcome by outcome.
-use mathlib.Core.Path.{_≡_, refl, sym, ap, _∙_, subst, fun-ext}
+use mathlib.Core.Path.{_≡_, refl, ap, _∙_, subst, fun-ext}
 use mathlib.Core.Logic.{_≢_}
-use mathlib.Core.List.{List, [], _++_}
-use Prim.Native.Nat.{ℕ, zero, suc, _+_, _/_, _≤_, _<_}
+use mathlib.Core.List.{List, []}
+use Prim.Native.Nat.{ℕ, zero, suc, _+_, _/_}
 use native.Mathlib.Numerals.{add-one}
 use native.Mathlib.Omega.{arith}
 use lib.IntN.{ℤ, pos}
@@ -12,10 +12,9 @@ use Rattle.numbers.proofs.Lists.{zeros-at}
 use Rattle.rules.specs.Bounds.{max-rows}
 use Rattle.rules.specs.TableFile.{fileTable}
 use Rattle.rules.specs.Loads.{intervals}
-use Rattle.rules.specs.Planner.{due, Off}
+use Rattle.rules.specs.Planner.{Off}
 use Rattle.rules.specs.Refusals.{Answers, verdict-checks, plan-checks, step-checks, standings-checks}
 use Rattle.rules.proofs.Answers.{None, none-of}
-use Rattle.table.specs.declared.Answer.{Answer}
 use Rattle.lags.specs.Lags.{Admissible, NotOff}
 use Rattle.lags.proofs.States.{not-off}
 use Rattle.verdict.specs.declared.Analysis.{Analysis}
@@ -25,15 +24,12 @@ use Rattle.steady.specs.Step.{RowsKeep, Stands}
 use Rattle.steady.proofs.Steady.{steady-is, standings-are}
 use Rattle.planner.specs.declared.Stage.the-variants.{Due}
 use Rattle.planner.specs.declared.Planner.{Planner}
-use Rattle.planner.specs.declared.MovedOn.{MovedOn}
-use Rattle.planner.specs.declared.Standings.{Standings}
-use Rattle.planner.specs.State.{stageOf, plannerOf, freshPlanner, InRange, slotOf, nextOf, noStandings}
+use Rattle.planner.specs.State.{stageOf, plannerOf, InRange, slotOf, nextOf, noStandings}
 use Rattle.planner.specs.Chosen.{Chosen, Course, Coursed}
 use Rattle.planner.specs.Answers.{StepAnswer, StandingsAnswer, PlanAnswer}
 use Rattle.planner.proofs.Chosen.{chosen-step, chosen-run}
-use Rattle.planner.proofs.State.{fresh-is}
 use Rattle.planner.proofs.Off.{analysis-shown, intervals-are, slot-is, next-is}
-use Rattle.planner.proofs.Course.{course-one, course-run, stage-at}
+use Rattle.planner.proofs.Course.{course-one, course-run}
 
 -- an analysis that refuses nothing
 pub analysed-none : {f : List ℕ} {a : Analysis} → Analysed f a → a .number ≡ 0 → None (verdict-checks f)

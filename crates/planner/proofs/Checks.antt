@@ -1,12 +1,12 @@
 -- The planner's calls and the orders of their checks: what each answers, where the verdict refuses the file and where it admits it.
-use mathlib.Core.Path.{_≡_, refl, subst}
+use mathlib.Core.Path.{_≡_, refl}
 use mathlib.Core.Logic.{_≢_}
-use mathlib.Core.List.{List, [], _∷_}
+use mathlib.Core.List.{List, []}
 use Prim.Native.Nat.{ℕ, _-_, _≤_, _<_}
 use native.Mathlib.Omega.{arith}
 use Rattle.rules.specs.TableFile.{fileTable}
 use Rattle.rules.specs.Loads.{hyperperiod, start, end}
-use Rattle.rules.specs.Planner.{Stage, due, finished, Planner, Off}
+use Rattle.rules.specs.Planner.{due, finished, Planner, Off}
 use Rattle.rules.specs.Refusals.{
   Answers,
   off-state,

@@ -3,7 +3,7 @@ use mathlib.Core.Path.{_≡_, refl, sym, ap, ap₂, _∙_, subst, fun-ext}
 use mathlib.Core.List.{List, [], _++_}
 use Prim.Native.Nat.{ℕ, zero, suc}
 use Rattle.rules.specs.Bus.{Table}
-use Rattle.rules.specs.Planner.{Stage, due, Planner, fresh, next, Step, Run}
+use Rattle.rules.specs.Planner.{Stage, Planner, fresh, next, Step, Run}
 use Rattle.rules.specs.Planner as rules
 use Rattle.interval.specs.Interval.{Moved}
 use Rattle.interval.proofs.Moved.{moved-words, moved-totals, step-of-moved}

@@ -4,7 +4,7 @@
 use mathlib.Core.Path.{_≡_, refl, sym, ap, ap₂, _∙_, subst}
 use mathlib.Core.Bool.{cond}
 use mathlib.Core.List.{List, [], _++_}
-use Prim.Native.Nat.{ℕ, zero, suc, _+_, _-_, _≤_, _<_}
+use Prim.Native.Nat.{ℕ, suc, _+_, _-_, _≤_, _<_}
 use native.Mathlib.Numerals.{add-one}
 use native.Mathlib.Omega.{arith}
 use lib.Dec.{eqb, eqb→eq}
@@ -16,14 +16,13 @@ use Rattle.rules.specs.Bounds.{max-rows}
 use Rattle.rules.specs.Bus.{Table}
 use Rattle.rules.specs.Calls.{lent}
 use Rattle.rules.specs.Loads.{start, end, intervals}
-use Rattle.rules.specs.Planner.{Stage, due, finished, Planner, fresh, next}
+use Rattle.rules.specs.Planner.{Stage, due, finished}
 use Rattle.lags.specs.Lags.{Admissible, Steady}
-use Rattle.lags.proofs.Intervals.{start-first, end-next, end-far, start-mono, intervals-positive}
-use Rattle.lags.proofs.States.{next-due, next-finished}
+use Rattle.lags.proofs.Intervals.{end-next, end-far, start-mono, intervals-positive}
 use Rattle.interval.specs.Interval.{Moved}
 use Rattle.interval.specs.Ready.{Advanced}
 use Rattle.interval.proofs.Moved.{moved-steady}
-use Rattle.planner.specs.Chosen.{Chosen, ChosenRun, none, more, Course, Coursed}
+use Rattle.planner.specs.Chosen.{ChosenRun, none, more, Course, Coursed}
 
 -- ---- the loop over the intervals
 

@@ -1,5 +1,5 @@
 -- What the intervals of an admitted table share, laid out from its analysis.
-use mathlib.Core.Path.{_≡_, refl, sym, ap, _∙_}
+use mathlib.Core.Path.{_≡_, refl, sym, ap}
 use mathlib.Core.List.{List}
 use Prim.Native.Nat.{ℕ, _+_, _-_, _*_, _/_, _≤_, _<_}
 use native.Mathlib.Omega.{arith}
@@ -8,7 +8,7 @@ use Rattle.numbers.specs.Lists.{at}
 use Rattle.numbers.proofs.Lists.{zeros-at}
 use Rattle.rules.specs.Bounds.{max-rows, max-slots}
 use Rattle.rules.specs.TableFile.{fileTable}
-use Rattle.rules.specs.Loads.{hyperperiod, shortest, start, end, intervals}
+use Rattle.rules.specs.Loads.{start, end, intervals}
 use Rattle.rules.specs.Planner.{due, Off}
 use Rattle.lags.proofs.Intervals.{start-first, start-mono, start-last, end-next}
 use Rattle.lags.proofs.Lags.{steady-eq, steady-fresh}

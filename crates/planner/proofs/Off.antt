@@ -8,16 +8,16 @@ use native.Mathlib.Nat.{div-mul-le-self, mul-le-mul-right}
 use native.Mathlib.Omega.{arith}
 use lib.Dec.{ltb, eqb}
 use Rattle.rules.specs.Bounds.{max-slots}
-use Rattle.table.proofs.Faults.{decides-no}
-use Rattle.steady.proofs.Extra.{decides-yes}
+use Rattle.numbers.proofs.Truth.{decides-no}
+use Rattle.numbers.proofs.Truth.{decides-yes}
 use borrow.Author.Tests.{ltb-true, ltb-false}
 use Rattle.numbers.specs.Lists.{at}
 use Rattle.numbers.proofs.Truth.{le-or-lt}
 use Rattle.rules.specs.TableFile.{fileTable}
-use Rattle.rules.specs.Loads.{hyperperiod, shortest, start, intervals}
+use Rattle.rules.specs.Loads.{start, intervals}
 use Rattle.rules.specs.Planner.{due, finished, Off, next, reached}
 use Rattle.rules.specs.Planner as rules
-use Rattle.table.specs.Sizes.{Decides}
+use Rattle.numbers.specs.Decides.{Decides}
 use Rattle.lags.proofs.Intervals.{shortest-positive}
 use Rattle.lags.proofs.States.{not-off}
 use Rattle.verdict.specs.declared.Analysis.{Analysis}

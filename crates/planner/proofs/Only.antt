@@ -1,11 +1,11 @@
 -- Only one answer fits each call of the planner.
-use mathlib.Core.Path.{_≡_, sym, ap, _∙_, subst}
+use mathlib.Core.Path.{_≡_, sym, ap, _∙_}
 use mathlib.Core.Logic.{⊎-elim, _≢_}
 use mathlib.Core.List.{List}
-use Prim.Native.Nat.{ℕ, _≤_, _<_}
+use Prim.Native.Nat.{ℕ, _<_}
 use native.Mathlib.Decide.{ℕ-discrete}
 use native.Mathlib.Omega.{arith}
-use lib.IntN.{ℤ, pos}
+use lib.IntN.{pos}
 use lib.ListN.{length, getD}
 use lib.Seq.{ext-getD}
 use Rattle.numbers.proofs.Truth.{le-or-lt}
@@ -15,13 +15,7 @@ use Rattle.rules.specs.Planner as rules
 use Rattle.rules.specs.Calls.{lent}
 use Rattle.rules.specs.Refusals.{plan-checks, step-checks, standings-checks}
 use Rattle.rules.proofs.Answers.{answers-only}
-use Rattle.table.specs.declared.Answer.{Answer}
-use Rattle.planner.specs.declared.Planner.{Planner}
-use Rattle.planner.specs.declared.MovedOn.{MovedOn}
-use Rattle.planner.specs.declared.Standings.{Standings}
 use Rattle.planner.specs.State.{plannerOf}
-use Rattle.planner.specs.Chosen.{Chosen}
-use Rattle.planner.specs.Answers.{StepAnswer, StandingsAnswer, PlanAnswer}
 use Rattle.planner.specs.Promises.{One-step, One-plan, One-standings}
 use Rattle.planner.proofs.Chosen.{chosen-only, run-only}
 use Rattle.planner.proofs.State.{state-same}

@@ -12,7 +12,7 @@ ghost use lib.ListN.{length};
 ghost use Rattle.rules.specs.Bounds.{max-slots};
 ghost use Rattle.rules.specs.TableFile.{fileTable};
 ghost use Rattle.rules.specs.Planner.{Off};
-ghost use Rattle.table.specs.Sizes.{Decides};
+ghost use Rattle.numbers.specs.Decides.{Decides};
 ghost use Rattle.verdict.specs.Analysed.{Accepted};
 ghost use Rattle.planner.specs.State.{plannerOf, freshPlanner, InRange, slotOf, nextOf, noStandings};
 ghost use Rattle.planner.specs.Chosen.{Plannable, Coursed};

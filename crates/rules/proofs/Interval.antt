@@ -20,6 +20,7 @@ use Rattle.numbers.specs.Finite.{count}
 use Rattle.numbers.specs.Lists.{at}
 use Rattle.numbers.specs.Word.{bit}
 use Rattle.numbers.proofs.Truth.{both, fst, snd, orl, orr, or-cases, decide, is-false, of-false, eqb-of, le-or-lt}
+use Rattle.numbers.proofs.Truth.{and-under}
 use Rattle.numbers.proofs.Finite.{any-eq, count-eq}
 use Rattle.numbers.proofs.Word.{bit-zero, bit-ext}
 use Rattle.rules.specs.Interval.{before, hinders, free, Earliest, moves, SlotWords}
@@ -75,11 +76,6 @@ moves-lt ws i s t =
     ⊎-elim (λ h. absurd (of-false (ap (λ (w : ℕ). bit w i) (List·getD-eq-default ws 0 h) ∙ bit-zero i) t)) (λ h. h) (le-or-lt (length ws) s)
 
 -- ---- one plan at most
-
--- p and q need to agree only where a holds
-pub and-under : (a p q : Bool) → (T a → p ≡ q) → (a && p) ≡ (a && q)
-and-under true p q h = h tt
-and-under false p q h = refl
 
 module _ (n : ℕ) (o : ℕ → ℕ → Bool) (f : ℕ → ℕ) where
   -- what is free for row i hangs on the rows taken before it alone

@@ -1,4 +1,5 @@
 pub mod Answers
+pub mod Calls
 pub mod Small
 pub mod Interval
 pub mod Sets

@@ -14,7 +14,8 @@ use borrow.Author.Tests.{lt-ltb}
 use Rattle.numbers.specs.Word.{bit}
 use Rattle.numbers.proofs.Truth.{fst, orr, decide, is-true, is-false, along}
 use Rattle.rules.specs.Interval.{before, free, moves, SlotWords}
-use Rattle.rules.proofs.Interval.{before-asym, before-self, moves-lt, and-under, free-eq, chosen-eq}
+use Rattle.rules.proofs.Interval.{before-asym, before-self, moves-lt, free-eq, chosen-eq}
+use Rattle.numbers.proofs.Truth.{and-under}
 use Rattle.slots.specs.Walk.{chosen, Upto}
 
 module _ (n : ℕ) (o : ℕ → ℕ → Bool) (f x : ℕ → ℕ) (l : ℕ) where

@@ -1,3 +1,2 @@
-pub mod Extra
 pub mod Keeping
 pub mod Steady

@@ -31,7 +31,7 @@ use Rattle.table.specs.Sound.{Sound}
 use Rattle.outline.specs.Outlined.{ByRow}
 use Rattle.lags.specs.Lags.{Steady, NotOff}
 use Rattle.lags.proofs.Intervals.{hyperperiod-positive, rate-le, start-mono, start-last}
-use Rattle.steady.proofs.Extra.{all-or-one}
+use Rattle.numbers.proofs.Finite.{all-or-one}
 use Rattle.steady.specs.Step.{Bounded, SetsKeep, KeepsStep, SpareClear, Stands}
 
 -- ---- a table, as the code holds it

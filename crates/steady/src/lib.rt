@@ -11,7 +11,7 @@ ghost use Rattle.numbers.specs.Word.{bit};
 ghost use Rattle.numbers.specs.Lists.{at};
 ghost use Rattle.numbers.specs.Rounding.{Rounded};
 ghost use Rattle.rules.specs.Bounds.{max-rows, max-slots};
-ghost use Rattle.table.specs.Sizes.{Decides};
+ghost use Rattle.numbers.specs.Decides.{Decides};
 ghost use Rattle.steady.specs.Step.{Bounded, RowsKeep, SetsKeep, KeepsStep, SpareClear, Stands};
 
 // `total` is `share` / `hyper`, rounded down or up.

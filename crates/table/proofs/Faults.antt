@@ -3,11 +3,10 @@
 -- A file that passes checks 1 to 9 has its mark and its version, and is `Passed`; and the other way round.
 use mathlib.Core.Path.{_≡_, refl, sym, ap, _∙_}
 use mathlib.Core.Logic.{inl, inr, ⊎-elim, _≢_}
-use mathlib.Core.List.{List, [], _∷_, _++_}
+use mathlib.Core.List.{List, [], _∷_}
 use mathlib.Core.Bool.{Bool, true, false, not}
 use Prim.Native.Nat.{ℕ, _+_, _*_, _≤_, _<_}
 use native.Mathlib.Omega.{arith}
-use native.Mathlib.Decide.{ℕ-discrete}
 use lib.ListN.{length}
 use lib.Seq.{getD-take}
 use borrow.Author.Tests.{not-true, not-false}
@@ -22,35 +21,11 @@ use Rattle.rules.proofs.Answers.{Numbered, numbered-join, numbered-each, passed
 use Rattle.table.specs.declared.Row.{Row}
 use Rattle.table.specs.Sound.{SoundRow, Sound, Passed}
 use Rattle.table.specs.Rows.{IsRow, single, faults, EndsFit}
-use Rattle.table.specs.Sizes.{Decides, size-checks, memory-checks}
+use Rattle.table.specs.Sizes.{size-checks, memory-checks}
+use Rattle.numbers.specs.Decides.{Decides}
+use Rattle.numbers.proofs.Truth.{limits, equals}
 
 -- ---- tests
-
-pub decides-no : {A : Type 0} → (A → ⊥) → Decides A false
-decides-no h = record { holds = λ e. absurd (of-true e); fails = λ e a. h a }
-
--- what a branch on a test that is not met shows
-
-pub denied : {A : Type 0} {b : Bool} → Decides A b → not b ≡ true → A → ⊥
-denied {b = b} d e = d .fails (not-true b e)
-
-pub granted : {A : Type 0} {b : Bool} → Decides A b → not b ≡ false → A
-granted {b = b} d e = d .holds (not-false b e)
-
--- ---- a number of which it is refuted that it is out of its limits
-
-pub limits : (x a b : ℕ) → (((a ≤ x) × (x ≤ b) → ⊥) → ⊥) → (a ≤ x) × (x ≤ b)
-limits x a b h = (
-  ⊎-elim (λ l. l) (λ l. absurd (h (λ w. let z : ⊥ = omega arith in z))) (le-or-lt a x),
-  ⊎-elim (λ l. l) (λ l. absurd (h (λ w. let z : ⊥ = omega arith in z))) (le-or-lt x b),
-)
-
-pub equals : (x y : ℕ) → (x ≢ y → ⊥) → x ≡ y
-equals x y h = go (ℕ-discrete x y)
-  where
-    go : Dec (x ≡ y) → x ≡ y
-    go (yes e) = e
-    go (no n) = absurd (h n)
 
 -- ---- no refusal has the number 0
 

@@ -3,14 +3,12 @@
 --   Alike s t          tables s and t have the same elements and the same rows
 --   Bytes f            every number of f is a byte
 use mathlib.Core.Path.{_≡_, refl, sym, ap, ap₂, _∙_}
-use mathlib.Core.Logic.{_≢_}
 use mathlib.Core.List.{List, [], _∷_, _++_}
 use Prim.Native.Nat.{ℕ, _+_, _*_, _/_, _%_, _≤_, _<_}
 use native.Mathlib.Nat.{mul-comm, add-zero, zero-add, add-assoc}
 use native.Mathlib.Nat.{mod-add-div, mod-eq-of-lt, div-eq-of-lt, add-mul-mod-self-left, add-mul-div-left}
 use native.Mathlib.Omega.{arith}
-use lib.ListN.{length, take, drop, length-append}
-use lib.Seq.{take-at}
+use lib.ListN.{length, take, length-append}
 use Rattle.numbers.specs.Lists.{at, each}
 use Rattle.numbers.proofs.Lists.{each-eq, each-length}
 use Rattle.rules.specs.Bus.{Table}
@@ -20,8 +18,6 @@ use Rattle.rules.specs.TableFile.{
   headerSize,
   rowSize,
   rowNumbers,
-  read16,
-  write16,
   mark,
   version,
   fileTable,
@@ -32,12 +28,12 @@ use Rattle.rules.specs.TableFile.{
 use Rattle.rules.specs.Refusals.{header-checks, file-checks, reader-checks, writer-checks}
 use Rattle.rules.specs.Calls.{lent, Read, Written}
 use Rattle.rules.proofs.Answers.{None, Numbered, none-join, none-left, numbered-join}
-use Rattle.table.specs.Sound.{SoundRow, Sound, Passed}
+use Rattle.table.specs.Sound.{Sound}
 use Rattle.table.specs.Rows.{memoryRow, fileRow, fileHeader}
 use Rattle.table.specs.Sizes.{memory-checks}
 use Rattle.table.proofs.Faults.{mark-at, header-split, passed-none, none-passed, file-numbered}
 use Rattle.table.proofs.Faults.{memory-sound, memory-none, memory-numbered}
-use Rattle.table.proofs.Calls.{call-none, call-must}
+use Rattle.rules.proofs.Calls.{lent-take, call-none, call-must}
 use Rattle.table.proofs.Codec.{places, row-place, rows-whole}
 
 pub record Alike (s t : Table) : Type 0 where
@@ -48,7 +44,7 @@ pub record Alike (s t : Table) : Type 0 where
   pub first : (i : ℕ) → i < t .rows → s .first i ≡ t .first i
   pub second : (i : ℕ) → i < t .rows → s .second i ≡ t .second i
 
-pub Bytes : List ℕ → Type 0
+abbrev pub Bytes : List ℕ → Type 0
 Bytes f = (i : ℕ) → at f i < 256
 
 -- ---- alike tables
@@ -157,7 +153,7 @@ header-whole f l m v =
     ∙ rw (mark-at f 0 (omega arith) m, mark-at f 1 (omega arith) m, mark-at f 2 (omega arith) m, low, high))
 
 row-whole : (f : List ℕ) (i : ℕ) → Bytes f → fileRow (fileTable f) i ≡ each rowSize (λ j. at f (headerSize + rowSize * i + j) ∷ [])
-unfolding each Bytes
+unfolding each
 row-whole f i b =
     let p : ℕ = headerSize + rowSize * i in
     let a : at f p < 256 = b p in
@@ -216,10 +212,6 @@ module _ (M n : ℕ) (xs : List ℕ) where
       }
 
 -- ---- the two calls
-
-lent-take : (ws was : List ℕ) (k : ℕ) → length ws ≡ k → take k (lent ws was) ≡ ws
-unfolding lent
-lent-take ws was k e = take-at ws (drop (length ws) was) k e
 
 reader-numbered : (f : List ℕ) (room : ℕ) → Numbered (reader-checks f room)
 unfolding reader-checks Numbered

@@ -1,8 +1,7 @@
--- What a table says of its size, and what a test tells.
+-- What a table says of its size.
 --
 --   size-checks M n has wants   checks 4 to 6 of M elements and n rows, where the file or slice has `has` places and is to have `wants`
 --   memory-checks M n xs        checks 4 to 9 of M elements, n rows and the slice xs
---   Decides A b                 the test b holds exactly if A does
 use mathlib.Core.Path.{_≡_}
 use mathlib.Core.List.{List, [], _∷_, _++_}
 use mathlib.Core.Bool.{Bool, true, false}
@@ -16,7 +15,3 @@ size-checks M n has wants = wrong-elements (memoryTable M n []) ∷ wrong-rows (
 
 unfoldable pub memory-checks : ℕ → ℕ → List ℕ → List Check
 memory-checks M n xs = size-checks M n (length xs) (rowNumbers * n) ++ row-checks (memoryTable M n xs)
-
-pub record Decides (A : Type 0) (b : Bool) : Type 0 where
-  pub holds : b ≡ true → A
-  pub fails : b ≡ false → A → ⊥

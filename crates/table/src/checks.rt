@@ -6,7 +6,8 @@ ghost use Prim.Native.Nat.{_+_, _*_, _≤_};
 ghost use Rattle.rules.specs.TableFile.{headerSize, rowSize};
 ghost use Rattle.rules.specs.Refusals.{Answers};
 ghost use Rattle.table.specs.Rows.{single, faults};
-ghost use Rattle.table.specs.Sizes.{Decides, size-checks};
+ghost use Rattle.table.specs.Sizes.{size-checks};
+ghost use Rattle.numbers.specs.Decides.{Decides};
 
 pub(crate) fn within(x: usize, low: usize, high: usize) -> bool
     ensures { λ r. ⌜ Decides ((low ≤ x) × (x ≤ high)) r ⌝ }

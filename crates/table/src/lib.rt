@@ -141,6 +141,17 @@ impl Answer {
     pub const HAS_FINISHED: u32 = 16;
 
     pub const SHORT_OUTPUT: u32 = 17;
+
+    // A refusal for row or set `place`.
+    pub fn at(number: u32, place: usize) -> Answer
+        requires { ⌜ place < max-slots ⌝ }
+        ensures { λ r. ⌜ (r .number ≡ number) × (r .place ≡ place) ⌝ }
+    {
+        Answer {
+            number: number,
+            place: place as u32,
+        }
+    }
 }
 
 // What the reader returns beside the numbers that it fills in.

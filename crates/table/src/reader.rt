@@ -16,7 +16,7 @@ ghost use Rattle.rules.specs.TableFile.{table-mark, headerSize, rowSize, rowNum
 ghost use Rattle.rules.specs.Refusals.{Answers, header-checks, row-checks, file-checks};
 ghost use Rattle.rules.specs.Calls.{lent, Read};
 ghost use Rattle.table.specs.Rows.{inMemory, memoryRow};
-ghost use Rattle.table.specs.Sizes.{Decides};
+ghost use Rattle.numbers.specs.Decides.{Decides};
 
 fn is_marked(file: &[u8]) -> bool
     requires { ⌜ 3 ≤ length (now file) ⌝ }
@@ -64,10 +64,7 @@ fn check_rows(file: &[u8]) -> Answer
     while i < table.rows {
         let number = row_fault(table.elements, row_at(file, i));
         if number != Answer::DONE {
-            return Answer {
-                number: number,
-                place: i as u32,
-            };
+            return Answer::at(number, i);
         }
         i += 1;
     }

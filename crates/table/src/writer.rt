@@ -40,10 +40,7 @@ fn check_row_numbers(elements: usize, rows: usize, numbers: &[u16]) -> Answer
     while i < rows {
         let number = row_fault(elements, row_of(numbers, i));
         if number != Answer::DONE {
-            return Answer {
-                number: number,
-                place: i as u32,
-            };
+            return Answer::at(number, i);
         }
         i += 1;
     }

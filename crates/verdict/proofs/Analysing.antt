@@ -19,7 +19,7 @@ use Rattle.numbers.proofs.Rounding.{up-least}
 use Rattle.rules.specs.Bus.{Table}
 use Rattle.rules.specs.TableFile.{fileTable}
 use Rattle.rules.specs.Loads.{hyperperiod, shortest, rate, load, equalPeriods, light, over, reported}
-use Rattle.rules.specs.Refusals.{Answers, file-checks, line-checks, bound-checks, verdict-checks}
+use Rattle.rules.specs.Refusals.{Answers, light-row, over-bound, file-checks, line-checks, bound-checks, verdict-checks}
 use Rattle.rules.proofs.Answers.{None, stopped, joined, answered, none-of, none-join, none-left, answers-only}
 use Rattle.outline.specs.declared.Outline.{Outline}
 use Rattle.outline.specs.Outlined.{ByRow, Found, outline-checks, Outlined}
@@ -28,10 +28,11 @@ use Rattle.lags.proofs.Intervals.{hyperperiod-positive}
 use Rattle.verdict.specs.declared.Analysis.{Analysis}
 use Rattle.verdict.specs.Weights.{Counted, weight, past, Weighed}
 use Rattle.verdict.specs.Analysed.{outlineOf, analysisOf, Accepted, blank, Analysed}
-use Rattle.verdict.proofs.Extra.{largest-eq, by-row-only}
+use Rattle.numbers.proofs.Finite.{largest-eq}
+use Rattle.outline.proofs.ByRow.{by-row-only}
 use Rattle.verdict.proofs.Weighing.{weight-load, past-over, within-one}
 use Rattle.verdict.proofs.Bound.{NoneLight, verdict-numbered}
-use Rattle.verdict.proofs.Bound.{refuses-thirteen, refuses-fourteen, bound-none, admissible-of}
+use Rattle.verdict.proofs.Bound.{light-refused, over-refused, bound-none, admissible-of}
 
 -- ---- the weights of a table's sets
 
@@ -84,10 +85,10 @@ module _ (f : List ℕ) where
       later n p h a = refusal n p h (joined (outline-checks f) (bound-checks (fileTable f)) n p (outlined-none O z) a)
 
       module _ (i : ℕ) (low : i ≡ lowest (o .rows) (light (fileTable f))) where
-        pub analysed-light : i < o .rows → Analysed f (blank 13 i)
+        pub analysed-light : i < o .rows → Analysed f (blank (light-row (fileTable f) i .number) i)
         analysed-light l =
-            later 13 i (omega arith)
-            (refuses-thirteen (fileTable f) i (omega (arith, O .found z .rows))
+            later _ i (omega arith)
+            (light-refused (fileTable f) i (omega (arith, O .found z .rows))
             (rw low (lowest-has (o .rows) (light (fileTable f)) (rw low at l)))
             (λ j m. lowest-below (o .rows) (light (fileTable f)) j (rw low at m)))
 
@@ -101,13 +102,13 @@ module _ (f : List ℕ) where
               (shortest (fileTable f)) a b
           weighed = rw (q, O .found z .rows, O .found z .hyper, O .found z .interval) at W
 
-          pub analysed-over : a < o .sets → Analysed f (blank 14 a)
+          pub analysed-over : a < o .sets → Analysed f (blank (over-bound (fileTable f) a .number) a)
           analysed-over l =
               let F = O .found z in
               let count = found-count F in
               let w = over-stop (fileTable f) xs (o .words) (o .sets) a b (R .row) weighed l in
-              later 14 a (omega arith)
-              (refuses-fourteen (fileTable f) (F .passed .sound .rows-low) (take (o .sets) (o .words)) (F .list) none-light a
+              later _ a (omega arith)
+              (over-refused (fileTable f) (F .passed .sound .rows-low) (take (o .sets) (o .words)) (F .list) none-light a
               (omega (arith, count)) (omega (arith, count, F .few)) (w .0) (w .1))
 
           pub analysed-done : o .sets ≤ a → (x : ℕ) → x ≡ up (1000 * b) (o .hyper) → Analysed f (analysisOf o xs x)

@@ -18,7 +18,7 @@ use Rattle.rules.specs.Bus.{Table, overlap}
 use Rattle.rules.specs.TableFile.{fileTable}
 use Rattle.rules.specs.Line.{cut, OverlapSet, Sets, lineFirst, lineSecond}
 use Rattle.rules.specs.Loads.{light, over}
-use Rattle.rules.specs.Refusals.{Check, Answers, wrong-ends, wrong-period, wrong-cost, light-row, over-bound}
+use Rattle.rules.specs.Refusals.{Check, Answers, wrong-ends, wrong-period, wrong-cost, tied-sets, light-row, over-bound}
 use Rattle.rules.specs.Refusals.{row-checks, header-checks, file-checks, line-checks, bound-checks, verdict-checks}
 use Rattle.rules.proofs.Answers.{None, Numbered, stopped, joined, none-join, none-left, none-right, numbered-join}
 use Rattle.rules.proofs.Sets.{sets-only, set-in}
@@ -31,8 +31,8 @@ use Rattle.outline.proofs.Sets.{ring-list, sets-untied}
 use Rattle.outline.specs.Outlined.{outline-checks}
 use Rattle.outline.proofs.Outlined.{outline-numbered, outline-passed, outline-short}
 use Rattle.lags.specs.Lags.{Admissible}
-use Rattle.verdict.proofs.Extra.{single-none, none-single, single-numbered, single-stopped}
-use Rattle.verdict.proofs.Extra.{Lacks, lacks-join, lacks-each, lacks-first, lacks-last}
+use Rattle.rules.proofs.Answers.{single-none, none-single, single-numbered, single-stopped}
+use Rattle.rules.proofs.Answers.{Lacks, lacks-join, lacks-each, lacks-first, lacks-last}
 
 -- the checks of 13, and those of 14
 abbrev lights : Table → List Check
@@ -40,6 +40,10 @@ lights t = each (t .rows) (λ i. light-row t i ∷ [])
 
 abbrev overs : Table → List Check
 overs t = each (t .rows) (λ k. over-bound t k ∷ [])
+
+-- the number of the refusal of two sets that tie
+abbrev pub tie-number : ℕ
+tie-number = tied-sets (fileTable []) .number
 
 abbrev pub NoneLight : Table → Type 0
 NoneLight t = (i : ℕ) → i < t .rows → T (light t i) → ⊥
@@ -51,10 +55,11 @@ module _ (t : Table) where
       numbered-join (lights t) (overs t) (single-numbered (light-row t) (t .rows) (λ i. omega arith))
       (single-numbered (over-bound t) (t .rows) (λ k. omega arith))
 
-  pub refuses-thirteen : (i : ℕ) → i < t .rows → T (light t i) → ((j : ℕ) → j < i → T (light t j) → ⊥) → Answers (bound-checks t) 13 i
+  pub light-refused : (i : ℕ) → i < t .rows → T (light t i) → ((j : ℕ) → j < i → T (light t j) → ⊥)
+      → Answers (bound-checks t) (light-row t i .number) i
   unfolding bound-checks
-  refuses-thirteen i l h u =
-      stopped (lights t) (overs t) 13 i (omega arith) (single-stopped (light-row t) (t .rows) i l (omega arith) u h)
+  light-refused i l h u =
+      stopped (lights t) (overs t) _ i (omega arith) (single-stopped (light-row t) (t .rows) i l (omega arith) u h)
 
   module _ (some : 1 ≤ t .rows) (ws : List ℕ) (S : Sets t ws) where
     -- set k is within its bound: then 14 is not given for it, as no other list fits
@@ -63,11 +68,11 @@ module _ (t : Table) where
         let e : w .0 ≡ ws = sets-only some (w .1) S in
         h (subst (λ (vs : List ℕ). T (over t (bit (at vs k)))) e (w .3))
 
-    pub refuses-fourteen : NoneLight t → (k : ℕ) → k < length ws → length ws ≤ t .rows → T (over t (bit (at ws k)))
-        → ((j : ℕ) → j < k → T (over t (bit (at ws j))) → ⊥) → Answers (bound-checks t) 14 k
+    pub over-refused : NoneLight t → (k : ℕ) → k < length ws → length ws ≤ t .rows → T (over t (bit (at ws k)))
+        → ((j : ℕ) → j < k → T (over t (bit (at ws j))) → ⊥) → Answers (bound-checks t) (over-bound t k .number) k
     unfolding bound-checks
-    refuses-fourteen heavy k l few h u =
-        joined (lights t) (overs t) 14 k (single-none (light-row t) (t .rows) heavy)
+    over-refused heavy k l few h u =
+        joined (lights t) (overs t) _ k (single-none (light-row t) (t .rows) heavy)
         (single-stopped (over-bound t) (t .rows) k (omega arith) (omega arith) (λ j m. within j (u j m)) (ws, S, l, h))
 
     pub bound-none : NoneLight t → ((k : ℕ) → k < length ws → T (over t (bit (at ws k))) → ⊥) → None (bound-checks t)
@@ -128,25 +133,26 @@ admissible-of f a =
       bounded = bounded t (s .rows-low) (e .0) (e .1) (none-within t (s .rows-low) (e .0) (e .1) n (e .2));
     }
 
--- ---- refusal 12 is never given
+-- ---- refusal 12, of two sets that tie, is never given
 
-row-faults-lack : (t : Table) → Lacks 12 (row-checks t)
+-- no other check of the verdict has its number
+row-lacks : (t : Table) → Lacks tie-number (row-checks t)
 unfolding row-checks Lacks
-row-faults-lack t = lacks-each (λ i. wrong-ends t i ∷ wrong-period t i ∷ wrong-cost t i ∷ []) 12 (t .rows) (λ i. omega arith)
+row-lacks t = lacks-each (λ i. wrong-ends t i ∷ wrong-period t i ∷ wrong-cost t i ∷ []) tie-number (t .rows) (λ i. omega arith)
 
-file-lacks : (f : List ℕ) → Lacks 12 (file-checks f)
+file-lacks : (f : List ℕ) → Lacks tie-number (file-checks f)
 unfolding file-checks header-checks Lacks
-file-lacks f = lacks-join 12 (header-checks f) (row-checks (fileTable f)) (omega arith) (row-faults-lack (fileTable f))
+file-lacks f = lacks-join tie-number (header-checks f) (row-checks (fileTable f)) (omega arith) (row-lacks (fileTable f))
 
-bound-lacks : (t : Table) → Lacks 12 (bound-checks t)
+bound-lacks : (t : Table) → Lacks tie-number (bound-checks t)
 unfolding bound-checks Lacks
 bound-lacks t =
-    lacks-join 12 (lights t) (overs t) (lacks-each (λ i. light-row t i ∷ []) 12 (t .rows) (λ i. omega arith))
-    (lacks-each (λ k. over-bound t k ∷ []) 12 (t .rows) (λ k. omega arith))
+    lacks-join tie-number (lights t) (overs t) (lacks-each (λ i. light-row t i ∷ []) tie-number (t .rows) (λ i. omega arith))
+    (lacks-each (λ k. over-bound t k ∷ []) tie-number (t .rows) (λ k. omega arith))
 
-line-never-twelve : (t : Table) → Sound t → (p : ℕ) → Answers (line-checks t) 12 p → ⊥
+line-untied : (t : Table) → Sound t → (p : ℕ) → Answers (line-checks t) tie-number p → ⊥
 unfolding line-checks Answers
-line-never-twelve t s p a =
+line-untied t s p a =
     ⊎-elim (λ w. omega arith)
     (λ w. ⊎-elim (λ v. omega arith)
     (λ v. ⊎-elim
@@ -157,10 +163,10 @@ line-never-twelve t s p a =
     (w .1))
     a
 
-pub never-twelve : (f : List ℕ) (p : ℕ) → Answers (verdict-checks f) 12 p → ⊥
+pub never-tied : (f : List ℕ) (p : ℕ) → Answers (verdict-checks f) tie-number p → ⊥
 unfolding verdict-checks
-never-twelve f p a =
+never-tied f p a =
     let t = fileTable f in
-    let b = lacks-last 12 p (outline-checks f) (bound-checks t) (omega arith) (bound-lacks t) a in
-    let c = lacks-first 12 p (file-checks f) (line-checks t) (file-lacks f) b in
-    line-never-twelve t (passed-none f (c .0) .sound) p (c .1)
+    let b = lacks-last tie-number p (outline-checks f) (bound-checks t) (omega arith) (bound-lacks t) a in
+    let c = lacks-first tie-number p (file-checks f) (line-checks t) (file-lacks f) b in
+    line-untied t (passed-none f (c .0) .sound) p (c .1)

@@ -18,8 +18,8 @@ use Rattle.verdict.specs.declared.Verdict.the-variants.{Admitted, Refuse
 use Rattle.verdict.specs.Analysed.{Analysed}
 use Rattle.verdict.specs.Verdict.{numberOf, IsVerdict}
 use Rattle.verdict.specs.Demand.{Demand-2}
-use Rattle.verdict.proofs.Extra.{none-position, position-none}
-use Rattle.verdict.proofs.Bound.{verdict-numbered, admissible-of, never-twelve}
+use Rattle.rules.proofs.Answers.{none-position, position-none}
+use Rattle.verdict.proofs.Bound.{verdict-numbered, admissible-of, tie-number, never-tied}
 
 -- ---- the verdict of an analysis
 
@@ -87,6 +87,6 @@ demand-2 f r X = (
   λ u. answers-only (verdict-checks f) _ 0 _ 0 (X .answers) (answered (verdict-checks f) (position-none (verdict-checks f) u)) .0,
 )
 
--- refusal 12 is never given
-pub verdict-untied : (f : List ℕ) (r : Verdict) → IsVerdict f r → numberOf r ≢ 12
-verdict-untied f r X e = never-twelve f _ (rw e at (X .answers))
+-- refusal 12, of two sets that tie, is never given
+pub verdict-untied : (f : List ℕ) (r : Verdict) → IsVerdict f r → numberOf r ≢ tie-number
+verdict-untied f r X e = never-tied f _ (rw e at (X .answers))

@@ -1,4 +1,3 @@
-pub mod Extra
 pub mod Weighing
 pub mod Bound
 pub mod Analysing

@@ -4,7 +4,7 @@ use Prim.Native.Nat.{_-_, _*_, _≤_}
 use native.Mathlib.Omega.{arith}
 use Rattle.numbers.specs.Lists.{at}
 use Rattle.outline.specs.Outlined.{ByRow}
-use Rattle.interval.proofs.Fill.{by-row-start, by-row-put}
+use Rattle.outline.proofs.ByRow.{by-row-start, by-row-put}
 use Rattle.interval.proofs.shares.Statement.{statement}
 use Rattle.interval.proofs.shares.Tie as tie
 

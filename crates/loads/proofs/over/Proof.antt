@@ -4,7 +4,7 @@ use mathlib.Core.Path.{ap}
 use Prim.Native.Nat.{ℕ, _*_}
 use native.Mathlib.Omega.{arith}
 use Rattle.numbers.proofs.Rounding.{down-under}
-use Rattle.loads.proofs.Extra.{up-more, up-same}
+use Rattle.numbers.proofs.Rounding.{up-more, up-same}
 use Rattle.loads.proofs.over.Statement.{statement}
 use Rattle.loads.proofs.over.Tie as tie
 

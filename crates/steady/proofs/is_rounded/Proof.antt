@@ -6,7 +6,7 @@ use borrow.Author.Needs.{needs}
 use borrow.Author.Tests.{ltb-true, ltb-false, le-ltb}
 use Rattle.numbers.proofs.Rounding.{rounded-is, rounded-of}
 use Rattle.rules.specs.Bounds.{max-rows, max-slots}
-use Rattle.table.proofs.Faults.{decides-no}
+use Rattle.numbers.proofs.Truth.{decides-no}
 use Rattle.steady.proofs.is_rounded.Statement.{statement}
 use Rattle.steady.proofs.is_rounded.Tie as tie
 

@@ -1,7 +1,7 @@
 -- keeps_step: rows first, then sets.
 use borrow.Author.Needs.{needs}
 use borrow.Author.Tests.{not-true, not-false}
-use Rattle.table.proofs.Faults.{decides-no}
+use Rattle.numbers.proofs.Truth.{decides-no}
 use Rattle.steady.proofs.keeps_step.Statement.{statement}
 use Rattle.steady.proofs.keeps_step.Tie as tie
 

@@ -2,7 +2,7 @@
 use native.Mathlib.Nat.{mul-le-mul}
 use native.Mathlib.Omega.{arith}
 use borrow.Author.Needs.{needs}
-use Rattle.table.proofs.Faults.{decides-no}
+use Rattle.numbers.proofs.Truth.{decides-no}
 use Rattle.steady.proofs.Keeping.{rounded-le}
 use Rattle.steady.proofs.row_keeps_step.Statement.{statement}
 use Rattle.steady.proofs.row_keeps_step.Tie as tie

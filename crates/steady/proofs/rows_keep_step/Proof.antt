@@ -4,8 +4,8 @@ use native.Mathlib.Omega.{arith}
 use borrow.Author.Count.{below-more}
 use borrow.Author.Tests.{not-true, not-false}
 use Rattle.numbers.specs.Lists.{at}
-use Rattle.table.proofs.Faults.{decides-no}
-use Rattle.steady.proofs.Extra.{decides-yes}
+use Rattle.numbers.proofs.Truth.{decides-no}
+use Rattle.numbers.proofs.Truth.{decides-yes}
 use Rattle.steady.specs.Step.{RowsKeep}
 use Rattle.steady.proofs.rows_keep_step.Statement.{statement}
 use Rattle.steady.proofs.rows_keep_step.Tie as tie

@@ -5,8 +5,8 @@ use native.Mathlib.Omega.{arith}
 use borrow.Author.Count.{below-more}
 use Rattle.numbers.specs.Lists.{at}
 use Rattle.rules.specs.Bounds.{max-rows}
-use Rattle.table.proofs.Faults.{decides-no}
-use Rattle.steady.proofs.Extra.{decides-yes}
+use Rattle.numbers.proofs.Truth.{decides-no}
+use Rattle.numbers.proofs.Truth.{decides-yes}
 use Rattle.steady.proofs.spare_clear.Statement.{statement}
 use Rattle.steady.proofs.spare_clear.Tie as tie
 

@@ -1,6 +1,5 @@
 -- `supervisor::ring_plan` meets its contract: number and place are the whole plan's, and so small that they fit one number.
 use borrow.Author.Needs.{needs}
-use native.Mathlib.Omega.{arith}
 use Rattle.rules.proofs.Small.{plan-small}
 use Rattle.supervisor.proofs.ring_plan.Statement.{statement}
 use Rattle.supervisor.proofs.ring_plan.Tie as tie

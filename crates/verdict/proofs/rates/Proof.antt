@@ -6,7 +6,7 @@ use borrow.Author.Needs.{needs}
 use Rattle.rules.specs.TableFile.{fileTable}
 use Rattle.rules.specs.Loads as loads
 use Rattle.outline.specs.Outlined.{ByRow}
-use Rattle.verdict.proofs.Extra.{by-row-start, by-row-next}
+use Rattle.outline.proofs.ByRow.{by-row-start, by-row-put}
 use Rattle.verdict.proofs.rates.Statement.{statement}
 use Rattle.verdict.proofs.rates.Tie as tie
 
@@ -44,7 +44,7 @@ loop-again : tie.Need-loop-again Inv-loop μ-loop
 loop-again c =
     let z = c .before .before in
     let s = z .before .before .pre .0 .passed .sound in
-    (omega arith, by-row-next _ _ (z .loop .inv .1) (omega (arith, z .before .before .pre .0 .rows)) (c .rate-at .ensures))
+    (omega arith, by-row-put _ (z .loop .inv .1) (omega (arith, z .before .before .pre .0 .rows)) (c .rate-at .ensures))
 
 returns : tie.Need-returns Inv-loop μ-loop
 returns c =

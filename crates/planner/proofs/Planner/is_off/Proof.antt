@@ -1,6 +1,6 @@
 use borrow.Author.Needs.{needs}
 use borrow.Author.Tests.{not-true, not-false}
-use Rattle.steady.proofs.Extra.{decides-yes}
+use Rattle.numbers.proofs.Truth.{decides-yes}
 use Rattle.planner.proofs.Off.{interval-positive, hyper-short, analysis-shown, off-late, off-spare-total, state-bounded, off-decided}
 use Rattle.planner.proofs.Planner.is_off.Statement.{statement}
 use Rattle.planner.proofs.Planner.is_off.Tie as tie

@@ -5,7 +5,8 @@ use borrow.Author.Needs.{needs}
 use Rattle.rules.specs.Refusals.{wrong-ends, wrong-period}
 use Rattle.rules.proofs.Answers.{applied, passed, done}
 use Rattle.table.specs.Rows.{single}
-use Rattle.table.proofs.Faults.{denied, granted, ends-right}
+use Rattle.table.proofs.Faults.{ends-right}
+use Rattle.numbers.proofs.Truth.{denied, granted}
 use Rattle.table.proofs.checks.row_fault.Statement.{statement}
 use Rattle.table.proofs.checks.row_fault.Tie as tie
 

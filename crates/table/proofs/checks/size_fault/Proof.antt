@@ -4,7 +4,7 @@ use native.Mathlib.Omega.{arith}
 use native.Mathlib.Nat.{mul-le-mul-right}
 use borrow.Author.Needs.{needs}
 use Rattle.rules.proofs.Answers.{applied, passed, done}
-use Rattle.table.proofs.Faults.{denied, granted}
+use Rattle.numbers.proofs.Truth.{denied, granted}
 use Rattle.table.proofs.checks.size_fault.Statement.{statement}
 use Rattle.table.proofs.checks.size_fault.Tie as tie
 

@@ -1,7 +1,7 @@
 -- `table::checks::within` meets its contract.
 use native.Mathlib.Omega.{arith}
 use borrow.Author.Tests.{leb-true, leb-false}
-use Rattle.table.proofs.Faults.{decides-no}
+use Rattle.numbers.proofs.Truth.{decides-no}
 use Rattle.table.proofs.checks.within.Statement.{statement}
 use Rattle.table.proofs.checks.within.Tie as tie
 

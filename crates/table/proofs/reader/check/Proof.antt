@@ -1,11 +1,8 @@
 -- `table::reader::check` meets its contract.
-use mathlib.Core.List.{List}
-use mathlib.Core.Path.{_≡_}
-use Prim.Native.Nat.{ℕ}
 use native.Mathlib.Omega.{arith}
 use borrow.Author.Needs.{needs}
 use Rattle.rules.specs.TableFile.{fileTable}
-use Rattle.rules.specs.Refusals.{Answers, header-checks, row-checks, file-checks}
+use Rattle.rules.specs.Refusals.{header-checks, row-checks, file-checks}
 use Rattle.rules.proofs.Answers.{None, none-of, stopped, joined}
 use Rattle.table.proofs.Faults.{header-numbered, header-size}
 use Rattle.table.proofs.reader.check.Statement.{statement}

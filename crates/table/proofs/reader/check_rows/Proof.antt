@@ -1,6 +1,6 @@
 -- `table::reader::check_rows` meets its contract.
-use mathlib.Core.Path.{_≡_, sym, _∙_}
-use Prim.Native.Nat.{_-_, _<_}
+use mathlib.Core.Path.{sym}
+use Prim.Native.Nat.{_-_}
 use native.Mathlib.Omega.{arith}
 use borrow.Author.Needs.{needs}
 use Rattle.rules.specs.TableFile.{fileTable}
@@ -26,14 +26,15 @@ row-at-requires c κs = omega (arith, c .before .before .before .of .ensures, c 
 row-fault-requires : tie.Need-row-fault-requires Inv-loop μ-loop
 row-fault-requires c κs = search needs
 
-cast-t7 : tie.Need-cast-t7 Inv-loop μ-loop
-cast-t7 c = omega (arith, c .before .before .before .before .before .before .of .ensures)
+at-requires : tie.Need-at-requires Inv-loop μ-loop
+at-requires c κs = omega (arith, c .before .before .before .before .before .before .of .ensures)
 
 returns : tie.Need-returns Inv-loop μ-loop
 returns c =
-    let o = c .before .before .before .before .before .before .of .ensures in
-    checked-stop _ _ (sym (o .elements)) (c .before .before .row-at .ensures) (c .before .row-fault .ensures)
-    (c .before .before .before .before .before .loop .inv) (omega (arith, o .rows)) (c .if2 .taken)
+    let o = c .before .before .before .before .before .before .before .of .ensures in
+    rw (c .at .ensures .0, c .at .ensures .1)
+    (checked-stop _ _ (sym (o .elements)) (c .before .before .before .row-at .ensures) (c .before .before .row-fault .ensures)
+    (c .before .before .before .before .before .before .loop .inv) (omega (arith, o .rows)) (c .before .if2 .taken))
 
 add-i : tie.Need-add-i Inv-loop μ-loop
 add-i c = search needs
@@ -60,7 +61,7 @@ check-rows-spec =
     loop-holds
     row-at-requires
     row-fault-requires
-    cast-t7
+    at-requires
     returns
     add-i
     loop-less

@@ -4,7 +4,8 @@ use native.Mathlib.Omega.{arith}
 use borrow.Author.Needs.{needs}
 use Rattle.rules.specs.Refusals.{header-checks}
 use Rattle.rules.proofs.Answers.{applied, passed}
-use Rattle.table.proofs.Faults.{header-rest, denied, granted}
+use Rattle.table.proofs.Faults.{header-rest}
+use Rattle.numbers.proofs.Truth.{denied, granted}
 use Rattle.table.proofs.reader.header_fault.Statement.{statement}
 use Rattle.table.proofs.reader.header_fault.Tie as tie
 

@@ -3,7 +3,8 @@ use native.Mathlib.Omega.{arith}
 use borrow.Author.Needs.{needs}
 use borrow.Author.Tests.{eqb-true, eqb-false}
 use Rattle.numbers.specs.Lists.{at}
-use Rattle.table.proofs.Faults.{decides-no, mark-of, mark-at}
+use Rattle.table.proofs.Faults.{mark-of, mark-at}
+use Rattle.numbers.proofs.Truth.{decides-no}
 use Rattle.table.proofs.reader.is_marked.Statement.{statement}
 use Rattle.table.proofs.reader.is_marked.Tie as tie
 

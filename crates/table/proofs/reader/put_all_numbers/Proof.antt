@@ -1,6 +1,5 @@
 -- `table::reader::put_all_numbers` meets its contract.
 use mathlib.Core.Path.{_≡_}
-use mathlib.Core.List.{_++_}
 use mathlib.Core.List.{[]}
 use Prim.Native.Nat.{_+_, _*_, _-_, _≤_}
 use native.Mathlib.Omega.{arith}
@@ -10,7 +9,8 @@ use Rattle.numbers.specs.Lists.{each}
 use Rattle.numbers.proofs.Lists.{Filled, filled-start}
 use Rattle.rules.specs.TableFile.{fileTable}
 use Rattle.table.specs.Rows.{memoryRow}
-use Rattle.table.proofs.Fills.{filled-rows, filled-row, filled-lent, memory-row}
+use Rattle.rules.proofs.Calls.{filled-lent}
+use Rattle.table.proofs.Fills.{filled-rows, filled-row, memory-row}
 use Rattle.table.proofs.reader.put_all_numbers.Statement.{statement}
 use Rattle.table.proofs.reader.put_all_numbers.Tie as tie
 

@@ -1,10 +1,7 @@
 -- `table::reader::read` meets its contract.
-use mathlib.Core.Path.{refl, _∙_}
-use Prim.Native.Nat.{_*_, _<_}
 use native.Mathlib.Omega.{arith}
-use lib.ListN.{length}
 use borrow.Author.Needs.{needs}
-use Rattle.rules.specs.TableFile.{fileTable, numbers}
+use Rattle.rules.specs.TableFile.{numbers}
 use Rattle.rules.specs.Refusals.{file-checks}
 use Rattle.rules.proofs.Answers.{None, none-of}
 use Rattle.table.proofs.Faults.{file-numbered, passed-none}

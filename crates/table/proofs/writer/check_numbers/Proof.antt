@@ -4,8 +4,7 @@ use native.Mathlib.Omega.{arith}
 use native.Mathlib.Nat.{zero-add}
 use lib.ListN.{length}
 use borrow.Author.Needs.{needs}
-use Rattle.rules.specs.TableFile.{memoryTable}
-use Rattle.rules.specs.Refusals.{Answers, row-checks}
+use Rattle.rules.specs.Refusals.{Answers}
 use Rattle.rules.proofs.Answers.{None, none-of}
 use Rattle.table.specs.Sizes.{size-checks}
 use Rattle.table.proofs.Faults.{sizes-numbered, sizes-right, memory-stopped, memory-joined}

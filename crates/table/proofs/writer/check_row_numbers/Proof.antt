@@ -23,14 +23,15 @@ row-of-requires c κs = omega (arith, c .before .before .before .pre .1)
 row-fault-requires : tie.Need-row-fault-requires Inv-loop μ-loop
 row-fault-requires c κs = search needs
 
-cast-t8 : tie.Need-cast-t8 Inv-loop μ-loop
-cast-t8 c = omega (arith, c .before .before .before .before .before .before .pre .0)
+at-requires : tie.Need-at-requires Inv-loop μ-loop
+at-requires c κs = omega (arith, c .before .before .before .before .before .before .pre .0)
 
 returns : tie.Need-returns Inv-loop μ-loop
 returns c =
-    let a = c .before .before .before .before .before .before .args in
-    checked-stop _ _ refl (c .before .before .row-of .ensures (a .elements) (a .rows)) (c .before .row-fault .ensures)
-    (c .before .before .before .before .loop .inv) (c .before .before .before .loop-test .taken) (c .if1 .taken)
+    let a = c .before .before .before .before .before .before .before .args in
+    rw (c .at .ensures .0, c .at .ensures .1)
+    (checked-stop _ _ refl (c .before .before .before .row-of .ensures (a .elements) (a .rows)) (c .before .before .row-fault .ensures)
+    (c .before .before .before .before .before .loop .inv) (c .before .before .before .before .loop-test .taken) (c .before .if1 .taken))
 
 add-i : tie.Need-add-i Inv-loop μ-loop
 add-i c = search needs
@@ -56,7 +57,7 @@ check-row-numbers-spec =
     loop-holds
     row-of-requires
     row-fault-requires
-    cast-t8
+    at-requires
     returns
     add-i
     loop-less

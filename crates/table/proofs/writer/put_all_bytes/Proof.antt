@@ -9,7 +9,9 @@ use Rattle.numbers.specs.Lists.{each}
 use Rattle.numbers.proofs.Lists.{Filled}
 use Rattle.rules.specs.TableFile.{memoryTable}
 use Rattle.table.specs.Rows.{fileRow}
-use Rattle.table.proofs.Fills.{filled-front, filled-rows, filled-row, filled-lent, file-row}
+use Rattle.numbers.proofs.Lists.{filled-front}
+use Rattle.rules.proofs.Calls.{filled-lent}
+use Rattle.table.proofs.Fills.{filled-rows, filled-row, file-row}
 use Rattle.table.proofs.writer.put_all_bytes.Statement.{statement}
 use Rattle.table.proofs.writer.put_all_bytes.Tie as tie
 

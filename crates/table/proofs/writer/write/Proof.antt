@@ -1,13 +1,11 @@
 -- `table::writer::write` meets its contract.
 use mathlib.Core.Path.{refl, ap, _∙_}
 use native.Mathlib.Omega.{arith}
-use Prim.Native.Nat.{_+_, _*_, _<_}
 use lib.ListN.{length}
 use lib.Seq.{length-sets}
 use borrow.Author.Needs.{needs}
 use Rattle.numbers.specs.Lists.{each}
 use Rattle.rules.specs.TableFile.{memoryTable, bytes}
-use Rattle.rules.specs.Refusals.{writer-checks}
 use Rattle.rules.proofs.Answers.{None, none-of}
 use Rattle.table.specs.Rows.{fileHeader, fileRow}
 use Rattle.table.specs.Sizes.{memory-checks}

@@ -1,0 +1,40 @@
+-- Arrays that hold a number of each row: how a loop over the rows fills one, and that only one fits.
+use mathlib.Core.Path.{_≡_, sym, _∙_}
+use mathlib.Core.Logic.{⊎-elim}
+use mathlib.Core.List.{List}
+use Prim.Native.Nat.{ℕ, suc, _+_, _<_}
+use native.Mathlib.Nat.{not-suc-le-zero}
+use native.Mathlib.Omega.{arith}
+use lib.ListN.{length, set, replicate, length-set, length-replicate}
+use lib.Seq.{ext-getD, getD-set-same, getD-set-other}
+use Rattle.numbers.proofs.Truth.{le-or-lt}
+use Rattle.numbers.proofs.Finite.{below}
+use Rattle.numbers.proofs.Lists.{zeros-at}
+use Rattle.rules.specs.Bounds.{max-rows}
+use Rattle.outline.specs.Outlined.{ByRow}
+
+pub by-row-only : {n : ℕ} {g : ℕ → ℕ} {xs ys : List ℕ} → ByRow n g xs → ByRow n g ys → xs ≡ ys
+by-row-only {n} {g} {xs} {ys} X Y =
+    ext-getD 0 xs ys (X .size ∙ sym (Y .size))
+    (λ i l.
+    ⊎-elim (λ h. let m : i < max-rows = omega (arith, X .size) in X .rest i h m ∙ sym (Y .rest i h m))
+    (λ h. X .row i h ∙ sym (Y .row i h))
+    (le-or-lt n i))
+
+pub by-row-start : (g : ℕ → ℕ) → ByRow 0 g (replicate max-rows 0)
+by-row-start g = record {
+  size = length-replicate {A = ℕ} max-rows 0;
+  row = λ i l. absurd (not-suc-le-zero l);
+  rest = λ i l m. zeros-at max-rows i;
+}
+
+pub by-row-put : {i : ℕ} {g : ℕ → ℕ} {xs : List ℕ} (v : ℕ) → ByRow i g xs → i < max-rows → v ≡ g i → ByRow (i + 1) g (set xs i v)
+by-row-put {i} {g} {xs} v B h e = record {
+  size = length-set xs i v ∙ B .size;
+  row = λ j l.
+      ⊎-elim
+      (λ (q : j ≡ i). rw q (getD-set-same xs i v 0 (omega (arith, B .size)) ∙ e))
+      (λ (m : j < i). getD-set-other xs i j v 0 (λ q. omega arith) ∙ B .row j m)
+      (below (let z : j < suc i = omega arith in z));
+  rest = λ j l m. getD-set-other xs i j v 0 (λ q. omega arith) ∙ B .rest j (omega arith) m;
+}

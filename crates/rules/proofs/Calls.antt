@@ -1,0 +1,75 @@
+-- Laws of calls: what a lent slice holds, and a call's answer from the answers to its checks.
+use mathlib.Core.Path.{_≡_, refl, sym, _∙_}
+use mathlib.Core.Logic.{_⊎_, inl, inr, _≢_}
+use mathlib.Core.List.{List, [], _∷_, _++_}
+use Prim.Native.Nat.{ℕ}
+use native.Mathlib.Decide.{ℕ-discrete}
+use native.Mathlib.Omega.{arith}
+use lib.ListN.{length, take, drop}
+use lib.Seq.{take-at}
+use Rattle.numbers.proofs.Lists.{Filled}
+use Rattle.rules.specs.Refusals.{Check, Answers, short-output}
+use Rattle.rules.specs.Calls.{Call, lent}
+use Rattle.rules.proofs.Answers.{None, Numbered, applied, passed, done, stopped, joined, answered, none-of, answers-only}
+
+-- ---- a lent slice with numbers written to its front
+
+pub lent-take : (ws was : List ℕ) (k : ℕ) → length ws ≡ k → take k (lent ws was) ≡ ws
+unfolding lent
+lent-take ws was k e = take-at ws (drop (length ws) was) k e
+
+pub filled-lent : {was out xs : List ℕ} {n : ℕ} → Filled was out n xs → out ≡ lent xs was
+unfolding lent
+filled-lent F = rw (F .count) (F .holds)
+
+-- ---- calls whose last check is that the output is long enough: A says that it is too short, cs are the checks before
+
+module _ (cs : List Check) (A : Type 0) {Done Refused : Type 0} where
+  -- a check before refuses
+  pub call-refused : {n p : ℕ} → Answers cs n p → n ≢ 0 → Refused → Call (cs ++ (short-output A ∷ [])) n p Done Refused
+  call-refused {n} {p} a h r = record {
+    answers = stopped cs (short-output A ∷ []) n p h a;
+    done = λ e. absurd (h e);
+    refused = λ g. r;
+  }
+
+  -- the output is too short
+  pub call-short : None cs → A → Refused → Call (cs ++ (short-output A ∷ [])) 17 0 Done Refused
+  call-short a h r = record {
+    answers = joined cs (short-output A ∷ []) 17 0 a (applied (short-output A) [] 17 0 h refl refl);
+    done = λ e. absurd (let z : ⊥ = omega arith in z);
+    refused = λ g. r;
+  }
+
+  -- no check refuses
+  pub call-done : {n p : ℕ} → Numbered cs → Answers cs n p → n ≡ 0 → (A → ⊥) → Done → Call (cs ++ (short-output A ∷ [])) n p Done Refused
+  call-done {n} {p} m a e h d =
+      let s = none-of cs p m (rw e at a) in
+      let z = answers-only cs n 0 p 0 a (answered cs s) in
+      rw (z .0, z .1) (record {
+        answers = joined cs (short-output A ∷ []) 0 0 s (passed (short-output A) [] 0 0 h done);
+        done = λ g. d;
+        refused = λ g. absurd (g refl);
+      })
+
+-- ---- only one answer fits
+
+pub call-only : {cs : List Check} {D R D′ R′ : Type 0} {m n p q : ℕ} → Call cs m p D R → Call cs n q D′ R′
+    → (m ≡ n) × (p ≡ q) × ((D × D′) ⊎ (R × R′))
+call-only {cs} {D} {R} {D′} {R′} {m} {n} {p} {q} c d =
+    let z = answers-only cs m n p q (c .answers) (d .answers) in
+    (z .0, z .1, go (z .0) (ℕ-discrete m 0))
+  where
+    go : m ≡ n → Dec (m ≡ 0) → (D × D′) ⊎ (R × R′)
+    go e (yes h) = inl (c .done h, d .done (sym e ∙ h))
+    go e (no h) = inr (c .refused h, d .refused (λ k. h (e ∙ k)))
+
+-- ---- what a call did that answers 0, and that a call with no reason to refuse is done
+
+pub call-none : {cs : List Check} {D R : Type 0} {p : ℕ} → Numbered cs → Call cs 0 p D R → None cs
+call-none {cs} {p = p} m c = none-of cs p m (c .answers)
+
+pub call-must : {cs : List Check} {D R : Type 0} {n p : ℕ} → None cs → Call cs n p D R → (n ≡ 0) × (p ≡ 0) × D
+call-must {cs} {n = n} {p = p} a c =
+    let z = answers-only cs n 0 p 0 (c .answers) (answered cs a) in
+    (z .0, z .1, c .done (z .0))
