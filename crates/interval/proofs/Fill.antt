@@ -1,18 +1,14 @@
 -- The totals with each row's load, as a loop over the rows adds it. What the loop keeps is what it gives, for the rows passed.
-use mathlib.Core.Path.{_≡_, refl, sym, ap, _∙_}
+use mathlib.Core.Path.{_≡_, refl, ap, _∙_}
 use mathlib.Core.Logic.{⊎-elim}
 use mathlib.Core.List.{List}
 use Prim.Native.Nat.{ℕ, suc, _+_, _<_}
 use native.Mathlib.Nat.{not-suc-le-zero}
 use native.Mathlib.Omega.{arith}
-use lib.ListN.{length, set, replicate, length-set, length-replicate}
-use lib.Seq.{ext-getD, getD-set-same, getD-set-other}
+use lib.ListN.{length, set}
+use lib.Seq.{getD-set-same, getD-set-other}
 use Rattle.numbers.specs.Lists.{at}
-use Rattle.numbers.proofs.Truth.{le-or-lt}
 use Rattle.numbers.proofs.Finite.{below}
-use Rattle.numbers.proofs.Lists.{zeros-at}
-use Rattle.rules.specs.Bounds.{max-rows}
-use Rattle.outline.specs.Outlined.{ByRow}
 use Rattle.interval.specs.Interval.{Added}
 
 pub added-none : (had x : ℕ → ℕ) → Added 0 had x had

@@ -7,7 +7,6 @@ use Prim.Native.Nat.{ℕ, _+_, _≤_, _<_}
 use native.Mathlib.Decide.{ℕ-discrete}
 use native.Mathlib.Omega.{arith}
 use lib.ListN.{length, take, length-take}
-use lib.Seq.{ext-getD}
 use Rattle.numbers.specs.Lists.{at}
 use Rattle.numbers.proofs.Truth.{le-or-lt}
 use Rattle.rules.specs.Bounds.{max-rows, max-slots}
@@ -38,7 +37,7 @@ use Rattle.sets.specs.Sets.{OnLine, Listed}
 use Rattle.sets.proofs.Listed.{listed-only}
 use Rattle.outline.specs.declared.Outline.{Outline}
 use Rattle.outline.proofs.ByRow.{by-row-only}
-use Rattle.outline.specs.Outlined.{ByRow, Found, blank, outline-checks, Outlined}
+use Rattle.outline.specs.Outlined.{Found, blank, outline-checks, Outlined}
 use Rattle.outline.proofs.Sets.{Ends, own-ends, ends-on-line, line-list, sets-untied}
 
 -- ---- refusals 10 to 12

@@ -1,31 +1,26 @@
 -- The promises of the planner's calls, proved of every answer that their contracts allow.
-use mathlib.Core.Path.{_≡_, refl, sym, ap, ap₂, _∙_, subst}
-use mathlib.Core.List.{List, [], _++_}
-use Prim.Native.Nat.{ℕ, zero, suc, _-_, _≤_, _<_}
-use native.Mathlib.Nat.{le-refl}
-use native.Mathlib.Decide.{ℕ-discrete}
-use native.Mathlib.Omega.{arith}
+use mathlib.Core.Path.{_≡_, sym, ap, _∙_, subst}
+use mathlib.Core.List.{List, []}
+use Prim.Native.Nat.{ℕ, zero, _-_, _≤_}
 use lib.ListN.{length, take}
 use lib.Seq.{take-at}
 use Rattle.rules.specs.Bus.{Table}
 use Rattle.rules.specs.TableFile.{fileTable}
 use Rattle.rules.specs.Loads.{start, end, intervals}
 use Rattle.rules.specs.Planner as rules
-use Rattle.rules.specs.Planner.{due, finished, Off, WholePlan}
-use Rattle.rules.specs.Refusals.{verdict-checks, plan-checks, step-room, step-checks, standings-checks}
+use Rattle.rules.specs.Planner.{due}
+use Rattle.rules.specs.Refusals.{verdict-checks, plan-checks, step-room, step-checks}
 use Rattle.rules.specs.Calls.{lent}
-use Rattle.rules.proofs.Answers.{None, none-of, none-left, none-right, answers-only}
+use Rattle.rules.proofs.Answers.{None, none-of, answers-only}
 use Rattle.lags.specs.Lags.{Admissible, NotOff}
 use Rattle.lags.proofs.States.{not-off, not-off-fresh, not-off-next, standing-below, standing-above}
-use Rattle.promises.proofs.Plans.{ran}
 use Rattle.promises.proofs.Demands.{demand-3, plan-finished}
 use Rattle.verdict.proofs.Bound.{verdict-numbered, admissible-of}
-use Rattle.planner.specs.declared.Stage.the-variants.{Due, Finished}
+use Rattle.planner.specs.declared.Stage.the-variants.{Finished}
 use Rattle.planner.specs.declared.Planner.{Planner}
-use Rattle.planner.specs.State.{stageOf, plannerOf, freshPlanner}
+use Rattle.planner.specs.State.{stageOf, plannerOf}
 use Rattle.planner.specs.Chosen.{Chosen, ChosenRun}
 use Rattle.planner.specs.Chosen as chosen
-use Rattle.planner.specs.Answers.{StepAnswer, StandingsAnswer, PlanAnswer}
 use Rattle.planner.specs.Promises.{
   Admitted,
   Steps,

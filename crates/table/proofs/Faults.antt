@@ -4,14 +4,12 @@
 use mathlib.Core.Path.{_≡_, refl, sym, ap, _∙_}
 use mathlib.Core.Logic.{inl, inr, ⊎-elim, _≢_}
 use mathlib.Core.List.{List, [], _∷_}
-use mathlib.Core.Bool.{Bool, true, false, not}
 use Prim.Native.Nat.{ℕ, _+_, _*_, _≤_, _<_}
 use native.Mathlib.Omega.{arith}
 use lib.ListN.{length}
 use lib.Seq.{getD-take}
-use borrow.Author.Tests.{not-true, not-false}
 use Rattle.numbers.specs.Lists.{at, each}
-use Rattle.numbers.proofs.Truth.{of-true, le-or-lt}
+use Rattle.numbers.proofs.Truth.{le-or-lt}
 use Rattle.rules.specs.Bounds.{max-elements, max-rows, max-slots}
 use Rattle.rules.specs.Bus.{Table}
 use Rattle.rules.specs.TableFile.{table-mark, table-version, headerSize, rowSize, rowNumbers, mark, version, fileTable, memoryTable}
@@ -22,7 +20,6 @@ use Rattle.table.specs.declared.Row.{Row}
 use Rattle.table.specs.Sound.{SoundRow, Sound, Passed}
 use Rattle.table.specs.Rows.{IsRow, single, faults, EndsFit}
 use Rattle.table.specs.Sizes.{size-checks, memory-checks}
-use Rattle.numbers.specs.Decides.{Decides}
 use Rattle.numbers.proofs.Truth.{limits, equals}
 
 -- ---- tests

@@ -2,9 +2,7 @@
 --
 --   size-checks M n has wants   checks 4 to 6 of M elements and n rows, where the file or slice has `has` places and is to have `wants`
 --   memory-checks M n xs        checks 4 to 9 of M elements, n rows and the slice xs
-use mathlib.Core.Path.{_≡_}
 use mathlib.Core.List.{List, [], _∷_, _++_}
-use mathlib.Core.Bool.{Bool, true, false}
 use Prim.Native.Nat.{ℕ, _*_}
 use lib.ListN.{length}
 use Rattle.rules.specs.TableFile.{rowNumbers, memoryTable}

@@ -1,12 +1,12 @@
 -- `planner::plan_intervals` meets its contract: `Planning` says what its loop keeps.
-use mathlib.Core.Path.{_≡_, refl, sym, ap, _∙_}
+use mathlib.Core.Path.{_≡_, refl, sym, _∙_}
 use Prim.Native.Nat.{_+_, _-_, _≤_, _<_}
 use native.Mathlib.Omega.{arith}
 use borrow.Author.Needs.{needs}
 use lib.ListN.{length, length-take, length-drop}
 use Rattle.rules.specs.Bounds.{max-slots}
 use Rattle.rules.specs.TableFile.{fileTable}
-use Rattle.rules.specs.Loads.{start, end, intervals}
+use Rattle.rules.specs.Loads.{end, intervals}
 use Rattle.planner.proofs.Laying.{few-rows, few-sets, few-elements, ranges-span, ready-of, start-is, end-is, start-small, end-small}
 use Rattle.planner.proofs.Course.{Planning, planning-start, planning-room, planning-next, planning-end}
 use Rattle.planner.proofs.plan_intervals.Statement.{statement}

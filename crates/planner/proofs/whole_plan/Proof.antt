@@ -1,11 +1,8 @@
 -- `planner::whole_plan` meets its contract.
-use mathlib.Core.Path.{_≡_, refl, sym, ap, _∙_}
-use Prim.Native.Nat.{_/_}
+use mathlib.Core.Path.{ap}
 use native.Mathlib.Omega.{arith}
 use borrow.Author.Needs.{needs}
 use lib.ListN.{length}
-use Rattle.rules.specs.TableFile.{fileTable}
-use Rattle.rules.specs.Loads.{intervals}
 use Rattle.verdict.specs.Analysed.{Accepted}
 use Rattle.rules.specs.Refusals.{verdict-checks}
 use Rattle.rules.proofs.Answers.{None}
