@@ -12,56 +12,43 @@ use Rattle.numbers.proofs.Lists.{zeros-at}
 use Rattle.rules.specs.Bounds.{max-rows}
 use Rattle.rules.specs.TableFile.{fileTable}
 use Rattle.rules.specs.Loads.{intervals}
-use Rattle.rules.specs.Planner.{Off}
 use Rattle.rules.specs.Refusals.{Answers, verdict-checks, plan-checks, step-checks, standings-checks}
 use Rattle.rules.proofs.Answers.{None, none-of}
-use Rattle.lags.specs.Lags.{Admissible, NotOff}
-use Rattle.lags.proofs.States.{not-off}
+use Rattle.lags.specs.Lags.{Admissible}
 use Rattle.verdict.specs.declared.Analysis.{Analysis}
 use Rattle.verdict.specs.Analysed.{Accepted, Analysed}
 use Rattle.verdict.proofs.Bound.{verdict-numbered}
-use Rattle.steady.specs.Step.{RowsKeep, Stands}
-use Rattle.steady.proofs.Steady.{steady-is, standings-are}
+use Rattle.steady.specs.Step.{Stands}
+use Rattle.steady.proofs.Steady.{standings-are}
 use Rattle.planner.specs.declared.Stage.the-variants.{Due}
 use Rattle.planner.specs.declared.Planner.{Planner}
-use Rattle.planner.specs.State.{stageOf, plannerOf, InRange, slotOf, nextOf, noStandings}
+use Rattle.planner.specs.State.{stageOf, plannerOf, slotOf, stageAt, unmovedOf, noStandings}
 use Rattle.planner.specs.Chosen.{Chosen, Course, Coursed}
 use Rattle.planner.specs.Answers.{StepAnswer, StandingsAnswer, PlanAnswer}
 use Rattle.planner.proofs.Chosen.{chosen-step, chosen-run}
-use Rattle.planner.proofs.Off.{analysis-shown, intervals-are, slot-is, next-is}
+use Rattle.planner.proofs.Timed.{timed-of, timed-shown, slot-is, next-is}
 use Rattle.planner.proofs.Course.{course-one, course-run}
 
 -- an analysis that refuses nothing
 pub analysed-none : {f : List ℕ} {a : Analysis} → Analysed f a → a .number ≡ 0 → None (verdict-checks f)
 analysed-none {f} {a} A z = none-of (verdict-checks f) (a .place) (verdict-numbered f) (rw z at (A .answers))
 
--- ---- a state that is not off
+-- ---- standings
 
-module _ {f : List ℕ} {a : Analysis} (A : Accepted f a) (p : Planner) (o : ¬ Off (fileTable f) (plannerOf p)) where
-  still : NotOff (fileTable f) (plannerOf p)
-  still = not-off .0 o
-
-  pub state-in-range : InRange (p .stage) (a .hyper / a .interval)
-  state-in-range k e = omega (arith, intervals-are A, still .number k (ap stageOf e))
-
-  module _ (s : ℕ) (e : s ≡ slotOf (a .hyper) (a .interval) (p .stage)) where
-    pub state-keeps : RowsKeep (a .rows) (a .hyper) s (at (a .rate)) (at (p .totals))
-    state-keeps =
-        steady-is (analysis-shown A) s (at (p .totals)) .1 (rw (e ∙ slot-is A (p .stage)) (still .steady)) .rows
-
-    -- ---- standings
-
-    pub standings-answer : (xs : List ℤ) → Answers (standings-checks f (plannerOf p)) 0 0
-        → Stands (a .rows) (a .hyper) s (at (a .rate)) (at (p .totals)) xs
-        → StandingsAnswer f p (record { number = 0; place = 0; values = xs })
-    standings-answer xs c S = record {
-      stood = record {
-        answers = c;
-        done = λ z. standings-are (analysis-shown A) (plannerOf p) (e ∙ slot-is A (p .stage)) xs S;
-        refused = λ h. absurd (h refl);
-      };
-      size = S .size;
-    }
+module _ {f : List ℕ} {a : Analysis} (A : Accepted f a) (p : Planner) (s : ℕ) (e : s ≡ slotOf (a .hyper) (a .interval) (p .stage)) where
+  pub standings-answer : (xs : List ℤ) → Answers (standings-checks f (plannerOf p)) 0 0
+      → Stands (a .rows) (a .hyper) s (at (a .rate)) (at (p .totals)) xs
+      → StandingsAnswer f p (record { number = 0; place = 0; values = xs })
+  standings-answer xs c S =
+      let H = timed-of A in
+      record {
+        stood = record {
+          answers = c;
+          done = λ z. standings-are (timed-shown H) (plannerOf p) (e ∙ slot-is H (p .stage)) xs S;
+          refused = λ h. absurd (h refl);
+        };
+        size = S .size;
+      }
 
 nothing : (m i : ℕ) → getD (replicate m (pos 0)) i (pos 0) ≡ pos 0
 nothing zero i = refl
@@ -82,7 +69,7 @@ module _ (f : List ℕ) (p : Planner) (n q : ℕ) (refuses : n ≢ 0) where
   -- ---- steps
 
   pub step-refusal : (was : List ℕ) → length (p .totals) ≡ max-rows → Answers (step-checks f (plannerOf p) (length was)) n q
-      → StepAnswer f p (record { planner = p; number = n; place = q }) was was
+      → StepAnswer f p (unmovedOf p n q) was was
   step-refusal was size c = record {
     stepped = record { answers = c; done = λ z. absurd (refuses z); refused = λ h. (refl, refl) };
     chosen = λ z. absurd (refuses z);
@@ -92,21 +79,19 @@ module _ (f : List ℕ) (p : Planner) (n q : ℕ) (refuses : n ≢ 0) where
 
 module _ {f : List ℕ} {a : Analysis} (A : Accepted f a) (p : Planner) (k : ℕ) (is-due : p .stage ≡ Due k) (now was out : List ℕ)
     (C : Coursed (fileTable f) k (k + 1) (p .totals) now was out) where
-  moved-on : Planner
-  moved-on = record { stage = nextOf (a .hyper / a .interval) k; totals = now }
+  abbrev moved-on : Planner
+  moved-on = record { stage = stageAt (a .hyper / a .interval) (k + 1); totals = now }
 
   chosen : Chosen (fileTable f) (plannerOf p) (plannerOf moved-on) (C .words)
-  unfolding moved-on
   chosen = record {
     interval = k;
     is-due = ap stageOf is-due;
     moved = course-one (C .course) (add-one k);
-    after = next-is A k;
+    after = next-is (timed-of A) k;
   }
 
   pub step-answer : Answers (step-checks f (plannerOf p) (length was)) 0 0
-      → StepAnswer f p (record { planner = record { stage = nextOf (a .hyper / a .interval) k; totals = now }; number = 0; place = 0 }) was out
-  unfolding moved-on
+      → StepAnswer f p (record { planner = moved-on; number = 0; place = 0 }) was out
   step-answer c = record {
     stepped = record {
       answers = c;

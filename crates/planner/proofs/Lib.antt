@@ -1,5 +1,6 @@
 pub mod Chosen
 pub mod State
+pub mod Timed
 pub mod Off
 pub mod Course
 pub mod Checks

@@ -1,34 +1,31 @@
--- Stages in plain numbers, and states that are off on an admitted table.
-use mathlib.Core.Path.{_≡_, refl, sym, ap, ap₂, _∙_}
+-- Interval numbers in range, and states that are off on an admitted table.
+use mathlib.Core.Path.{_≡_, refl, sym, ap, _∙_}
 use mathlib.Core.Logic.{⊎-elim}
-use mathlib.Core.Bool.{Bool, true, false, not, cond}
+use mathlib.Core.Bool.{Bool, true, false, not}
 use mathlib.Core.List.{List}
-use Prim.Native.Nat.{ℕ, _+_, _*_, _/_, _≤_, _<_}
-use native.Mathlib.Nat.{div-mul-le-self, mul-le-mul-right}
+use Prim.Native.Nat.{ℕ, _/_, _≤_, _<_}
 use native.Mathlib.Omega.{arith}
-use lib.Dec.{ltb, eqb}
-use Rattle.rules.specs.Bounds.{max-slots}
+use lib.Dec.{ltb}
 use Rattle.numbers.proofs.Truth.{decides-no}
 use Rattle.numbers.proofs.Truth.{decides-yes}
 use borrow.Author.Tests.{ltb-true, ltb-false}
 use Rattle.numbers.specs.Lists.{at}
 use Rattle.numbers.proofs.Truth.{le-or-lt}
-use Rattle.rules.specs.TableFile.{fileTable}
-use Rattle.rules.specs.Loads.{start, intervals}
-use Rattle.rules.specs.Planner.{due, finished, Off, next, reached}
+use Rattle.rules.specs.Bus.{Table}
+use Rattle.rules.specs.Loads.{intervals}
+use Rattle.rules.specs.Planner.{due, Off}
 use Rattle.rules.specs.Planner as rules
 use Rattle.numbers.specs.Decides.{Decides}
-use Rattle.lags.proofs.Intervals.{shortest-positive}
 use Rattle.lags.proofs.States.{not-off}
-use Rattle.verdict.specs.declared.Analysis.{Analysis}
-use Rattle.verdict.specs.Analysed.{Accepted}
-use Rattle.steady.specs.Step.{Bounded, KeepsStep, SpareClear}
-use Rattle.steady.proofs.Steady.{Shown, bounded, reached-le, not-off-of, off-spare, off-step}
+use Rattle.steady.specs.Step.{Bounded, RowsKeep, KeepsStep, SpareClear}
+use Rattle.steady.proofs.Steady.{bounded, reached-le, steady-is, not-off-of, off-spare, off-step}
 use Rattle.planner.specs.declared.Stage.{Stage}
 use Rattle.planner.specs.declared.Stage.the-variants.{Due, Finished}
 use Rattle.planner.specs.declared.Planner.{Planner}
-use Rattle.planner.specs.State.{stageOf, plannerOf, InRange, slotOf, nextOf}
+use Rattle.planner.specs.State.{stageOf, plannerOf, InRange, slotOf}
+use Rattle.planner.specs.Timed.{Timed}
 use Rattle.planner.proofs.State.{stage-same}
+use Rattle.planner.proofs.Timed.{timed-shown, intervals-are, slot-is}
 
 -- ---- stages
 
@@ -53,70 +50,38 @@ module _ (s : Stage) (n : ℕ) where
           (le-or-lt n k)
       go Finished e = absurd (f (λ m q. absurd (let z : _≡_ {A = ℕ} 0 1 = cc in omega arith)))
 
--- the start of an interval in range
-pub slot-fits : (h l k : ℕ) → k < h / l → k * l ≤ h
-slot-fits h l k m = omega (arith, mul-le-mul-right l (let z : k ≤ h / l = omega arith in z), div-mul-le-self h l)
+-- ---- states that are off, and that are not
 
--- ---- a table that is admitted, and how its hyperperiod is cut
+module _ {t : Table} {rows sets hyper interval : ℕ} {rates words : List ℕ} (H : Timed t rows sets hyper interval rates words)
+    (p : Planner) where
+  pub off-late : ¬ InRange (p .stage) (hyper / interval) → Off t (plannerOf p)
+  off-late g =
+      let w = late-number (p .stage) (hyper / interval) g in
+      Off.late (w .0) (ap stageOf (w .1)) (omega (arith, intervals-are H, w .2))
 
-module _ {f : List ℕ} {a : Analysis} (A : Accepted f a) where
-  pub analysis-shown : Shown (fileTable f) (a .rows) (a .hyper) (a .rate) (a .sets) (a .words)
-  analysis-shown = record {
-    rows = A .outline .rows;
-    hyper = A .outline .hyper;
-    by-row = A .rate;
-    few = let s = A .admissible .sound in omega (arith, A .outline .few);
-    size = A .outline .size;
-    list = A .outline .list;
-  }
+  pub off-spare-total : ¬ SpareClear rows (at (p .totals)) → Off t (plannerOf p)
+  off-spare-total = off-spare (timed-shown H) (plannerOf p)
 
-  pub interval-positive : 0 < a .interval
-  interval-positive = omega (arith, A .outline .interval, shortest-positive (A .admissible .sound))
+  module _ (r : InRange (p .stage) (hyper / interval)) where
+    number-in : (k : ℕ) → stageOf (p .stage) ≡ due k → k < intervals t
+    number-in k e = omega (arith, intervals-are H, r k (stage-same (p .stage) (Due k) e))
 
-  pub hyper-short : a .hyper ≤ max-slots
-  hyper-short = omega (arith, A .outline .hyper, A .admissible .short)
+    pub state-bounded : Bounded rows hyper (slotOf hyper interval (p .stage)) (at rates)
+    state-bounded =
+        bounded (timed-shown H) (H .admissible .sound) (H .admissible .short) _
+        (rw (slot-is H (p .stage)) (reached-le (H .admissible .sound) (stageOf (p .stage)) number-in))
 
-  pub intervals-are : a .hyper / a .interval ≡ intervals (fileTable f)
-  unfolding intervals
-  intervals-are = ap₂ _/_ (A .outline .hyper) (A .outline .interval)
+    -- the last test decides
+    pub off-decided : (s : ℕ) → s ≡ slotOf hyper interval (p .stage) → SpareClear rows (at (p .totals)) → (b : Bool)
+        → Decides (KeepsStep rows hyper s (at rates) sets (at words) (at (p .totals))) b → Decides (Off t (plannerOf p)) (not b)
+    off-decided s e c true D =
+        decides-no (not-off .1 (not-off-of (timed-shown H) (plannerOf p) (e ∙ slot-is H (p .stage)) number-in c (D .holds refl)))
+    off-decided s e c false D = decides-yes (off-step (timed-shown H) (plannerOf p) (e ∙ slot-is H (p .stage)) (D .fails refl))
 
-  pub slot-is : (s : Stage) → slotOf (a .hyper) (a .interval) s ≡ reached (fileTable f) (stageOf s)
-  unfolding start
-  slot-is (Due k) = ap (λ (l : ℕ). k * l) (A .outline .interval)
-  slot-is Finished = A .outline .hyper
+  module _ (o : ¬ Off t (plannerOf p)) where
+    pub state-in-range : InRange (p .stage) (hyper / interval)
+    state-in-range k e = omega (arith, intervals-are H, not-off .0 o .number k (ap stageOf e))
 
-  pub next-is : (k : ℕ) → stageOf (nextOf (a .hyper / a .interval) k) ≡ next (fileTable f) k
-  next-is k = go (eqb (k + 1) (a .hyper / a .interval)) (ap (eqb (k + 1)) intervals-are)
-    where
-      go : (b : Bool) → b ≡ eqb (k + 1) (intervals (fileTable f))
-          → stageOf (cond b Finished (Due (k + 1))) ≡ cond (eqb (k + 1) (intervals (fileTable f))) finished (due (k + 1))
-      go true e = rw (← e)
-      go false e = rw (← e)
-
-  -- ---- states that are off, and that are not
-
-  module _ (p : Planner) where
-    pub off-late : ¬ InRange (p .stage) (a .hyper / a .interval) → Off (fileTable f) (plannerOf p)
-    off-late g =
-        let w = late-number (p .stage) (a .hyper / a .interval) g in
-        Off.late (w .0) (ap stageOf (w .1)) (omega (arith, intervals-are, w .2))
-
-    pub off-spare-total : ¬ SpareClear (a .rows) (at (p .totals)) → Off (fileTable f) (plannerOf p)
-    off-spare-total = off-spare analysis-shown (plannerOf p)
-
-    module _ (r : InRange (p .stage) (a .hyper / a .interval)) where
-      number-in : (k : ℕ) → stageOf (p .stage) ≡ due k → k < intervals (fileTable f)
-      number-in k e = omega (arith, intervals-are, r k (stage-same (p .stage) (Due k) e))
-
-      pub state-bounded : Bounded (a .rows) (a .hyper) (slotOf (a .hyper) (a .interval) (p .stage)) (at (a .rate))
-      state-bounded =
-          bounded analysis-shown (A .admissible .sound) (A .admissible .short) _
-          (rw (slot-is (p .stage)) (reached-le (A .admissible .sound) (stageOf (p .stage)) number-in))
-
-      -- the last test decides
-      pub off-decided : (s : ℕ) → s ≡ slotOf (a .hyper) (a .interval) (p .stage) → SpareClear (a .rows) (at (p .totals)) → (b : Bool)
-          → Decides (KeepsStep (a .rows) (a .hyper) s (at (a .rate)) (a .sets) (at (a .words)) (at (p .totals))) b
-          → Decides (Off (fileTable f) (plannerOf p)) (not b)
-      off-decided s e c true D =
-          decides-no (not-off .1 (not-off-of analysis-shown (plannerOf p) (e ∙ slot-is (p .stage)) number-in c (D .holds refl)))
-      off-decided s e c false D = decides-yes (off-step analysis-shown (plannerOf p) (e ∙ slot-is (p .stage)) (D .fails refl))
+    pub state-keeps : (s : ℕ) → s ≡ slotOf hyper interval (p .stage) → RowsKeep rows hyper s (at rates) (at (p .totals))
+    state-keeps s e =
+        steady-is (timed-shown H) s (at (p .totals)) .1 (rw (e ∙ slot-is H (p .stage)) (not-off .0 o .steady)) .rows

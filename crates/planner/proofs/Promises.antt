@@ -107,6 +107,7 @@ promises = record {
   one-step = step-only;
   one-plan = plan-only;
   one-standings = standings-only;
+  fresh-is = fresh-is;
   fresh-not-off = fresh-not-off;
   never-refused = never-refused;
   whole-is-steps = whole-is-steps;

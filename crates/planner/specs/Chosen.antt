@@ -4,27 +4,20 @@
 --   ChosenRun t k q ws     k such steps from fresh write ws, joined in order, and hand back q
 --   Course t k had m now ws   the intervals from k up to m, by the greatest loads, take rows that have had `had` slots to `now`; ws are
 --                          their words, joined in order
---   Plannable f a k m had room   the intervals from k up to m of the table in file f, analysed as a, can be planned for rows that have had
---                          `had` slots, with room for so many words
 --   Coursed t k m had now was out   such a course of intervals is done: `now` are the totals after it, and `out`, which held `was`, has its
 --                          words at the front
 --
 -- Only one q and one ws fit (proofs/Chosen).
 use mathlib.Core.Path.{_≡_}
 use mathlib.Core.List.{List, [], _++_}
-use Prim.Native.Nat.{ℕ, zero, suc, _+_, _≤_}
+use Prim.Native.Nat.{ℕ, zero, suc}
 use lib.ListN.{length}
 use Rattle.numbers.specs.Lists.{at}
 use Rattle.rules.specs.Bounds.{max-rows}
 use Rattle.rules.specs.Bus.{Table}
-use Rattle.rules.specs.TableFile.{fileTable}
-use Rattle.rules.specs.Loads.{intervals}
 use Rattle.rules.specs.Loads as loads
 use Rattle.rules.specs.Calls.{lent}
 use Rattle.rules.specs.Planner.{due, Planner, fresh, next}
-use Rattle.lags.specs.Lags.{Steady}
-use Rattle.verdict.specs.declared.Analysis.{Analysis}
-use Rattle.verdict.specs.Analysed.{Accepted}
 use Rattle.interval.specs.Interval.{Moved}
 
 pub record Chosen (t : Table) (p q : Planner) (ws : List ℕ) : Type 0 where
@@ -46,10 +39,3 @@ pub record Coursed (t : Table) (k m : ℕ) (had now was out : List ℕ) : Type 0
   pub words : List ℕ
   pub course : Course t k (at had) m (at now) words
   pub written : out ≡ lent words was
-
-pub record Plannable (f : List ℕ) (a : Analysis) (k m : ℕ) (had : List ℕ) (room : ℕ) : Type 0 where
-  pub accepted : Accepted f a
-  pub order : k ≤ m
-  pub in-range : m ≤ intervals (fileTable f)
-  pub steady : Steady (fileTable f) (loads.start (fileTable f) k) (at had)
-  pub roomy : loads.start (fileTable f) m ≤ loads.start (fileTable f) k + room

@@ -1,4 +1,5 @@
 pub mod State
+pub mod Timed
 pub mod Chosen
 pub mod Answers
 pub mod Promises

@@ -14,7 +14,7 @@ use lib.Signed.{_<ℤ_}
 use lib.ListN.{length, take, getD}
 use Rattle.rules.specs.TableFile.{fileTable}
 use Rattle.rules.specs.Loads.{hyperperiod, intervals}
-use Rattle.rules.specs.Planner.{Off}
+use Rattle.rules.specs.Planner.{fresh, Off}
 use Rattle.rules.specs.Refusals.{Answers, verdict-checks, step-room}
 use Rattle.rules.specs.Calls.{lent}
 use Rattle.table.specs.declared.Answer.{Answer}
@@ -47,6 +47,10 @@ abbrev pub One-standings : Type 0
 One-standings = (f : List ℕ) (p : Planner) (r s : Standings) → StandingsAnswer f p r → StandingsAnswer f p s → r ≡ s
 
 -- ---- steps
+
+-- A fresh planner is document 01's, and it isn't off.
+abbrev pub Fresh-is : Type 0
+Fresh-is = plannerOf freshPlanner ≡ fresh
 
 abbrev pub Fresh-not-off : Type 0
 Fresh-not-off = (f : List ℕ) → Admitted f → ¬ Off (fileTable f) (plannerOf freshPlanner)
@@ -81,6 +85,7 @@ pub record Promises : Type 0 where
   pub one-step : One-step
   pub one-plan : One-plan
   pub one-standings : One-standings
+  pub fresh-is : Fresh-is
   pub fresh-not-off : Fresh-not-off
   pub never-refused : Never-refused
   pub whole-is-steps : Whole-is-steps

@@ -1,21 +1,21 @@
 // The planner (document 01, "The planner"): a step, the standings, and the whole plan.
 //
 // A planner is kept by the caller and any state may be handed in. So its interval number is held to the table's intervals first, then its
-// spare totals, and then its totals row by row, before any product is taken.
+// spare totals, and then its totals row by row, before any product is taken. Arrays are lent where they can be: the supervisor's stack is
+// small.
 use table::Answer;
 use table::Table;
-use verdict::Analysis;
 ghost use mathlib.Core.Path.{_≡_};
-ghost use mathlib.Core.List.{List};
-ghost use Prim.Native.Nat.{ℕ, _/_, _≤_, _<_};
+ghost use Prim.Native.Nat.{_/_, _≤_, _<_};
 ghost use lib.ListN.{length};
 ghost use Rattle.rules.specs.Bounds.{max-slots};
+ghost use Rattle.rules.specs.Bus as bus;
 ghost use Rattle.rules.specs.TableFile.{fileTable};
 ghost use Rattle.rules.specs.Planner.{Off};
 ghost use Rattle.numbers.specs.Decides.{Decides};
-ghost use Rattle.verdict.specs.Analysed.{Accepted};
-ghost use Rattle.planner.specs.State.{plannerOf, freshPlanner, InRange, slotOf, nextOf, noStandings};
-ghost use Rattle.planner.specs.Chosen.{Plannable, Coursed};
+ghost use Rattle.planner.specs.Timed.{Timed, Plannable};
+ghost use Rattle.planner.specs.State.{plannerOf, freshPlanner, InRange, slotOf, stageAt, unmovedOf, noStandings};
+ghost use Rattle.planner.specs.Chosen.{Coursed};
 ghost use Rattle.planner.specs.Answers.{StepAnswer, StandingsAnswer, PlanAnswer};
 
 // Due, with the number of the next interval, or finished.
@@ -68,62 +68,66 @@ fn slot_reached(stage: Stage, hyper: u64, interval: u64) -> u64
     }
 }
 
-// The stage after interval `k`: finished after the last.
-fn next_stage(k: u64, hyper: u64, interval: u64) -> Stage
-    requires { ⌜ (0 < interval) × (k < hyper / interval) × (hyper ≤ max-slots) ⌝ }
-    ensures { λ r. ⌜ r ≡ nextOf (hyper / interval) k ⌝ }
+// The stage when the intervals below number `k` are done: finished after the last.
+fn stage_at(k: u64, intervals: u64) -> Stage
+    ensures { λ r. ⌜ r ≡ stageAt intervals k ⌝ }
 {
-    if k + 1 == hyper / interval {
+    if k == intervals {
         return Stage::Finished;
     }
-    Stage::Due(k + 1)
+    Stage::Due(k)
 }
 
 // ---- intervals
 
 // Plans the intervals from number `from` up to number `to` of an admitted table, for rows that have had `totals`: writes their words to the
 // front of `plan`, each interval's to its own stretch, and gives the totals after the last. What the intervals share is laid out once.
-fn plan_intervals(
+fn plan_intervals<'a>(
     file: &[u8],
-    table: Analysis,
+    rows: usize,
+    sets: usize,
+    elements: usize,
+    hyper: u64,
+    interval: u64,
+    first: &'a [u8; Table::ROWS],
+    second: &'a [u8; Table::ROWS],
+    rate: &'a [u64; Table::ROWS],
+    words: &'a [u64; Table::ROWS],
     from: u64,
     to: u64,
     totals: [u64; Table::ROWS],
     plan: &mut [u64],
 ) -> [u64; Table::ROWS]
-    requires { ⌜ Plannable (now file) table from to totals (length (now plan)) ⌝ }
+    requires { ⌜ Plannable (fileTable (now file)) rows sets elements hyper interval (now first) (now second) (now rate) (now words)
+        from to totals (length (now plan)) ⌝ }
     ensures { λ r. ⌜ Coursed (fileTable (now (file .entry))) from to totals r (now (plan .entry)) (now (plan .exit)) ⌝ }
 {
-    let first = table.first;
-    let second = table.second;
-    let rate = table.rate;
-    let words = table.words;
-    let ranges = interval::ranges_of(table.rows, table.sets, &words);
+    let ranges = interval::ranges_of(rows, sets, words);
     let lowest = ranges.from;
     let highest = ranges.to;
-    let net = loads::lay(&lowest, &highest, table.rows, table.sets);
-    let chains = slots::chain(&first, table.rows);
+    let net = loads::lay(&lowest, &highest, rows, sets);
+    let chains = slots::chain(first, rows);
     let head = chains.head;
     let next = chains.next;
     let mut last = [0u8; Table::SLOTS];
     let mut after = totals;
-    let mut slot = (from * table.interval) as usize;
+    let mut slot = (from * interval) as usize;
     let mut at: usize = 0;
     let mut k = from;
     while k < to {
-        let end = slot + table.interval as usize;
+        let end = slot + interval as usize;
         let moved = interval::advance(
             file,
             k as usize,
             slot,
             end,
-            table.rows,
-            table.sets,
-            table.elements + 1,
-            table.hyper,
-            &first,
-            &second,
-            &rate,
+            rows,
+            sets,
+            elements + 1,
+            hyper,
+            first,
+            second,
+            rate,
             &lowest,
             &highest,
             net,
@@ -165,30 +169,28 @@ impl Planner {
     }
 
     // The state is off, on an admitted table.
-    fn is_off(self, table: Analysis) -> bool
-        requires { ⌜ ((f : List ℕ) × Accepted f table) ⌝ }
-        ensures { λ r. ⌜ ((f : List ℕ) → Accepted f table → Decides (Off (fileTable f) (plannerOf self)) r) ⌝ }
+    fn is_off<'a>(
+        self,
+        rows: usize,
+        sets: usize,
+        hyper: u64,
+        interval: u64,
+        rate: &'a [u64; Table::ROWS],
+        words: &'a [u64; Table::ROWS],
+    ) -> bool
+        requires { ⌜ ((t : bus.Table) × Timed t rows sets hyper interval (now rate) (now words)) ⌝ }
+        ensures { λ r. ⌜ ((t : bus.Table) → Timed t rows sets hyper interval (now (rate .entry)) (now (words .entry))
+            → Decides (Off t (plannerOf self)) r) ⌝ }
     {
         let stage = self.stage;
-        if !in_range(stage, table.hyper, table.interval) {
+        if !in_range(stage, hyper, interval) {
             return true;
         }
-        let totals = self.totals;
-        if !steady::spare_clear(table.rows, &totals) {
+        if !steady::spare_clear(rows, &self.totals) {
             return true;
         }
-        let slot = slot_reached(stage, table.hyper, table.interval);
-        let rate = table.rate;
-        let words = table.words;
-        !steady::keeps_step(
-            table.rows,
-            table.hyper,
-            slot,
-            &rate,
-            table.sets,
-            &words,
-            &totals,
-        )
+        let slot = slot_reached(stage, hyper, interval);
+        !steady::keeps_step(rows, hyper, slot, rate, sets, words, &self.totals)
     }
 
     // The standings: each row's total × h, less its share at the slot reached in units of 1 / h.
@@ -199,58 +201,81 @@ impl Planner {
         if table.number != Answer::DONE {
             return no_standings(table.number, table.place);
         }
-        if self.is_off(table) {
+        if self.is_off(
+            table.rows,
+            table.sets,
+            table.hyper,
+            table.interval,
+            &table.rate,
+            &table.words,
+        ) {
             return no_standings(Answer::OFF_STATE, 0);
         }
         let stage = self.stage;
         let slot = slot_reached(stage, table.hyper, table.interval);
-        let rate = table.rate;
-        let totals = self.totals;
         Standings {
             number: Answer::DONE,
             place: 0,
-            values: steady::standings(table.rows, table.hyper, slot, &rate, &totals),
+            values: steady::standings(table.rows, table.hyper, slot, &table.rate, &self.totals),
         }
     }
 
-    // One interval: writes its words to the front of `out` and hands back the planner moved on by it. After the last it is finished.
+    // A step refused: the planner is the one given.
+    fn unmoved(self, number: u32, place: u32) -> MovedOn
+        ensures { λ r. ⌜ r ≡ unmovedOf self number place ⌝ }
+    {
+        MovedOn {
+            planner: self,
+            number: number,
+            place: place,
+        }
+    }
+
+    // One interval: writes its words to the front of `out` and hands back the planner moved on by it.
     pub fn step(mut self, file: &[u8], out: &mut [u64]) -> MovedOn
         ensures { λ r. ⌜ StepAnswer (now (file .entry)) self r (now (out .entry)) (now (out .exit)) ⌝ }
     {
         let table = verdict::analyse(file);
         if table.number != Answer::DONE {
-            return MovedOn {
-                planner: self,
-                number: table.number,
-                place: table.place,
-            };
+            return self.unmoved(table.number, table.place);
         }
-        if self.is_off(table) {
-            return MovedOn {
-                planner: self,
-                number: Answer::OFF_STATE,
-                place: 0,
-            };
+        if self.is_off(
+            table.rows,
+            table.sets,
+            table.hyper,
+            table.interval,
+            &table.rate,
+            &table.words,
+        ) {
+            return self.unmoved(Answer::OFF_STATE, 0);
         }
         let stage = self.stage;
         let Stage::Due(k) = stage else {
-            return MovedOn {
-                planner: self,
-                number: Answer::HAS_FINISHED,
-                place: 0,
-            };
+            return self.unmoved(Answer::HAS_FINISHED, 0);
         };
         if out.len() < table.interval as usize {
-            return MovedOn {
-                planner: self,
-                number: Answer::SHORT_OUTPUT,
-                place: 0,
-            };
+            return self.unmoved(Answer::SHORT_OUTPUT, 0);
         }
+        let next = k + 1;
         let totals = self.totals;
-        let after = plan_intervals(file, table, k, k + 1, totals, out);
+        let after = plan_intervals(
+            file,
+            table.rows,
+            table.sets,
+            table.elements,
+            table.hyper,
+            table.interval,
+            &table.first,
+            &table.second,
+            &table.rate,
+            &table.words,
+            k,
+            next,
+            totals,
+            out,
+        );
         self = Planner {
-            stage: next_stage(k, table.hyper, table.interval),
+            stage: stage_at(next, table.hyper / table.interval),
             totals: after,
         };
         MovedOn {
@@ -280,7 +305,22 @@ pub fn whole_plan(file: &[u8], plan: &mut [u64]) -> Answer
     }
     let fresh = Planner::fresh();
     let totals = fresh.totals;
-    plan_intervals(file, table, 0, table.hyper / table.interval, totals, plan);
+    plan_intervals(
+        file,
+        table.rows,
+        table.sets,
+        table.elements,
+        table.hyper,
+        table.interval,
+        &table.first,
+        &table.second,
+        &table.rate,
+        &table.words,
+        0,
+        table.hyper / table.interval,
+        totals,
+        plan,
+    );
     Answer {
         number: Answer::DONE,
         place: 0,

@@ -1,3 +1,4 @@
+-- `planner::in_range` meets its contract.
 use borrow.Author.Needs.{needs}
 use Rattle.planner.proofs.Off.{in-range-due, in-range-finished}
 use Rattle.planner.proofs.in_range.Statement.{statement}

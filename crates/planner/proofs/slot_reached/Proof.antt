@@ -1,7 +1,8 @@
+-- `planner::slot_reached` meets its contract.
 use borrow.Author.Needs.{needs}
 use native.Mathlib.Omega.{arith}
 use Prim.Native.Nat.{ℕ, _/_, _<_}
-use Rattle.planner.proofs.Off.{slot-fits}
+use Rattle.planner.proofs.Timed.{slot-fits}
 use Rattle.planner.proofs.slot_reached.Statement.{statement}
 use Rattle.planner.proofs.slot_reached.Tie as tie
 
