@@ -10,7 +10,6 @@ use Rattle.rules.specs.Bus.{Table}
 use Rattle.rules.specs.Line.{meet}
 use Rattle.rules.specs.Loads.{hyperperiod, start, end, intervals, share}
 use Rattle.rules.specs.Interval.{SlotWords}
-use Rattle.outline.specs.Outlined.{ByRow}
 use Rattle.lags.specs.Lags.{Steady}
 use Rattle.lags.proofs.Intervals.{end-far}
 use Rattle.loads.specs.Loads.{Spans, Lags, Greatest}
@@ -20,7 +19,7 @@ use Rattle.slots.specs.Chained.{all-heads, Chained}
 use Rattle.slots.specs.Filled.{FilledSlots}
 use Rattle.interval.specs.Interval.{Added}
 use Rattle.interval.specs.Ready.{Ready, Advanced}
-use Rattle.interval.proofs.Choice.{share-small, total-small, lags-of, chosen-qualify, moved-of}
+use Rattle.interval.proofs.Choice.{total-small, lags-of, chosen-qualify, moved-of}
 use Rattle.interval.proofs.RowSets.{list-length, ranged-low, ranged-high, ranged-spans}
 use Rattle.interval.proofs.Ready.{ready-words, ready-share}
 
@@ -53,31 +52,23 @@ module _ {t : Table} {rows sets top hyper : ℕ} {first second rate from to : Li
     row-share : (i : ℕ) → i < t .rows → at rate i * e ≡ share t i (end t k)
     row-share i l = ap (λ (s : ℕ). at rate i * s) ends ∙ ready-share R i (end t k) l
 
-    pub shares-fit : (i : ℕ) → i < rows → at rate i * e ≤ max-slots * max-slots
-    shares-fit i l =
-        let m : i < t .rows = omega (arith, R .row-count) in
-        omega (arith, row-share i m, share-small (R .admissible) in-range i m)
-
-    module _ {had : ℕ → ℕ} (st : Steady t b had) {shares : List ℕ} (S : ByRow rows (λ i. at rate i * e) shares) where
+    module _ {had : ℕ → ℕ} (st : Steady t b had) where
       steady : Steady t (start t k) had
       steady = rw begins at st
 
-      shares-are : (i : ℕ) → i < t .rows → at shares i ≡ share t i (end t k)
-      shares-are i l = S .row i (omega (arith, R .row-count)) ∙ row-share i l
-
       -- ---- the loads
 
-      pub lags-fit : Lags rows hyper (at shares) had
-      lags-fit = rw (R .row-count, R .hyper-is) (lags-of (R .admissible) in-range steady (at shares) shares-are)
+      pub lags-fit : Lags rows hyper (λ i. at rate i * e) had
+      lags-fit = rw (R .row-count, R .hyper-is) (lags-of (R .admissible) in-range steady (λ i. at rate i * e) row-share)
 
-      module _ {x : ℕ → ℕ} (G : Greatest rows sets (at from) (at to) hyper (at shares) had x) where
-        chosen : Greatest (t .rows) (length (take sets (R .words))) (at from) (at to) (hyperperiod t) (at shares) had x
+      module _ {x : ℕ → ℕ} (G : Greatest rows sets (at from) (at to) hyper (λ i. at rate i * e) had x) where
+        chosen : Greatest (t .rows) (length (take sets (R .words))) (at from) (at to) (hyperperiod t) (λ i. at rate i * e) had x
         chosen = rw (list-length (R .room) (R .ranged)) (rw (R .row-count, R .hyper-is) at G)
 
         pub totals-fit : (i : ℕ) → i < rows → had i + x i ≤ max-slots
         totals-fit i l =
             total-small (R .admissible) in-range
-            (chosen-qualify (R .admissible) in-range steady (at shares) shares-are (R .list) (at from) (at to)
+            (chosen-qualify (R .admissible) in-range steady (λ i. at rate i * e) row-share (R .list) (at from) (at to)
             (ranged-low (R .room) (R .ranged)) (ranged-high (R .room) (R .ranged)) chosen)
             i (omega (arith, R .row-count))
 
@@ -93,7 +84,7 @@ module _ {t : Table} {rows sets top hyper : ℕ} {first second rate from to : Li
               size = n;
               moved =
                   rw (sym h)
-                  (moved-of (R .admissible) in-range steady (at shares) shares-are (R .list) (at from) (at to)
+                  (moved-of (R .admissible) in-range steady (λ i. at rate i * e) row-share (R .list) (at from) (at to)
                   (ranged-low (R .room) (R .ranged)) (ranged-high (R .room) (R .ranged)) chosen
                   (at now) (take (end t k - start t k) out) (ready-words R W)
                   (λ i l. D .rows i (omega (arith, R .row-count))) (λ i l. D .spare i (omega (arith, R .row-count))));

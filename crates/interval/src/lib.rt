@@ -1,19 +1,20 @@
 // One planning interval of an admitted table: from totals that keep step at its first slot to its loads, its words and the totals after it
 // (document 01, "Loads of one interval, and its slots").
 ghost use mathlib.Core.Path.{_≡_};
-ghost use Prim.Native.Nat.{ℕ, _+_, _-_, _*_, _≤_, _<_};
+ghost use Prim.Native.Nat.{ℕ, _+_, _-_, _≤_, _<_};
 ghost use lib.ListN.{length};
 ghost use Rattle.numbers.specs.Lists.{at};
 ghost use Rattle.rules.specs.Bounds.{max-rows, max-slots};
 ghost use Rattle.rules.specs.TableFile.{fileTable};
 ghost use Rattle.rules.specs.Loads.{intervals};
 ghost use Rattle.rules.specs.Loads as loads;
-ghost use Rattle.outline.specs.Outlined.{ByRow};
 ghost use Rattle.lags.specs.Lags.{Steady};
+ghost use Rattle.loads.specs.Laid.{network, Lent};
 ghost use Rattle.interval.specs.Ranges.{lowestSet, highestSet, Ranged};
 ghost use Rattle.interval.specs.Interval.{Added};
 ghost use Rattle.interval.specs.Ready.{Ready, Advanced};
-use loads::Network;
+use flow::ARCS;
+use flow::PLACES;
 use slots::Chains;
 use table::Table;
 
@@ -70,47 +71,29 @@ pub fn ranges_of(rows: usize, sets: usize, words: &[u64; Table::ROWS]) -> Ranges
     Ranges { from, to }
 }
 
-// ---- shares and totals
+// ---- the totals
 
-// The rows' shares at slot `slot`.
-fn shares(rate: &[u64; Table::ROWS], rows: usize, slot: u64) -> [u64; Table::ROWS]
-    requires { ⌜ (rows ≤ max-rows) × ((i : ℕ) → i < rows → at (now rate) i * slot ≤ max-slots * max-slots) ⌝ }
-    ensures { λ r. ⌜ ByRow rows (λ i. at (now (rate .entry)) i * slot) r ⌝ }
+// Adds the loads to the totals.
+fn add_loads(totals: &mut [u64; Table::ROWS], load: &[u64; Table::ROWS], rows: usize)
+    requires { ⌜ (rows ≤ max-rows) × ((i : ℕ) → i < rows → at (now totals) i + at (now load) i ≤ max-slots)
+        × (length (now totals) ≡ max-rows) ⌝ }
+    ensures { λ r. ⌜ (length (now (totals .exit)) ≡ max-rows)
+        × Added rows (at (now (totals .entry))) (at (now (load .entry))) (at (now (totals .exit))) ⌝ }
 {
-    let mut share = [0u64; Table::ROWS];
     let mut i: usize = 0;
     while i < rows {
-        share[i] = rate[i] * slot;
+        totals[i] = totals[i] + load[i];
         i += 1;
     }
-    share
-}
-
-// The totals after the loads.
-fn add_loads(
-    totals: [u64; Table::ROWS],
-    loads: &[u64; Table::ROWS],
-    rows: usize,
-) -> [u64; Table::ROWS]
-    requires { ⌜ (rows ≤ max-rows) × ((i : ℕ) → i < rows → at totals i + at (now loads) i ≤ max-slots) ⌝ }
-    ensures { λ r. ⌜ (length r ≡ max-rows) × Added rows (at totals) (at (now (loads .entry))) (at r) ⌝ }
-{
-    let mut after = totals;
-    let mut i: usize = 0;
-    while i < rows {
-        after[i] = after[i] + loads[i];
-        i += 1;
-    }
-    after
 }
 
 // ---- the interval
 
 // Does interval `interval` of the table in `file`, which runs from slot `start` up to slot `end`: writes its words to the front of
-// `words`, and gives the totals after it. `file` and `interval` only say which interval it is; from `rows` to `next` all is laid once for
+// `words`, and takes the totals on. `file` and `interval` only say which interval it is; from `rows` to `next` all is laid once for
 // the table.
-// `last` is lent for the work: what it holds before and after says nothing.
-pub fn advance(
+// From `x` to `last` all is lent for the work: what it holds before and after says nothing.
+pub fn advance<'a>(
     file: &[u8],
     interval: usize,
     start: usize,
@@ -124,35 +107,65 @@ pub fn advance(
     rate: &[u64; Table::ROWS],
     from: &[u8; Table::ROWS],
     to: &[u8; Table::ROWS],
-    net: Network,
+    tails: &'a [u8; ARCS],
+    heads: &'a [u8; ARCS],
+    out: &'a [u8; PLACES],
+    outs: &'a [u8; ARCS],
+    into: &'a [u8; PLACES],
+    intos: &'a [u8; ARCS],
     head: &[u8; Chains::HEADS],
     next: &[u8; Table::ROWS],
-    totals: [u64; Table::ROWS],
+    totals: &mut [u64; Table::ROWS],
+    x: &mut [u64; ARCS],
+    low: &mut [u64; ARCS],
+    high: &mut [u64; ARCS],
+    load: &mut [u64; Table::ROWS],
     last: &mut [u8],
     words: &mut [u64],
-) -> [u64; Table::ROWS]
-    requires { ⌜ Ready (fileTable (now file)) rows sets top hyper (now first) (now second) (now rate) (now from) (now to) net
-        (now head) (now next)
+)
+    requires { ⌜ Ready (fileTable (now file)) rows sets top hyper (now first) (now second) (now rate) (now from) (now to)
+        (network (now tails) (now heads) (now out) (now outs) (now into) (now intos)) (now head) (now next)
         × (interval < intervals (fileTable (now file)))
         × (start ≡ loads.start (fileTable (now file)) interval) × (end ≡ loads.end (fileTable (now file)) interval)
-        × Steady (fileTable (now file)) start (at totals)
+        × Steady (fileTable (now file)) start (at (now totals)) × (length (now totals) ≡ max-rows)
+        × Lent (now x) (now low) (now high) (now load)
         × (end - start ≤ length (now last)) × (end - start ≤ length (now words)) ⌝ }
-    ensures { λ r. ⌜ Advanced (fileTable (now (file .entry))) interval totals r (now (words .entry)) (now (words .exit))
+    ensures { λ r. ⌜ Advanced (fileTable (now (file .entry))) interval (now (totals .entry)) (now (totals .exit))
+        (now (words .entry)) (now (words .exit))
+        × Lent (now (x .exit)) (now (low .exit)) (now (high .exit)) (now (load .exit))
         × (length (now (last .exit)) ≡ length (now (last .entry))) ⌝ }
 {
-    let share = shares(rate, rows, end as u64);
-    let load = loads::choose(net, from, to, rows, sets, hyper, &share, &totals);
+    loads::choose(
+        tails,
+        heads,
+        out,
+        outs,
+        into,
+        intos,
+        from,
+        to,
+        rows,
+        sets,
+        hyper,
+        rate,
+        end as u64,
+        totals,
+        x,
+        low,
+        high,
+        load,
+    );
     slots::fill(
         first,
         second,
         head,
         next,
-        &load,
+        load,
         rows,
         top,
         end - start,
         last,
         words,
     );
-    add_loads(totals, &load, rows)
+    add_loads(totals, load, rows);
 }

@@ -70,7 +70,7 @@ lag-sum n h share had y D e =
 -- ---- from the lags to the loads
 
 module _ (n K : ℕ) (a b : ℕ → ℕ) (h : ℕ) (share had y : ℕ → ℕ) (G : Net) (x₀ : ℕ → ℕ) (S : Spans n K a b) (P : Lags n h share had)
-    (lag : Lagging n h share had y) (sm : Summed n K n a b y x₀) (e : G .arcs ≡ n + K) (L : Lines n K a b (G .tail) (G .head))
+    (lag : Lagging n K n h share had y) (sm : Summed n K n a b y x₀) (e : G .arcs ≡ n + K) (L : Lines n K a b (G .tail) (G .head))
     (bd : Bounded (n + K) h x₀ (G .low) (G .high)) where
   -- the lags are a circulation within the bounds
   pub lags-circ : Circulation G x₀
@@ -141,7 +141,7 @@ module _ (n K : ℕ) (a b : ℕ → ℕ) (h : ℕ) (share had y : ℕ → ℕ) (
       arith,
       mod-add-div' (x i) h,
       settled-whole G n x h s whole-bounds n (omega arith) i l,
-      ap (λ (u : ℕ). u * h) (d .rows i l),
+      ap (λ (u : ℕ). u * h) (d i l),
     )
 
     set-whole : (k : ℕ) → k < K → x (n + k) ≡ sumIn n (inSet a b k) loads * h
@@ -176,7 +176,6 @@ module _ (n K : ℕ) (a b : ℕ → ℕ) (h : ℕ) (share had y : ℕ → ℕ) (
           let lt : z i * h < (loads i + 1) * h = omega (arith, amounts-row z q i l, row-whole i l, P .some) in
           let under : z i < loads i + 1 = lt-of-mul-lt-mul-right h lt in
           omega arith;
-      past = d .past;
     }
 
 -- ---- what callers use
@@ -198,12 +197,8 @@ module _ (n K : ℕ) (a b : ℕ → ℕ) (h : ℕ) (share had : ℕ → ℕ) whe
       go d (no t) = d j (omega arith)
 
   -- only one choice of loads is the greatest
-  pub choose-only : (x z : ℕ → ℕ) → Greatest n K a b h share had x → Greatest n K a b h share had z → (i : ℕ) → z i ≡ x i
-  choose-only x z p q i = go (decLt i n)
-    where
-      go : Dec (i < n) → z i ≡ x i
-      go (yes l) = same-below x z p q n (omega arith) i l
-      go (no l) = q .past i (omega arith) ∙ sym (p .past i (omega arith))
+  pub choose-only : (x z : ℕ → ℕ) → Greatest n K a b h share had x → Greatest n K a b h share had z → (i : ℕ) → i < n → z i ≡ x i
+  choose-only x z p q = same-below x z p q n (omega arith)
 
   module _ (x : ℕ → ℕ) (pos : 0 < h) (q : Qualified n K a b h share had x) (k : ℕ) (l : k < K) where
     -- no set's sum is above its lag rounded up

@@ -62,18 +62,25 @@ lines-ends n K N a b tail head S l s e m = go (decLt e n)
 
 -- ---- the lags
 
-pub lagging-none : (h : ℕ) (share had x : ℕ → ℕ) → ((e : ℕ) → x e ≡ 0) → Lagging 0 h share had x
-lagging-none h share had x z = record { rows = λ i l. absurd (omega arith); others = λ e l. z e }
+pub cleared-next : (from e : ℕ) (x x' : ℕ → ℕ) → ((f : ℕ) → from ≤ f → f < e → x f ≡ 0) → Put x e 0 x'
+    → (f : ℕ) → from ≤ f → f < e + 1 → x' f ≡ 0
+cleared-next from e x x' z p f l u =
+    extend (λ g. from ≤ g → x' g ≡ 0) e (λ g m k. p .1 g (omega arith) ∙ z g k m) (λ k. p .0) f u l
 
-pub lagging-next : (m h : ℕ) (share had x x' : ℕ → ℕ) → Lagging m h share had x → Put x m (share m - had m * h) x'
-    → Lagging (m + 1) h share had x'
-lagging-next m h share had x x' s p = record {
+pub lagging-none : (n K h : ℕ) (share had x : ℕ → ℕ) → ((e : ℕ) → n ≤ e → e < n + K → x e ≡ 0) → Lagging n K 0 h share had x
+lagging-none n K h share had x z =
+    record { rows = λ i l. absurd (omega arith); sets = λ k l. z (n + k) (omega arith) (omega arith) }
+
+pub lagging-next : (n K m h : ℕ) (share had x x' : ℕ → ℕ) → m < n → Lagging n K m h share had x → Put x m (share m - had m * h) x'
+    → Lagging n K (m + 1) h share had x'
+lagging-next n K m h share had x x' g s p = record {
   rows = extend (λ i. x' i ≡ share i - had i * h) m (λ i l. p .1 i (omega arith) ∙ s .rows i l) (p .0);
-  others = λ e l. p .1 e (omega arith) ∙ s .others e (omega arith);
+  sets = λ k l. p .1 (n + k) (omega arith) ∙ s .sets k l;
 }
 
-pub lagging-most : (n h : ℕ) (share had x : ℕ → ℕ) → Lags n h share had → Lagging n h share had x → (i : ℕ) → i < n → x i ≤ share-most
-lagging-most n h share had x P s i l = omega (arith, s .rows i l, P .row i l)
+pub lagging-most : (n K h : ℕ) (share had x : ℕ → ℕ) → Lags n h share had → Lagging n K n h share had x
+    → (i : ℕ) → i < n → x i ≤ share-most
+lagging-most n K h share had x P s i l = omega (arith, s .rows i l, P .row i l)
 
 -- ---- the sums
 
@@ -92,10 +99,10 @@ lifted-next x x' x'' from e v g s p = record {
     go f l u (yes q) = omega (arith, ap x'' q, p .0, s .beyond e (omega arith), ap x q)
     go f l u (no q) = omega (arith, p .1 f q, s .inside f l (omega arith))
 
-pub summed-none : (n K : ℕ) (a b x : ℕ → ℕ) → ((e : ℕ) → n ≤ e → x e ≡ 0) → Summed n K 0 a b x x
+pub summed-none : (n K : ℕ) (a b x : ℕ → ℕ) → ((k : ℕ) → k < K → x (n + k) ≡ 0) → Summed n K 0 a b x x
 summed-none n K a b x z = record {
   rows = λ i l. refl;
-  sets = λ k l. omega (arith, z (n + k) (omega arith), sum-zero 0 (λ i. only (inSet a b k i) (x i)) (λ i m. absurd (omega arith)));
+  sets = λ k l. omega (arith, z k l, sum-zero 0 (λ i. only (inSet a b k i) (x i)) (λ i m. absurd (omega arith)));
 }
 
 module _ (n K m : ℕ) (a b x x' : ℕ → ℕ) (s : Summed n K m a b x x') where
@@ -160,11 +167,5 @@ bounded-next m h x low high low' high' s p q =
     extend (λ e. (low' e ≡ down (x e) h * h) × (high' e ≡ up (x e) h * h)) m
     (λ e l. (p .1 e (omega arith) ∙ s e l .0, q .1 e (omega arith) ∙ s e l .1)) (p .0, q .0)
 
-pub divided-none : (h : ℕ) (x loads : ℕ → ℕ) → ((i : ℕ) → loads i ≡ 0) → Divided 0 h x loads
-divided-none h x loads z = record { rows = λ i l. absurd (omega arith); past = λ i l. z i }
-
 pub divided-next : (m h : ℕ) (x loads loads' : ℕ → ℕ) → Divided m h x loads → Put loads m (x m / h) loads' → Divided (m + 1) h x loads'
-divided-next m h x loads loads' s p = record {
-  rows = extend (λ i. loads' i ≡ x i / h) m (λ i l. p .1 i (omega arith) ∙ s .rows i l) (p .0);
-  past = λ i l. p .1 i (omega arith) ∙ s .past i (omega arith);
-}
+divided-next m h x loads loads' s p = extend (λ i. loads' i ≡ x i / h) m (λ i l. p .1 i (omega arith) ∙ s i l) (p .0)

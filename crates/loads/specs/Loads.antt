@@ -42,8 +42,7 @@ pub record Qualified (n K : ℕ) (a b : ℕ → ℕ) (h : ℕ) (share had x : �
   pub rows : (i : ℕ) → i < n → Rounded (had i + x i) (share i) h
   pub sets : (k : ℕ) → k < K → Rounded (sumIn n (inSet a b k) had + sumIn n (inSet a b k) x) (sumIn n (inSet a b k) share) h
 
--- Only one x fits (proofs/Choice).
+-- Only one x fits, for the n rows (proofs/Choice).
 pub record Greatest (n K : ℕ) (a b : ℕ → ℕ) (h : ℕ) (share had x : ℕ → ℕ) : Type 0 where
   pub qualified : Qualified n K a b h share had x
   pub greatest : (z : ℕ → ℕ) → Qualified n K a b h share had z → (i : ℕ) → i < n → ((j : ℕ) → j < i → z j ≡ x j) → z i ≤ x i
-  pub past : (i : ℕ) → n ≤ i → x i ≡ 0

@@ -17,7 +17,7 @@ ghost use Rattle.numbers.specs.Rounding.{down, up};
 ghost use Rattle.rules.specs.Bounds.{max-rows, max-slots};
 ghost use Rattle.flow.specs.Network.{arcs-most};
 ghost use Rattle.loads.specs.Loads.{share-most, lag-most, Spans, Lags, Greatest};
-ghost use Rattle.loads.specs.Laid.{Lines, Laid, Lagging, Lifted, Summed, Bounded, Divided};
+ghost use Rattle.loads.specs.Laid.{Lines, network, Laid, Lent, Lagging, Lifted, Summed, Bounded, Divided};
 use flow::ARCS;
 use flow::PLACES;
 
@@ -102,16 +102,37 @@ pub fn lay(a: &[u8; ROWS], b: &[u8; ROWS], rows: usize, sets: usize) -> Network
     }
 }
 
-// Puts each row's lag on its arc.
-fn set_lags(share: &[u64; ROWS], had: &[u64; ROWS], h: u64, rows: usize, x: &mut [u64; ARCS])
-    requires { ⌜ (rows ≤ max-rows) × Lags rows h (at (now share)) (at (now had)) × (length (now x) ≡ arcs-most)
-        × ((e : ℕ) → at (now x) e ≡ 0) ⌝ }
-    ensures { λ r. ⌜ (length (now (x .exit)) ≡ arcs-most)
-        × Lagging rows h (at (now (share .entry))) (at (now (had .entry))) (at (now (x .exit))) ⌝ }
+// Clears the arcs from one up to another.
+fn clear(x: &mut [u64; ARCS], from: usize, to: usize)
+    requires { ⌜ (to ≤ arcs-most) × (length (now x) ≡ arcs-most) ⌝ }
+    ensures { λ r. ⌜ (length (now (x .exit)) ≡ arcs-most) × ((e : ℕ) → from ≤ e → e < to → at (now (x .exit)) e ≡ 0) ⌝ }
 {
+    let mut e = from;
+    while e < to {
+        x[e] = 0;
+        e += 1;
+    }
+}
+
+// Puts each row's lag on its arc, and nothing on the sets' arcs. Its share is its part of `slot` slots.
+fn set_lags(
+    rate: &[u64; ROWS],
+    slot: u64,
+    had: &[u64; ROWS],
+    h: u64,
+    rows: usize,
+    sets: usize,
+    x: &mut [u64; ARCS],
+)
+    requires { ⌜ (rows ≤ max-rows) × (sets ≤ max-rows) × Lags rows h (λ i. at (now rate) i * slot) (at (now had))
+        × (length (now x) ≡ arcs-most) ⌝ }
+    ensures { λ r. ⌜ (length (now (x .exit)) ≡ arcs-most)
+        × Lagging rows sets rows h (λ i. at (now (rate .entry)) i * slot) (at (now (had .entry))) (at (now (x .exit))) ⌝ }
+{
+    clear(x, rows, rows + sets);
     let mut i: usize = 0;
     while i < rows {
-        x[i] = share[i] - had[i] * h;
+        x[i] = rate[i] * slot - had[i] * h;
         i += 1;
     }
 }
@@ -132,7 +153,7 @@ fn lift(x: &mut [u64; ARCS], from: usize, to: usize, v: u64)
 // Adds each row's lag to the arcs of its sets.
 fn add_rows(a: &[u8; ROWS], b: &[u8; ROWS], rows: usize, sets: usize, x: &mut [u64; ARCS])
     requires { ⌜ Spans rows sets (at (now a)) (at (now b)) × (length (now x) ≡ arcs-most)
-        × ((i : ℕ) → i < rows → at (now x) i ≤ share-most) × ((e : ℕ) → rows ≤ e → at (now x) e ≡ 0) ⌝ }
+        × ((i : ℕ) → i < rows → at (now x) i ≤ share-most) × ((k : ℕ) → k < sets → at (now x) (rows + k) ≡ 0) ⌝ }
     ensures { λ r. ⌜ (length (now (x .exit)) ≡ arcs-most)
         × Summed rows sets rows (at (now (a .entry))) (at (now (b .entry))) (at (now (x .entry))) (at (now (x .exit))) ⌝ }
 {
@@ -191,54 +212,50 @@ fn times(v: u64, h: u64) -> u64
 }
 
 // What the rows' arcs carry, in units of h.
-fn divide(x: &[u64; ARCS], h: u64, rows: usize) -> [u64; ROWS]
-    requires { ⌜ (rows ≤ max-rows) × (0 < h) ⌝ }
-    ensures { λ r. ⌜ Divided rows h (at (now (x .entry))) (at r) ⌝ }
+fn divide(x: &[u64; ARCS], h: u64, rows: usize, loads: &mut [u64; ROWS])
+    requires { ⌜ (rows ≤ max-rows) × (0 < h) × (length (now loads) ≡ max-rows) ⌝ }
+    ensures { λ r. ⌜ (length (now (loads .exit)) ≡ max-rows) × Divided rows h (at (now (x .entry))) (at (now (loads .exit))) ⌝ }
 {
-    let mut loads = [0u64; ROWS];
     let mut i: usize = 0;
     while i < rows {
         loads[i] = times(x[i], h);
         i += 1;
     }
-    loads
 }
 
-// The loads of n rows, whose shares at the interval's end are in units of 1/h, and which have had slots already; 0 past the last row.
-pub fn choose(
-    net: Network,
+// Writes the rows' loads to the front of `loads`. The rows have had `had` slots, and their shares at slot `slot`, the interval's end, are
+// rate × slot in units of 1/h. The rest of `loads`, and `x`, `low` and `high`, are lent for the work: what they hold says nothing.
+pub fn choose<'a>(
+    tail: &'a [u8; ARCS],
+    head: &'a [u8; ARCS],
+    out: &'a [u8; PLACES],
+    outs: &'a [u8; ARCS],
+    into: &'a [u8; PLACES],
+    intos: &'a [u8; ARCS],
     a: &[u8; ROWS],
     b: &[u8; ROWS],
     rows: usize,
     sets: usize,
     h: u64,
-    share: &[u64; ROWS],
+    rate: &[u64; ROWS],
+    slot: u64,
     had: &[u64; ROWS],
-) -> [u64; ROWS]
-    requires { ⌜ Spans rows sets (at (now a)) (at (now b)) × Laid rows sets (at (now a)) (at (now b)) net
-        × Lags rows h (at (now share)) (at (now had)) ⌝ }
-    ensures { λ r. ⌜ Greatest rows sets (at (now (a .entry))) (at (now (b .entry))) h
-        (at (now (share .entry))) (at (now (had .entry))) (at r) ⌝ }
+    x: &mut [u64; ARCS],
+    low: &mut [u64; ARCS],
+    high: &mut [u64; ARCS],
+    loads: &mut [u64; ROWS],
+)
+    requires { ⌜ Spans rows sets (at (now a)) (at (now b))
+        × Laid rows sets (at (now a)) (at (now b)) (network (now tail) (now head) (now out) (now outs) (now into) (now intos))
+        × Lags rows h (λ i. at (now rate) i * slot) (at (now had)) × Lent (now x) (now low) (now high) (now loads) ⌝ }
+    ensures { λ r. ⌜ Lent (now (x .exit)) (now (low .exit)) (now (high .exit)) (now (loads .exit))
+        × Greatest rows sets (at (now (a .entry))) (at (now (b .entry))) h (λ i. at (now (rate .entry)) i * slot)
+        (at (now (had .entry))) (at (now (loads .exit))) ⌝ }
 {
-    let mut x = [0u64; ARCS];
-    set_lags(share, had, h, rows, &mut x);
-    add_rows(a, b, rows, sets, &mut x);
+    set_lags(rate, slot, had, h, rows, sets, x);
+    add_rows(a, b, rows, sets, x);
     let arcs = rows + sets;
-    let mut low = [0u64; ARCS];
-    let mut high = [0u64; ARCS];
-    bound_arcs(&x, h, arcs, &mut low, &mut high);
-    flow::settle(
-        &net.tail,
-        &net.head,
-        &low,
-        &high,
-        &mut x,
-        &net.out,
-        &net.outs,
-        &net.into,
-        &net.intos,
-        arcs,
-        rows,
-    );
-    divide(&x, h, rows)
+    bound_arcs(x, h, arcs, low, high);
+    flow::settle(tail, head, low, high, x, out, outs, into, intos, arcs, rows);
+    divide(x, h, rows, loads);
 }

@@ -3,6 +3,7 @@
 // A planner is kept by the caller and any state may be handed in. So its interval number is held to the table's intervals first, then its
 // spare totals, and then its totals row by row, before any product is taken. Arrays are lent where they can be: the supervisor's stack is
 // small.
+use flow::ARCS;
 use table::Answer;
 use table::Table;
 ghost use mathlib.Core.Path.{_≡_};
@@ -81,7 +82,8 @@ fn stage_at(k: u64, intervals: u64) -> Stage
 // ---- intervals
 
 // Plans the intervals from number `from` up to number `to` of an admitted table, for rows that have had `totals`: writes their words to the
-// front of `plan`, each interval's to its own stretch, and gives the totals after the last. What the intervals share is laid out once.
+// front of `plan`, each interval's to its own stretch, and gives the totals after the last. What the intervals share is laid out once,
+// and so are the arrays that are lent to each of them for its work.
 fn plan_intervals<'a>(
     file: &[u8],
     rows: usize,
@@ -109,6 +111,10 @@ fn plan_intervals<'a>(
     let chains = slots::chain(first, rows);
     let head = chains.head;
     let next = chains.next;
+    let mut x = [0u64; ARCS];
+    let mut low = [0u64; ARCS];
+    let mut high = [0u64; ARCS];
+    let mut load = [0u64; Table::ROWS];
     let mut last = [0u8; Table::SLOTS];
     let mut after = totals;
     let mut slot = (from * interval) as usize;
@@ -116,7 +122,7 @@ fn plan_intervals<'a>(
     let mut k = from;
     while k < to {
         let end = slot + interval as usize;
-        let moved = interval::advance(
+        interval::advance(
             file,
             k as usize,
             slot,
@@ -130,14 +136,22 @@ fn plan_intervals<'a>(
             rate,
             &lowest,
             &highest,
-            net,
+            &net.tail,
+            &net.head,
+            &net.out,
+            &net.outs,
+            &net.into,
+            &net.intos,
             &head,
             &next,
-            after,
+            &mut after,
+            &mut x,
+            &mut low,
+            &mut high,
+            &mut load,
             &mut last,
             &mut plan[at..],
         );
-        after = moved;
         at += end - slot;
         slot = end;
         k += 1;

@@ -1,6 +1,9 @@
 -- `advance` does the interval: each of its calls is met by what the calls before it give.
 use mathlib.Core.Path.{refl}
 use borrow.Author.Needs.{needs}
+use mathlib.Core.List.{List}
+use Prim.Native.Nat.{ℕ}
+use Rattle.numbers.specs.Lists.{at}
 use Rattle.interval.proofs.Ready.{ready-ends}
 use Rattle.interval.proofs.Course.{
   few-rows,
@@ -9,7 +12,6 @@ use Rattle.interval.proofs.Course.{
   network-laid,
   chains-laid,
   ends-after,
-  shares-fit,
   lags-fit,
   totals-fit,
   advanced-of,
@@ -17,33 +19,34 @@ use Rattle.interval.proofs.Course.{
 use Rattle.interval.proofs.advance.Statement.{statement}
 use Rattle.interval.proofs.advance.Tie as tie
 
-shares-requires : tie.Need-shares-requires
-shares-requires c κs =
-    let p = c .before .before .before .pre in
-    (few-rows (p .0), shares-fit (p .0) (p .1) (p .2) (p .3))
+-- the function's entry, from where the loads are chosen
+abbrev start : tie.After-choose → tie.Start
+start d = d .before .before .before .before .before .before .before .before .before
+
+-- the loads that are chosen
+abbrev chosen : tie.After-choose → List ℕ
+chosen d = d .choose .last .1 .1 .1 .1 .1 .1 .1 .1 .1 .1 .1 .1 .1 .1 .1 .1 .1 .0
 
 choose-requires : tie.Need-choose-requires
 choose-requires c κs =
-    let s = c .before .before in
-    let p = s .before .before .before .before .pre in
-    (spans-laid (p .0), network-laid (p .0), lags-fit (p .0) (p .1) (p .2) (p .3) (p .4) (s .shares .ensures))
+    let p = c .before .before .before .before .before .before .before .before .pre in
+    (spans-laid (p .0), network-laid (p .0), lags-fit (p .0) (p .1) (p .2) (p .3) (p .4), p .6)
 
 sub-fill : tie.Need-sub-fill
 sub-fill c =
-    let p = c .before .before .before .before .before .before .before .before .pre in
+    let p = start (c .before) .pre in
     ends-after (p .0) (p .1) (p .2) (p .3)
 
 fill-requires : tie.Need-fill-requires
 fill-requires c κs =
-    let p = c .before .before .before .before .before .before .before .before .before .before .pre in
-    (few-rows (p .0), low-top (p .0), p .5, p .6, ready-ends (p .0), chains-laid (p .0))
+    let p = start (c .before .before .before) .pre in
+    (few-rows (p .0), low-top (p .0), p .7, p .8, ready-ends (p .0), chains-laid (p .0))
 
 add-loads-requires : tie.Need-add-loads-requires
 add-loads-requires c κs =
-    let d = c .before .before .before .before .before .before .before .before .before in
-    let s = d .before .before .before in
-    let p = s .before .before .before .before .pre in
-    (few-rows (p .0), totals-fit (p .0) (p .1) (p .2) (p .3) (p .4) (s .shares .ensures) (d .choose .ensures))
+    let d = c .before .before .before .before .before .before .before .before .before .before in
+    let p = start d .pre in
+    (few-rows (p .0), totals-fit (p .0) (p .1) (p .2) (p .3) (p .4) {x = at (chosen d)} (d .choose .ensures .1), p .5)
 
 same-length : tie.Need-same-length
 same-length c = search needs
@@ -53,12 +56,12 @@ same-length-2 c = search needs
 
 returns : tie.Need-returns
 returns c =
-    let f = c .before .before .before .before .before .before in
+    let f = c .before .before .before .before .before .before .before in
     let d = f .before .before .before .before in
-    let s = d .before .before .before in
-    let p = s .before .before .before .before .pre in (
-      advanced-of (p .0) (p .1) (p .2) (p .3) (p .4) (s .shares .ensures) (d .choose .ensures) refl (c .add-loads .ensures .0)
-          (f .fill .ensures .0) (c .add-loads .ensures .1),
+    let p = start d .pre in
+    let a = c .add-loads .ensures in (
+      advanced-of (p .0) (p .1) (p .2) (p .3) (p .4) {x = at (chosen d)} (d .choose .ensures .1) refl (a .0) (f .fill .ensures .0) (a .1),
+      d .choose .ensures .0,
       f .fill .ensures .1,
     )
 
@@ -66,7 +69,6 @@ pub advance-spec : {M : Type 1} → statement M
 advance-spec =
     tie.close
     (tie.spec
-    shares-requires
     choose-requires
     sub-fill
     fill-requires

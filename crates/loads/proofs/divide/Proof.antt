@@ -1,15 +1,14 @@
 -- `divide` writes one load after the other.
 use borrow.Author.Needs.{needs}
-use mathlib.Core.Path.{_≡_, refl}
+use mathlib.Core.Path.{_≡_}
 use Prim.Native.Nat.{_-_, _<_, _≤_}
 use native.Mathlib.Omega.{arith}
 use lib.ListN.{length, length-set}
 use Rattle.numbers.specs.Lists.{at}
-use Rattle.numbers.proofs.Lists.{zeros-at}
 use Rattle.rules.specs.Bounds.{max-rows}
 use Rattle.flow.proofs.Network.{put-set-is}
 use Rattle.loads.specs.Laid.{Divided}
-use Rattle.loads.proofs.Filling.{divided-none, divided-next}
+use Rattle.loads.proofs.Filling.{divided-next}
 use Rattle.loads.proofs.divide.Statement.{statement}
 use Rattle.loads.proofs.divide.Tie as tie
 
@@ -20,7 +19,7 @@ abbrev μ-loop : tie.MeasureT-loop
 μ-loop x h rows loads₀ i₀ loads i = rows - i
 
 loop-holds : tie.Need-loop-holds Inv-loop μ-loop
-loop-holds c = (refl, omega arith, divided-none _ _ _ (λ i. zeros-at max-rows i))
+loop-holds c = (c .pre .2, omega arith, λ i l. absurd (omega arith))
 
 mul-times : tie.Need-mul-times Inv-loop μ-loop
 mul-times c = search needs
@@ -34,8 +33,8 @@ times-requires c κs = search needs
 mul-loads : tie.Need-mul-loads Inv-loop μ-loop
 mul-loads c = search needs
 
-array-write-loads : tie.Need-array-write-loads Inv-loop μ-loop
-array-write-loads c = search needs
+element-write-loads : tie.Need-element-write-loads Inv-loop μ-loop
+element-write-loads c = search needs
 
 add-i : tie.Need-add-i Inv-loop μ-loop
 add-i c = search needs
@@ -57,7 +56,7 @@ returns : tie.Need-returns Inv-loop μ-loop
 returns c =
     let u = c .before .loop in
     let q : u .i ≡ c .before .before .args .rows = omega arith in
-    rw q at (u .inv .2)
+    (u .inv .0, rw q at (u .inv .2))
 
 pub divide-spec : {M : Type 1} → statement M
 divide-spec =
@@ -70,7 +69,7 @@ divide-spec =
     element-copy-out-times
     times-requires
     mul-loads
-    array-write-loads
+    element-write-loads
     add-i
     loop-less
     loop-again

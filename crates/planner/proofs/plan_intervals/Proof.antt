@@ -6,6 +6,7 @@ use lib.ListN.{length, length-take, length-drop}
 use Rattle.rules.specs.Bounds.{max-slots}
 use Rattle.rules.specs.TableFile.{fileTable}
 use Rattle.rules.specs.Loads.{end, intervals}
+use Rattle.loads.specs.Laid.{Lent}
 use Rattle.planner.proofs.Timed.{few-rows, few-sets, start-is, end-is, start-small, end-small}
 use Rattle.planner.proofs.Laying.{few-elements, ranges-span, ready-of}
 use Rattle.planner.proofs.Course.{Planning, planning-start, planning-room, planning-next, planning-end}
@@ -13,11 +14,13 @@ use Rattle.planner.proofs.plan_intervals.Statement.{statement}
 use Rattle.planner.proofs.plan_intervals.Tie as tie
 
 abbrev Inv-loop : tie.InvT-loop
-Inv-loop file rows sets elements hyper interval first second rate words from to plan₀ lowest highest net head next last₀ after₀ slot₀ at₀ k₀ plan last after slot at k =
-    (k ≤ to) × (length last ≡ max-slots) × Planning (fileTable file) from after₀ plan₀ k slot at after plan
+Inv-loop file rows sets elements hyper interval first second rate words from to plan₀ lowest highest net head next x₀ low₀ high₀ load₀ last₀ after₀
+    slot₀ at₀ k₀ plan x low high load last after slot at k =
+    (k ≤ to) × (length last ≡ max-slots) × Planning (fileTable file) from after₀ plan₀ k slot at after plan × Lent x low high load
 
 abbrev μ-loop : tie.MeasureT-loop
-μ-loop file rows sets elements hyper interval first second rate words from to plan₀ lowest highest net head next last₀ after₀ slot₀ at₀ k₀ plan last after slot at k =
+μ-loop file rows sets elements hyper interval first second rate words from to plan₀ lowest highest net head next x₀ low₀ high₀ load₀ last₀ after₀
+    slot₀ at₀ k₀ plan x low high load last after slot at k =
     to - k
 
 -- ---- what the intervals share
@@ -55,6 +58,7 @@ loop-holds c =
       S .pre .order,
       refl,
       planning-start (H .admissible) (S .args .from) (S .args .totals) (S .args .plan .now) _ e (S .pre .totals) (rw e (S .pre .steady)),
+      record { x-size = refl; low-size = refl; high-size = refl; loads-size = refl },
     )
 
 -- ---- a turn: interval k is one of the table's, and there is room for it
@@ -90,9 +94,13 @@ add-end c = record { fits = omega (arith, ends-low c) }
 add-advance : tie.Need-add-advance Inv-loop μ-loop
 add-advance c = record { fits = omega (arith, few-elements (begun c .pre)) }
 
--- the turn, from where all that is lent is
+-- the turn, from where all that the intervals share is lent
+abbrev sharing : tie.After-next2 Inv-loop μ-loop → tie.In-loop Inv-loop μ-loop
+sharing c = c .before .before .before .before .before .before .before .before .before .before .before
+
+-- the turn, from where the arrays for its work are lent too
 abbrev lending : tie.After-last Inv-loop μ-loop → tie.In-loop Inv-loop μ-loop
-lending c = c .before .before .before .before .before
+lending c = sharing (c .before .before .before .before .before .before)
 
 slice-aggregate-advance : tie.Need-slice-aggregate-advance Inv-loop μ-loop
 slice-aggregate-advance c = sym (lending c .before .loop .inv .1)
@@ -119,6 +127,8 @@ advance-requires c κs =
       L .inv .2 .slot,
       ends I,
       L .inv .2 .steady,
+      L .inv .2 .size,
+      L .inv .3,
       omega (arith, L .inv .1, ends-low I),
       simp (length-take, length-drop) (omega (arith, roomy I)),
     )
@@ -145,11 +155,12 @@ loop-again c =
     let L = I .before .loop in
     let S = begun I in
     let D = c .before .before .before .advance in
-    let last = D .last .1 .1 .1 .1 .1 .1 .1 .1 .1 .1 .1 .1 .1 .1 .1 .1 .1 in (
+    let last = D .last .1 .1 .1 .1 .1 .1 .1 .1 .1 .1 .1 .1 .1 .1 .1 .1 .1 .1 .1 .1 .1 in (
       omega (arith, I .loop-test .taken),
-      omega (arith, D .ensures .1, L .inv .1),
+      omega (arith, D .ensures .2, L .inv .1),
       planning-next (S .pre .timed .admissible) (S .args .from) (S .args .totals) (S .args .plan .now) (S .args .to) (S .pre .in-range)
-          (S .pre .roomy) (L .inv .2) (I .loop-test .taken) _ (ends I) (D .result) (last .1 .0) (D .ensures .0),
+          (S .pre .roomy) (L .inv .2) (I .loop-test .taken) _ (ends I) (last .0) (last .1 .1 .1 .1 .1 .1 .0) (D .ensures .0),
+      D .ensures .1,
     )
 
 -- ---- the end
