@@ -252,68 +252,75 @@ fn totals_of(a: u64, b: u64, c: u64, d: u64) -> [u64; Table::ROWS] {
     totals
 }
 
-// A step with interval `k` due and the totals given.
-fn from(name: &[u8], file: &[u8], k: u64, a: u64, b: u64, c: u64, d: u64) {
+fn due(k: u64, a: u64, b: u64, c: u64, d: u64) -> Planner {
     let totals = totals_of(a, b, c, d);
-    step_on(
-        name,
-        Planner {
-            stage: Stage::Due(k),
-            totals: totals,
-        },
-        file,
-    );
+    Planner {
+        stage: Stage::Due(k),
+        totals: totals,
+    }
 }
 
-// A step of a finished planner.
-fn from_end(name: &[u8], file: &[u8], a: u64, b: u64) {
+fn finished(a: u64, b: u64) -> Planner {
     let totals = totals_of(a, b, 0, 0);
-    step_on(
-        name,
-        Planner {
-            stage: Stage::Finished,
-            totals: totals,
-        },
-        file,
-    );
+    Planner {
+        stage: Stage::Finished,
+        totals: totals,
+    }
 }
 
 // Totals of B beside its shares.
-fn total_cases() {}
+fn total_cases() {
+    let b = CASE_B;
+    step_on(b"high_total", due(0, 1, 0, 0, 0), &b);
+    step_on(b"low_total", due(1, 0, 1, 0, 0), &b);
+    step_on(b"either_low", due(1, 1, 1, 0, 0), &b);
+    step_on(b"either_high", due(1, 1, 2, 0, 0), &b);
+    step_on(b"too_high", due(1, 1, 3, 0, 0), &b);
+    step_on(b"spare_total", due(1, 1, 2, 1, 0), &b);
+}
 
-// B past its last interval, and numbers as large as they can be.
-fn large_cases() {}
+// Numbers as large as they can be.
+fn large_cases() {
+    let b = CASE_B;
+    step_on(b"largest_number", due(MOST, 0, 0, 0, 0), &b);
+    step_on(b"largest_totals", due(1, MOST, MOST, 0, 0), &b);
+    step_on(b"largest_spare", due(1, 1, 2, 0, MOST), &b);
+    step_on(b"largest_all", due(MOST, MOST, MOST, MOST, MOST), &b);
+}
+
+// B past its last interval.
+fn end_cases() {
+    let b = CASE_B;
+    step_on(b"last_interval", due(2, 2, 3, 0, 0), &b);
+    step_on(b"end", finished(2, 3), &b);
+    step_on(b"end_off", finished(2, 4), &b);
+}
 
 // Rows that each keep step, in a set that does and in one that doesn't; and a file that is refused first.
-fn set_cases() {}
+fn set_cases() {
+    let halves = HALVES;
+    step_on(b"set_whole", due(1, 2, 1, 2, 0), &halves);
+    step_on(b"set_low", due(1, 1, 1, 2, 0), &halves);
+    step_on(b"set_high", due(1, 2, 2, 2, 0), &halves);
+    let light = LIGHT;
+    step_on(b"light", due(5, 1, 1, 1, 1), &light);
+}
+
+// A step with room for three words.
+fn step_short(name: &[u8], planner: Planner) {
+    let b = CASE_B;
+    let mut words = [KEPT; 3];
+    step(name, planner, &b, &mut words);
+}
 
 // Room is looked at last.
 fn room_cases() {
     let b = CASE_B;
     let mut exact = [KEPT; 4];
     step(b"exact", Planner::fresh(), &b, &mut exact);
-    let mut short = [KEPT; 3];
-    step(b"short", Planner::fresh(), &b, &mut short);
-    let late = totals_of(0, 0, 0, 0);
-    step(
-        b"short_off",
-        Planner {
-            stage: Stage::Due(2),
-            totals: late,
-        },
-        &b,
-        &mut short,
-    );
-    let all = totals_of(2, 3, 0, 0);
-    step(
-        b"short_end",
-        Planner {
-            stage: Stage::Finished,
-            totals: all,
-        },
-        &b,
-        &mut short,
-    );
+    step_short(b"short", Planner::fresh());
+    step_short(b"short_off", due(2, 0, 0, 0, 0));
+    step_short(b"short_end", finished(2, 3));
 }
 
 // ---- standings
@@ -347,36 +354,22 @@ fn stand(name: &[u8], planner: Planner, file: &[u8]) {
     text(b"\n");
 }
 
+// After interval 0 of B, as chosen.
+fn stand_chosen() {
+    let b = CASE_B;
+    let mut words = [KEPT; 4];
+    let r = Planner::fresh().step(&b, &mut words);
+    let planner = r.planner;
+    stand(b"B_chosen", planner, &b);
+}
+
 fn standings_cases() {
     let b = CASE_B;
     stand(b"B", Planner::fresh(), &b);
-    let mut words = [KEPT; 4];
-    let r = Planner::fresh().step(&b, &mut words);
-    stand(b"B_chosen", r.planner, &b);
-    stand(
-        b"B_other",
-        Planner {
-            stage: Stage::Due(1),
-            totals: totals_of(1, 1, 0, 0),
-        },
-        &b,
-    );
-    stand(
-        b"B_end",
-        Planner {
-            stage: Stage::Finished,
-            totals: totals_of(2, 3, 0, 0),
-        },
-        &b,
-    );
-    stand(
-        b"B_off",
-        Planner {
-            stage: Stage::Due(1),
-            totals: totals_of(2, 1, 0, 0),
-        },
-        &b,
-    );
+    stand_chosen();
+    stand(b"B_other", due(1, 1, 1, 0, 0), &b);
+    stand(b"B_end", finished(2, 3), &b);
+    stand(b"B_off", due(1, 2, 1, 0, 0), &b);
     let light = LIGHT;
     stand(b"light", Planner::fresh(), &light);
 }
@@ -427,6 +420,7 @@ fn main() {
     step_cases();
     total_cases();
     large_cases();
+    end_cases();
     set_cases();
     room_cases();
     standings_cases();
