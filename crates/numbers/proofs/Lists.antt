@@ -10,7 +10,8 @@ use native.Mathlib.Nat.{suc-mul, zero-mul, mul-one, le-of-eq, mul-le-mul-right, 
 use native.Mathlib.Numerals.{add-one}
 use native.Mathlib.Omega.{arith}
 use lib.ListN.{length, take, drop, set, length-append, length-drop, length-set, take-append-drop, drop-of-length-le, replicate}
-use lib.Seq.{drop-cons, take-suc, set-at, append-snoc, take-at, drop-at, take-all, take-add, drop-drop, take-append-le, drop-append-le, sets, length-take-le, sets-eq}
+use lib.Seq.{drop-cons, take-suc, set-at, append-snoc, take-at, drop-at, take-all, take-add}
+use lib.Seq.{drop-drop, take-append-le, drop-append-le, sets, length-take-le, sets-eq}
 use lib.Seq.{getD-take, getD-drop, getD-append-add, ext-getD}
 use Rattle.numbers.specs.Lists.{at, each}
 
