@@ -9,6 +9,7 @@
 // - Document 01 lets any qualifying loads be chosen. These are the greatest, row 0's first, so that there is one answer.
 //
 // The arcs' ends and lists are the same for every interval of a table: lay them once.
+use table::Table;
 ghost use mathlib.Core.Path.{_≡_};
 ghost use Prim.Native.Nat.{ℕ, _+_, _*_, _/_, _<_, _≤_};
 ghost use lib.ListN.{length};
@@ -21,7 +22,7 @@ ghost use Rattle.loads.specs.Laid.{Lines, network, Laid, Lent, Lagging, 
 use flow::ARCS;
 use flow::PLACES;
 
-const ROWS: usize = 64;
+const ROWS: usize = Table::ROWS;
 
 // The arcs' ends, and their lists: `out` and `outs` by tails, `into` and `intos` by heads (each arc + 1; 0 ends a list).
 pub struct Network {

@@ -2,6 +2,7 @@
 //
 // An overlap set is the rows across its least second end (proofs/Overlap), and the rows across a second end are an overlap set just when
 // some row has started since the second end before it. So one bool finds the sets, in their order, and nothing is sorted.
+use table::Table;
 ghost use Prim.Native.Nat.{_≤_};
 ghost use Rattle.numbers.specs.Lists.{at};
 ghost use Rattle.rules.specs.Bounds.{max-rows};
@@ -11,7 +12,7 @@ ghost use Rattle.sets.specs.Sets.{OnLine, Listed};
 // The words of the overlap sets, by ascending least second end; those from `count` on are 0.
 pub struct Sets {
     pub count: usize,
-    pub words: [u64; 64],
+    pub words: [u64; Table::ROWS],
 }
 
 // Whether some row starts at an element, whether some row ends there, and the word of the rows across it.
@@ -21,7 +22,7 @@ struct Pass {
     across: u64,
 }
 
-fn pass_rows(first: &[u8; 64], second: &[u8; 64], rows: usize, e: u8) -> Pass
+fn pass_rows(first: &[u8; Table::ROWS], second: &[u8; Table::ROWS], rows: usize, e: u8) -> Pass
     requires { ⌜ rows ≤ max-rows ⌝ }
     ensures { λ r. ⌜ Passed rows (at (now (first .entry))) (at (now (second .entry))) e (r .starts) (r .ends) (r .across) ⌝ }
 {
@@ -51,11 +52,16 @@ fn pass_rows(first: &[u8; 64], second: &[u8; 64], rows: usize, e: u8) -> Pass
 }
 
 // The overlap sets of the first `rows` rows, which run from first to second on a line whose last element is `top`.
-pub fn list_sets(first: &[u8; 64], second: &[u8; 64], rows: usize, top: usize) -> Sets
+pub fn list_sets(
+    first: &[u8; Table::ROWS],
+    second: &[u8; Table::ROWS],
+    rows: usize,
+    top: usize,
+) -> Sets
     requires { ⌜ OnLine rows (at (now first)) (at (now second)) top ⌝ }
     ensures { λ r. ⌜ Listed rows (at (now (first .entry))) (at (now (second .entry))) (r .count) (r .words) ⌝ }
 {
-    let mut words = [0u64; 64];
+    let mut words = [0u64; Table::ROWS];
     let mut count: usize = 0;
     let mut started = false;
     let mut e: usize = 0;
