@@ -18,7 +18,7 @@ use Rattle.loads.specs.declared.Network.{Network}
 use Rattle.slots.specs.Chained.{all-heads, Chained}
 use Rattle.slots.specs.Filled.{FilledSlots}
 use Rattle.interval.specs.Interval.{Added}
-use Rattle.interval.specs.Ready.{Ready, Advanced}
+use Rattle.interval.specs.Ready.{Ready, Due, Advanced}
 use Rattle.interval.proofs.Choice.{total-small, lags-of, chosen-qualify, moved-of}
 use Rattle.interval.proofs.RowSets.{list-length, ranged-low, ranged-high, ranged-spans}
 use Rattle.interval.proofs.Ready.{ready-words, ready-share}
@@ -43,50 +43,48 @@ module _ {t : Table} {rows sets top hyper : ℕ} {first second rate from to : Li
   pub chains-laid : Chained rows (at first) head next
   chains-laid = rw (R .row-count) (R .chained)
 
-  module _ {k b e : ℕ} (in-range : k < intervals t) (begins : b ≡ start t k) (ends : e ≡ end t k) where
+  module _ {k b e : ℕ} {totals : List ℕ} (D : Due t k b e totals) where
     pub ends-after : b ≤ e
-    ends-after = omega (arith, end-far (R .admissible .sound) k in-range)
+    ends-after = omega (arith, end-far (R .admissible .sound) k (D .in-range))
 
     -- ---- the shares
 
     row-share : (i : ℕ) → i < t .rows → at rate i * e ≡ share t i (end t k)
-    row-share i l = ap (λ (s : ℕ). at rate i * s) ends ∙ ready-share R i (end t k) l
+    row-share i l = ap (λ (s : ℕ). at rate i * s) (D .ends) ∙ ready-share R i (end t k) l
 
-    module _ {had : ℕ → ℕ} (st : Steady t b had) where
-      steady : Steady t (start t k) had
-      steady = rw begins at st
+    steady : Steady t (start t k) (at totals)
+    steady = rw (D .begins) at (D .steady)
 
-      -- ---- the loads
+    -- ---- the loads
 
-      pub lags-fit : Lags rows hyper (λ i. at rate i * e) had
-      lags-fit = rw (R .row-count, R .hyper-is) (lags-of (R .admissible) in-range steady (λ i. at rate i * e) row-share)
+    pub lags-fit : Lags rows hyper (λ i. at rate i * e) (at totals)
+    lags-fit = rw (R .row-count, R .hyper-is) (lags-of (R .admissible) (D .in-range) steady (λ i. at rate i * e) row-share)
 
-      module _ {x : ℕ → ℕ} (G : Greatest rows sets (at from) (at to) hyper (λ i. at rate i * e) had x) where
-        chosen : Greatest (t .rows) (length (take sets (R .words))) (at from) (at to) (hyperperiod t) (λ i. at rate i * e) had x
-        chosen = rw (list-length (R .room) (R .ranged)) (rw (R .row-count, R .hyper-is) at G)
+    module _ {x : ℕ → ℕ} (G : Greatest rows sets (at from) (at to) hyper (λ i. at rate i * e) (at totals) x) where
+      chosen : Greatest (t .rows) (length (take sets (R .words))) (at from) (at to) (hyperperiod t) (λ i. at rate i * e) (at totals) x
+      chosen = rw (list-length (R .room) (R .ranged)) (rw (R .row-count, R .hyper-is) at G)
 
-        pub totals-fit : (i : ℕ) → i < rows → had i + x i ≤ max-slots
-        totals-fit i l =
-            total-small (R .admissible) in-range
-            (chosen-qualify (R .admissible) in-range steady (λ i. at rate i * e) row-share (R .list) (at from) (at to)
-            (ranged-low (R .room) (R .ranged)) (ranged-high (R .room) (R .ranged)) chosen)
-            i (omega (arith, R .row-count))
+      pub totals-fit : (i : ℕ) → i < rows → at totals i + x i ≤ max-slots
+      totals-fit i l =
+          total-small (R .admissible) (D .in-range)
+          (chosen-qualify (R .admissible) (D .in-range) steady (λ i. at rate i * e) row-share (R .list) (at from) (at to)
+          (ranged-low (R .room) (R .ranged)) (ranged-high (R .room) (R .ranged)) chosen)
+          i (omega (arith, R .row-count))
 
-        -- ---- the slots and the totals
+      -- ---- the slots and the totals
 
-        pub advanced-of : {totals now was out : List ℕ} → had ≡ at totals → length now ≡ max-rows
-            → FilledSlots rows (at first) (at second) x (e - b) was out → Added rows had x (at now) → Advanced t k totals now was out
-        advanced-of {totals} {now} {was} {out} h n F D =
-            let long : e - b ≡ end t k - start t k = ap₂ _-_ ends begins in
-            let W : SlotWords (t .rows) (meet (at first) (at second)) (at first) x (end t k - start t k) (take (end t k - start t k) out) =
-            rw (R .row-count, long) at (F .words) in
-            record {
-              size = n;
-              moved =
-                  rw (sym h)
-                  (moved-of (R .admissible) in-range steady (λ i. at rate i * e) row-share (R .list) (at from) (at to)
-                  (ranged-low (R .room) (R .ranged)) (ranged-high (R .room) (R .ranged)) chosen
-                  (at now) (take (end t k - start t k) out) (ready-words R W)
-                  (λ i l. D .rows i (omega (arith, R .row-count))) (λ i l. D .spare i (omega (arith, R .row-count))));
-              kept = rw long at (F .kept);
-            }
+      pub advanced-of : {now was out : List ℕ} → length now ≡ max-rows
+          → FilledSlots rows (at first) (at second) x (e - b) was out → Added rows (at totals) x (at now) → Advanced t k totals now was out
+      advanced-of {now} {was} {out} n F A =
+          let long : e - b ≡ end t k - start t k = ap₂ _-_ (D .ends) (D .begins) in
+          let W : SlotWords (t .rows) (meet (at first) (at second)) (at first) x (end t k - start t k) (take (end t k - start t k) out) =
+          rw (R .row-count, long) at (F .words) in
+          record {
+            size = n;
+            moved =
+                moved-of (R .admissible) (D .in-range) steady (λ i. at rate i * e) row-share (R .list) (at from) (at to)
+                (ranged-low (R .room) (R .ranged)) (ranged-high (R .room) (R .ranged)) chosen
+                (at now) (take (end t k - start t k) out) (ready-words R W)
+                (λ i l. A .rows i (omega (arith, R .row-count))) (λ i l. A .spare i (omega (arith, R .row-count)));
+            kept = rw long at (F .kept);
+          }

@@ -22,7 +22,7 @@ use Rattle.lags.specs.Lags.{Admissible}
 use Rattle.loads.specs.Loads.{covers, inSet, Spans}
 use Rattle.promises.proofs.Words.{overlap-agrees}
 use Rattle.interval.specs.Ranges.{lowestSet, highestSet, Ranged}
-use Rattle.outline.proofs.ByRow.{by-row-only}
+use Rattle.table.proofs.ByRow.{by-row-only}
 
 -- ---- only one answer fits
 

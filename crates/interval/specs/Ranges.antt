@@ -10,7 +10,7 @@ use Prim.Native.Nat.{ℕ}
 use Rattle.numbers.specs.Finite.{lowest, highest}
 use Rattle.numbers.specs.Word.{bit}
 use Rattle.numbers.specs.Lists.{at}
-use Rattle.outline.specs.Outlined.{ByRow}
+use Rattle.table.specs.Columns.{ByRow}
 
 abbrev pub lowestSet : ℕ → List ℕ → ℕ → ℕ
 lowestSet K ws i = lowest K (λ k. bit (at ws k) i)

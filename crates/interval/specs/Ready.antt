@@ -3,22 +3,23 @@
 --   Ready t rows sets top hyper first second rate from to net head next
 --                           the table may be admitted; the arrays hold its rows' ends on the line, their rates and their sets, and the
 --                           network and the chains are laid for these
+--   Due t k b e had         interval k is one of the table's, from slot b up to slot e, and totals `had` keep step at b
 --   Advanced t k had now was out
 --                           interval k is done: `now` are the totals after it, and `out`, which held `was`, has its words at the front
 --
 -- Only one `now` and one `out` fit (proofs/Moved, `advanced-only`).
 use mathlib.Core.Path.{_≡_}
 use mathlib.Core.List.{List}
-use Prim.Native.Nat.{ℕ, _+_, _-_, _≤_}
+use Prim.Native.Nat.{ℕ, _+_, _-_, _≤_, _<_}
 use lib.ListN.{length, take}
 use Rattle.numbers.specs.Lists.{at}
 use Rattle.rules.specs.Bounds.{max-rows}
 use Rattle.rules.specs.Bus.{Table}
 use Rattle.rules.specs.Line.{lineFirst, lineSecond, Sets}
-use Rattle.rules.specs.Loads.{hyperperiod, start, end}
+use Rattle.rules.specs.Loads.{hyperperiod, start, end, intervals}
 use Rattle.rules.specs.Loads as loads
-use Rattle.outline.specs.Outlined.{ByRow}
-use Rattle.lags.specs.Lags.{Admissible}
+use Rattle.table.specs.Columns.{ByRow}
+use Rattle.lags.specs.Lags.{Admissible, Steady}
 use Rattle.loads.specs.Laid.{Laid}
 use Rattle.loads.specs.declared.Network.{Network}
 use Rattle.slots.specs.Chained.{Chained}
@@ -42,6 +43,12 @@ pub record Ready (t : Table) (rows sets top hyper : ℕ) (first second rate from
   pub ranged : Ranged (t .rows) sets words from to
   pub laid : Laid (t .rows) sets (at from) (at to) net
   pub chained : Chained (t .rows) (at first) head next
+
+pub record Due (t : Table) (k b e : ℕ) (had : List ℕ) : Type 0 where
+  pub in-range : k < intervals t
+  pub begins : b ≡ start t k
+  pub ends : e ≡ end t k
+  pub steady : Steady t b (at had)
 
 pub record Advanced (t : Table) (k : ℕ) (had now was out : List ℕ) : Type 0 where
   pub size : length now ≡ max-rows

@@ -5,14 +5,11 @@ ghost use Prim.Native.Nat.{ℕ, _+_, _-_, _≤_, _<_};
 ghost use lib.ListN.{length};
 ghost use Rattle.numbers.specs.Lists.{at};
 ghost use Rattle.rules.specs.Bounds.{max-rows, max-slots};
-ghost use Rattle.rules.specs.TableFile.{fileTable};
-ghost use Rattle.rules.specs.Loads.{intervals};
-ghost use Rattle.rules.specs.Loads as loads;
-ghost use Rattle.lags.specs.Lags.{Steady};
+ghost use Rattle.rules.specs.Bus as bus;
 ghost use Rattle.loads.specs.Laid.{network, Lent};
 ghost use Rattle.interval.specs.Ranges.{lowestSet, highestSet, Ranged};
 ghost use Rattle.interval.specs.Interval.{Added};
-ghost use Rattle.interval.specs.Ready.{Ready, Advanced};
+ghost use Rattle.interval.specs.Ready.{Ready, Due, Advanced};
 use flow::ARCS;
 use flow::PLACES;
 use slots::Chains;
@@ -89,13 +86,10 @@ fn add_loads(totals: &mut [u64; Table::ROWS], load: &[u64; Table::ROWS], rows: u
 
 // ---- the interval
 
-// Does interval `interval` of the table in `file`, which runs from slot `start` up to slot `end`: writes its words to the front of
-// `words`, and takes the totals on. `file` and `interval` only say which interval it is; from `rows` to `next` all is laid once for
-// the table.
+// Does one interval of a table, which runs from slot `start` up to slot `end`: writes its words to the front of `words`, and takes the
+// totals on. From `rows` to `next` all is laid once for the table.
 // From `x` to `last` all is lent for the work: what it holds before and after says nothing.
 pub fn advance<'a>(
-    file: &[u8],
-    interval: usize,
     start: usize,
     end: usize,
     rows: usize,
@@ -123,15 +117,18 @@ pub fn advance<'a>(
     last: &mut [u8],
     words: &mut [u64],
 )
-    requires { ⌜ Ready (fileTable (now file)) rows sets top hyper (now first) (now second) (now rate) (now from) (now to)
+    requires { ⌜ ((t : bus.Table) × (k : ℕ)
+        × Ready t rows sets top hyper (now first) (now second) (now rate) (now from) (now to)
         (network (now tails) (now heads) (now out) (now outs) (now into) (now intos)) (now head) (now next)
-        × (interval < intervals (fileTable (now file)))
-        × (start ≡ loads.start (fileTable (now file)) interval) × (end ≡ loads.end (fileTable (now file)) interval)
-        × Steady (fileTable (now file)) start (at (now totals)) × (length (now totals) ≡ max-rows)
-        × Lent (now x) (now low) (now high) (now load)
+        × Due t k start end (now totals))
+        × (length (now totals) ≡ max-rows) × Lent (now x) (now low) (now high) (now load)
         × (end - start ≤ length (now last)) × (end - start ≤ length (now words)) ⌝ }
-    ensures { λ r. ⌜ Advanced (fileTable (now (file .entry))) interval (now (totals .entry)) (now (totals .exit))
-        (now (words .entry)) (now (words .exit))
+    ensures { λ r. ⌜ ((t : bus.Table) (k : ℕ)
+        → Ready t rows sets top hyper (now (first .entry)) (now (second .entry)) (now (rate .entry)) (now (from .entry)) (now (to .entry))
+        (network (now (tails .entry)) (now (heads .entry)) (now (out .entry)) (now (outs .entry)) (now (into .entry)) (now (intos .entry)))
+        (now (head .entry)) (now (next .entry))
+        → Due t k start end (now (totals .entry))
+        → Advanced t k (now (totals .entry)) (now (totals .exit)) (now (words .entry)) (now (words .exit)))
         × Lent (now (x .exit)) (now (low .exit)) (now (high .exit)) (now (load .exit))
         × (length (now (last .exit)) ≡ length (now (last .entry))) ⌝ }
 {

@@ -2,4 +2,3 @@ pub mod Periods
 pub mod Sets
 pub mod Outlined
 pub mod Listed
-pub mod ByRow

@@ -29,7 +29,7 @@ module _ (f : List ℕ) where
 
   -- ---- what the call answers
 
-  module _ (was : List ℕ) (o : Outline) (O : Outlined f o) where
+  module _ (was : List ℕ) (o : Outline) (O : Outlined (outline-checks f) (fileTable f) o) where
     pub listed-refused : o .number ≢ 0 → Listed f was was (o .number) (o .place) 0
     unfolding sets-checks
     listed-refused h = record {
@@ -40,7 +40,7 @@ module _ (f : List ℕ) where
 
     module _ (z : o .number ≡ 0) where
       none : None (outline-checks f)
-      none = outlined-none O z
+      none = outlined-none (outline-numbered f) O z
 
       count : length (take (o .sets) (o .words)) ≡ o .sets
       count = found-count (O .found z)

@@ -1,4 +1,4 @@
--- Refusals 1 to 12, and that only one outline fits a file. Past the file's checks a table has a cut or 10 is given, and a hyperperiod of at
+-- Refusals 1 to 12, and that only one outline fits. Past the file's checks a table has a cut or 10 is given, and a hyperperiod of at
 -- most 4096 slots or 11 is given; 12 is never given.
 use mathlib.Core.Path.{_≡_, refl, sym, _∙_}
 use mathlib.Core.Logic.{_≢_, ⊎-elim}
@@ -14,7 +14,7 @@ use Rattle.rules.specs.Bus.{Table}
 use Rattle.rules.specs.TableFile.{fileTable}
 use Rattle.rules.specs.Line.{cut, lineFirst, lineSecond, Sets}
 use Rattle.rules.specs.Loads.{hyperperiod}
-use Rattle.rules.specs.Refusals.{Answers, no-cut, long-hyperperiod, tied-sets, file-checks, line-checks}
+use Rattle.rules.specs.Refusals.{Check, Answers, no-cut, long-hyperperiod, tied-sets, file-checks, line-checks}
 use Rattle.rules.proofs.Answers.{
   None,
   Numbered,
@@ -36,7 +36,7 @@ use Rattle.ring.proofs.Cut.{cut-high, cut-none}
 use Rattle.sets.specs.Sets.{OnLine, Listed}
 use Rattle.sets.proofs.Listed.{listed-only}
 use Rattle.outline.specs.declared.Outline.{Outline}
-use Rattle.outline.proofs.ByRow.{by-row-only}
+use Rattle.table.proofs.ByRow.{by-row-only}
 use Rattle.outline.specs.Outlined.{Found, blank, outline-checks, Outlined}
 use Rattle.outline.proofs.Sets.{Ends, own-ends, ends-on-line, line-list, sets-untied}
 
@@ -90,64 +90,62 @@ module _ (f : List ℕ) where
 
 -- ---- the outline of each outcome
 
+pub outlined-refused : {cs : List Check} {t : Table} (n p : ℕ) → n ≢ 0 → Answers cs n p → Outlined cs t (blank n p)
+outlined-refused n p h a = record { answers = a; found = λ e. absurd (h e); refused = λ e. refl }
+
+pub outlined-found : (t : Table) (o : Outline) → o .number ≡ 0 → o .place ≡ 0 → Found t o → Outlined (line-checks t) t o
+outlined-found t o n q F = record {
+  answers = rw (n, q) (answered (line-checks t) (line-none t (F .sound) (F .clear) (F .short)));
+  found = λ e. F;
+  refused = λ e. absurd (e n);
+}
+
 module _ (f : List ℕ) where
-  pub outlined-file : (n p : ℕ) → n ≢ 0 → Answers (file-checks f) n p → Outlined f (blank n p)
-  outlined-file n p h a = record {
-    answers = stopped (file-checks f) (line-checks (fileTable f)) n p h a;
-    found = λ e. absurd (h e);
-    refused = λ e. refl;
+  pub outlined-file : (n p : ℕ) → n ≢ 0 → Answers (file-checks f) n p → Outlined (outline-checks f) (fileTable f) (blank n p)
+  outlined-file n p h a = outlined-refused n p h (stopped (file-checks f) (line-checks (fileTable f)) n p h a)
+
+  -- past the file's checks its table's outline is the file's
+  pub outlined-past : (p : ℕ) → Answers (file-checks f) 0 p → {o : Outline} → Outlined (line-checks (fileTable f)) (fileTable f) o
+      → Outlined (outline-checks f) (fileTable f) o
+  outlined-past p a {o} O = record {
+    answers =
+        joined (file-checks f) (line-checks (fileTable f)) (o .number) (o .place) (none-of (file-checks f) p (file-numbered f) a)
+        (O .answers);
+    found = O .found;
+    refused = O .refused;
   }
 
-  module _ (p : ℕ) (a : Answers (file-checks f) 0 p) where
-    pub outlined-line : (n q : ℕ) → n ≢ 0 → Answers (line-checks (fileTable f)) n q → Outlined f (blank n q)
-    outlined-line n q h b = record {
-      answers = joined (file-checks f) (line-checks (fileTable f)) n q (none-of (file-checks f) p (file-numbered f) a) b;
-      found = λ e. absurd (h e);
-      refused = λ e. refl;
-    }
-
-    pub outlined-found : (o : Outline) → o .number ≡ 0 → o .place ≡ 0 → Found f o → Outlined f o
-    outlined-found o n q F = record {
-      answers =
-          rw (n, q)
-          (joined (file-checks f) (line-checks (fileTable f)) 0 0 (none-of (file-checks f) p (file-numbered f) a)
-          (answered (line-checks (fileTable f)) (line-none (fileTable f) (F .passed .sound) (F .clear) (F .short))));
-      found = λ e. F;
-      refused = λ e. absurd (e n);
-    }
-
-pub outlined-none : {f : List ℕ} {o : Outline} → Outlined f o → o .number ≡ 0 → None (outline-checks f)
-outlined-none {f} {o} O z = none-of (outline-checks f) (o .place) (outline-numbered f) (rw z at (O .answers))
+pub outlined-none : {cs : List Check} {t : Table} {o : Outline} → Numbered cs → Outlined cs t o → o .number ≡ 0 → None cs
+outlined-none {cs} {t} {o} N O z = none-of cs (o .place) N (rw z at (O .answers))
 
 -- ---- the rows and the list of an outline that is found
 
-pub found-few : {f : List ℕ} {o : Outline} → Found f o → o .sets ≤ max-rows
-found-few F = let s = F .passed .sound in omega arith
+pub found-few : {t : Table} {o : Outline} → Found t o → o .sets ≤ max-rows
+found-few F = let s = F .sound in omega arith
 
-pub found-count : {f : List ℕ} {o : Outline} → Found f o → length (take (o .sets) (o .words)) ≡ o .sets
-found-count {f} {o} F = omega (arith, length-take (o .sets) (o .words), found-few F)
+pub found-count : {t : Table} {o : Outline} → Found t o → length (take (o .sets) (o .words)) ≡ o .sets
+found-count {t} {o} F = omega (arith, length-take (o .sets) (o .words), found-few F)
 
-module _ {f : List ℕ} {o : Outline} (F : Found f o) where
-  pub found-ends : Ends (fileTable f) (at (o .first)) (at (o .second))
+module _ {t : Table} {o : Outline} (F : Found t o) where
+  pub found-ends : Ends t (at (o .first)) (at (o .second))
   found-ends i l = (F .first .row i l, F .second .row i l)
 
-  module _ (first second : ℕ → ℕ) (ends : Ends (fileTable f) first second) where
-    pub found-on-line : OnLine (fileTable f .rows) first second (fileTable f .elements + 1)
-    found-on-line = ends-on-line (fileTable f) (F .passed .sound) (F .clear) first second ends
+  module _ (first second : ℕ → ℕ) (ends : Ends t first second) where
+    pub found-on-line : OnLine (t .rows) first second (t .elements + 1)
+    found-on-line = ends-on-line t (F .sound) (F .clear) first second ends
 
-    pub found-listed : Listed (fileTable f .rows) first second (o .sets) (o .words)
+    pub found-listed : Listed (t .rows) first second (o .sets) (o .words)
     found-listed = record {
       size = F .size;
       few = F .few;
-      sets = line-list (fileTable f) (F .passed .sound) (F .clear) first second ends (take (o .sets) (o .words)) (F .list);
+      sets = line-list t (F .sound) (F .clear) first second ends (take (o .sets) (o .words)) (F .list);
       rest = F .rest;
     }
 
 -- ---- only one outline fits
 
-found-only : {f : List ℕ} {o u : Outline} → o .number ≡ u .number → o .place ≡ u .place → Found f o → Found f u → o ≡ u
-found-only {f} {o} {u} n p F G =
-    let t = fileTable f in
+pub found-only : {t : Table} {o u : Outline} → o .number ≡ u .number → o .place ≡ u .place → Found t o → Found t u → o ≡ u
+found-only {t} {o} {u} n p F G =
     let ends = own-ends t in
     let w =
     listed-only (found-on-line F (lineFirst t) (lineSecond t) ends)
@@ -166,11 +164,11 @@ found-only {f} {o} {u} n p F G =
       words = w .1 k;
     }
 
-pub outlined-only : (f : List ℕ) (o u : Outline) → Outlined f o → Outlined f u → o ≡ u
-outlined-only f o u O U = go (ℕ-discrete (o .number) 0)
+pub outlined-only : {cs : List Check} {t : Table} (o u : Outline) → Outlined cs t o → Outlined cs t u → o ≡ u
+outlined-only {cs} {t} o u O U = go (ℕ-discrete (o .number) 0)
   where
     same : (o .number ≡ u .number) × (o .place ≡ u .place)
-    same = answers-only _ _ _ _ _ (O .answers) (U .answers)
+    same = answers-only cs _ _ _ _ (O .answers) (U .answers)
 
     go : Dec (o .number ≡ 0) → o ≡ u
     go (yes z) = found-only (same .0) (same .1) (O .found z) (U .found (sym (same .0) ∙ z))

@@ -1,7 +1,7 @@
--- The hyperperiod and the interval of a sound table, found row by row.
+-- The hyperperiod and the interval of a table, found row by row from its periods.
 --
---   Rising t i h       h is the least common multiple of the first i periods, and no more than 4096
---   Falling t i l      l is the greatest common divisor of the first i periods
+--   Rising n p i h     h is the least common multiple of the first i of n periods p, and no more than 4096
+--   Falling n p i l    l is the greatest common divisor of the first i of n periods p
 use mathlib.Core.Path.{_≡_, sym, _∙_}
 use mathlib.Core.Logic.{_≢_, ⊎-elim}
 use Prim.Native.Nat.{ℕ, _+_, _≤_, _<_}
@@ -14,56 +14,67 @@ use Rattle.rules.specs.Bounds.{max-slots}
 use Rattle.rules.specs.Bus.{Table}
 use Rattle.rules.specs.Loads.{hyperperiod, shortest}
 use Rattle.table.specs.Sound.{Sound}
-use Rattle.outline.specs.Periods.{Capped}
+use Rattle.outline.specs.Periods.{Periods, Capped}
 
-pub record Rising (t : Table) (i h : ℕ) : Type 0 where
-  pub rows : i ≤ t .rows
+pub record Rising (n : ℕ) (p : ℕ → ℕ) (i h : ℕ) : Type 0 where
+  pub rows : i ≤ n
   pub low : 1 ≤ h
   pub high : h ≤ max-slots
-  pub is : lcm i (t .period) ≡ h
+  pub is : lcm i p ≡ h
 
-pub record Falling (t : Table) (i l : ℕ) : Type 0 where
+pub record Falling (n : ℕ) (p : ℕ → ℕ) (i l : ℕ) : Type 0 where
   pub some : 1 ≤ i
-  pub rows : i ≤ t .rows
-  pub is : gcd i (t .period) ≡ l
+  pub rows : i ≤ n
+  pub is : gcd i p ≡ l
 
-pub periods-positive : {t : Table} → Sound t → (n : ℕ) → n ≤ t .rows → Positive n (t .period)
-periods-positive s n l i k = s .row i (omega arith) .period-low
+pub periods-of : {t : Table} → Sound t → Periods (t .rows) (t .period)
+periods-of s = record {
+  some = s .rows-low;
+  few = s .rows-high;
+  low = λ i l. s .row i l .period-low;
+  high = λ i l. s .row i l .period-high;
+}
 
 -- ---- the hyperperiod
 
-pub rising-start : (t : Table) → Rising t 0 1
-rising-start t = record { rows = omega arith; low = omega arith; high = omega arith; is = lcm-none (t .period) }
+module _ {n : ℕ} {p : ℕ → ℕ} where
+  positive : Periods n p → (k : ℕ) → k ≤ n → Positive k p
+  positive P k l i h = P .low i (omega arith)
 
-module _ {t : Table} (s : Sound t) {i h m : ℕ} (R : Rising t i h) (l : i < t .rows) (M : IsLcm h (t .period i) m) where
-  rising-is : lcm (i + 1) (t .period) ≡ m
-  rising-is = lcm-next i (t .period) (periods-positive s (i + 1) (omega arith)) m (rw (R .is) M)
+  pub rising-start : Rising n p 0 1
+  rising-start = record { rows = omega arith; low = omega arith; high = omega arith; is = lcm-none p }
 
-  pub rising-next : m ≤ max-slots → Rising t (i + 1) m
-  rising-next k = record {
-    rows = omega arith;
-    low = omega (arith, rising-is, lcm-positive (i + 1) (t .period) (periods-positive s (i + 1) (omega arith)));
-    high = k;
-    is = rising-is;
-  }
+  module _ (P : Periods n p) {i h m : ℕ} (R : Rising n p i h) (l : i < n) (M : IsLcm h (p i) m) where
+    rising-is : lcm (i + 1) p ≡ m
+    rising-is = lcm-next i p (positive P (i + 1) (omega arith)) m (rw (R .is) M)
 
-  -- the rows after row i can't bring it down again
-  pub rising-over : max-slots < m → Capped (hyperperiod t) 0
-  unfolding hyperperiod
-  rising-over k =
-      let g = lcm-grows (i + 1) (t .rows) (t .period) (periods-positive s (t .rows) (omega arith)) (omega arith) in
-      record { short = λ a. absurd (omega (arith, rising-is, g)); long = λ a. omega arith }
+    pub rising-next : m ≤ max-slots → Rising n p (i + 1) m
+    rising-next k = record {
+      rows = omega arith;
+      low = omega (arith, rising-is, lcm-positive (i + 1) p (positive P (i + 1) (omega arith)));
+      high = k;
+      is = rising-is;
+    }
 
-pub rising-end : {t : Table} {i h : ℕ} → Rising t i h → t .rows ≤ i → Capped (hyperperiod t) h
-unfolding hyperperiod
-rising-end {t} {i} {h} R l =
-    let e : i ≡ t .rows = omega arith in
-    let is : lcm (t .rows) (t .period) ≡ h = rw e at (R .is) in
-    record { short = λ a. sym is; long = λ a. absurd (omega arith) }
+    -- the rows after row i can't bring it down again
+    pub rising-over : max-slots < m → Capped (lcm n p) 0
+    rising-over k =
+        let g = lcm-grows (i + 1) n p (positive P n (omega arith)) (omega arith) in
+        record { short = λ a. absurd (omega (arith, rising-is, g)); long = λ a. omega arith }
+
+  pub rising-end : {i h : ℕ} → Rising n p i h → n ≤ i → Capped (lcm n p) h
+  rising-end {i} {h} R l =
+      let e : i ≡ n = omega arith in
+      let is : lcm n p ≡ h = rw e at (R .is) in
+      record { short = λ a. sym is; long = λ a. absurd (omega arith) }
 
 pub hyperperiod-positive : {t : Table} → Sound t → 0 < hyperperiod t
 unfolding hyperperiod
-hyperperiod-positive {t} s = lcm-positive (t .rows) (t .period) (periods-positive s (t .rows) (omega arith))
+hyperperiod-positive {t} s = lcm-positive (t .rows) (t .period) (positive (periods-of s) (t .rows) (omega arith))
+
+pub capped-hyper : (t : Table) {r : ℕ} → Capped (lcm (t .rows) (t .period)) r → Capped (hyperperiod t) r
+unfolding hyperperiod
+capped-hyper t C = C
 
 pub capped-some : {h r : ℕ} → Capped h r → r ≢ 0 → (r ≡ h) × (r ≤ max-slots)
 capped-some {h} {r} C z =
@@ -72,28 +83,24 @@ capped-some {h} {r} C z =
 pub capped-none : {h r : ℕ} → Capped h r → r ≡ 0 → 0 < h → max-slots < h
 capped-none {h} {r} C z p = ⊎-elim (λ (l : h ≤ max-slots). absurd (omega (arith, C .short l))) (λ l. l) (le-or-lt h max-slots)
 
--- only one answer fits
-pub capped-only : {h r s : ℕ} → Capped h r → Capped h s → r ≡ s
-capped-only {h} C D = ⊎-elim (λ l. C .short l ∙ sym (D .short l)) (λ l. C .long l ∙ sym (D .long l)) (le-or-lt h max-slots)
-
 -- ---- the interval
 
-pub falling-start : {t : Table} → Sound t → Falling t 1 (t .period 0)
-falling-start {t} s = record {
-  some = omega arith;
-  rows = omega arith;
-  is = gcd-one (t .period) (s .row 0 (omega arith) .period-low);
-}
+module _ {n : ℕ} {p : ℕ → ℕ} (P : Periods n p) where
+  pub falling-start : Falling n p 1 (p 0)
+  falling-start = record { some = omega arith; rows = omega arith; is = gcd-one p (P .low 0 (omega arith)) }
 
-pub falling-next : {t : Table} → Sound t → {i l d : ℕ} → Falling t i l → i < t .rows → IsGcd l (t .period i) d → Falling t (i + 1) d
-falling-next {t} s {i} {l} {d} F k D = record {
-  some = omega arith;
-  rows = omega arith;
-  is = gcd-next i (t .period) (F .some) (periods-positive s (i + 1) (omega arith)) d (rw (F .is) D);
-}
+  pub falling-next : {i l d : ℕ} → Falling n p i l → i < n → IsGcd l (p i) d → Falling n p (i + 1) d
+  falling-next {i} {l} {d} F k D = record {
+    some = omega arith;
+    rows = omega arith;
+    is = gcd-next i p (F .some) (positive P (i + 1) (omega arith)) d (rw (F .is) D);
+  }
 
-pub falling-end : {t : Table} {i l : ℕ} → Falling t i l → t .rows ≤ i → l ≡ shortest t
-unfolding shortest
-falling-end {t} {i} {l} F k =
-    let e : i ≡ t .rows = omega arith in
+pub falling-end : {n : ℕ} {p : ℕ → ℕ} {i l : ℕ} → Falling n p i l → n ≤ i → l ≡ gcd n p
+falling-end {n} {p} {i} {l} F k =
+    let e : i ≡ n = omega arith in
     sym (rw e at (F .is))
+
+pub falling-shortest : (t : Table) {l : ℕ} → l ≡ gcd (t .rows) (t .period) → l ≡ shortest t
+unfolding shortest
+falling-shortest t e = e

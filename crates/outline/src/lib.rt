@@ -1,37 +1,32 @@
 // What a table is on the line: its cut, its rows' ends, its overlap sets, hyperperiod and interval, or a refusal from 1 to 12.
 use table::Answer;
+use table::Columns;
 use table::Table;
 ghost use mathlib.Core.Path.{_≡_};
 ghost use Prim.Native.Nat.{_<_, _≤_};
 ghost use lib.ListN.{length};
+ghost use Rattle.numbers.specs.Lists.{at};
+ghost use Rattle.numbers.specs.Divisors.{gcd, lcm};
 ghost use Rattle.rules.specs.Bounds.{max-slots};
 ghost use Rattle.rules.specs.TableFile.{fileTable};
-ghost use Rattle.rules.specs.Loads.{hyperperiod, shortest};
+ghost use Rattle.rules.specs.Line as line;
+ghost use Rattle.rules.specs.Loads.{hyperperiod};
+ghost use Rattle.rules.specs.Refusals.{line-checks};
 ghost use Rattle.rules.specs.Calls.{lent, Listed};
-ghost use Rattle.table.specs.Sound.{Passed};
-ghost use Rattle.ring.specs.Laid.{AtCut};
-ghost use Rattle.outline.specs.Periods.{Capped};
-ghost use Rattle.outline.specs.Outlined.{Found, blank, Outlined};
-
-// The period of row `i`.
-fn period_at(file: &[u8], i: usize) -> u64
-    requires { ⌜ Passed (now file) × (i < fileTable (now file) .rows) ⌝ }
-    ensures { λ r. ⌜ (r ≡ fileTable (now (file .entry)) .period i) × (1 ≤ r) × (r ≤ max-slots) ⌝ }
-{
-    let row = table::row_at(file, i);
-    row.period as u64
-}
+ghost use Rattle.table.specs.Sound.{Sound};
+ghost use Rattle.table.specs.Columns.{tableOf};
+ghost use Rattle.outline.specs.Periods.{Periods, Capped};
+ghost use Rattle.outline.specs.Outlined.{Found, blank, outline-checks, Outlined};
 
 // h, the least common multiple of the periods, or 0 where it is above 4096. It only grows from row to row, so the rows after that are left.
-fn hyperperiod_of(file: &[u8]) -> u64
-    requires { ⌜ Passed (now file) ⌝ }
-    ensures { λ r. ⌜ Capped (hyperperiod (fileTable (now (file .entry)))) r ⌝ }
+fn hyperperiod_of(rows: usize, period: &[u16; Table::ROWS]) -> u64
+    requires { ⌜ Periods rows (at (now period)) ⌝ }
+    ensures { λ r. ⌜ Capped (lcm rows (at (now (period .entry)))) r ⌝ }
 {
-    let table = Table::of(file);
     let mut h: u64 = 1;
     let mut i: usize = 0;
-    while i < table.rows {
-        h = numbers::lcm_of(h, period_at(file, i));
+    while i < rows {
+        h = numbers::lcm_of(h, table::slots_at(period, i));
         if h > Table::SLOTS as u64 {
             return 0;
         }
@@ -41,15 +36,14 @@ fn hyperperiod_of(file: &[u8]) -> u64
 }
 
 // L, the greatest common divisor of the periods.
-fn shortest_of(file: &[u8]) -> u64
-    requires { ⌜ Passed (now file) ⌝ }
-    ensures { λ r. ⌜ r ≡ shortest (fileTable (now (file .entry))) ⌝ }
+fn shortest_of(rows: usize, period: &[u16; Table::ROWS]) -> u64
+    requires { ⌜ Periods rows (at (now period)) ⌝ }
+    ensures { λ r. ⌜ r ≡ gcd rows (at (now (period .entry))) ⌝ }
 {
-    let table = Table::of(file);
-    let mut l = period_at(file, 0);
+    let mut l = table::slots_at(period, 0);
     let mut i: usize = 1;
-    while i < table.rows {
-        l = numbers::gcd_of(l, period_at(file, i));
+    while i < rows {
+        l = numbers::gcd_of(l, table::slots_at(period, i));
         i += 1;
     }
     l
@@ -89,25 +83,44 @@ fn refuse(number: u32, place: u32) -> Outline
     }
 }
 
-// The outline of a table that has the cut and the hyperperiod given: nothing is left to refuse, as no two overlap sets tie.
-fn found(file: &[u8], cut: usize, hyper: u64) -> Outline
-    requires { ⌜ AtCut (now file) cut × (hyper ≡ hyperperiod (fileTable (now file))) × (hyper ≤ max-slots) ⌝ }
-    ensures { λ r. ⌜ (r .number ≡ 0) × (r .place ≡ 0) × Found (now (file .entry)) r ⌝ }
+// What a table is on the line, or the first refusal of 10 to 12.
+pub fn outline_of(columns: Columns) -> Outline
+    requires { ⌜ Sound (tableOf columns) ⌝ }
+    ensures { λ r. ⌜ Outlined (line-checks (tableOf columns)) (tableOf columns) r ⌝ }
 {
-    let table = Table::of(file);
-    let line = ring::lay(file, cut);
+    let cut = ring::find_cut(
+        columns.elements,
+        columns.rows,
+        &columns.first,
+        &columns.second,
+    );
+    if cut > columns.elements {
+        return refuse(Answer::NO_CUT, 0);
+    }
+    let hyper = hyperperiod_of(columns.rows, &columns.period);
+    if hyper == 0 {
+        return refuse(Answer::LONG_HYPERPERIOD, 0);
+    }
+    // nothing is left to refuse, as no two overlap sets tie
+    let line = ring::lay(
+        columns.elements,
+        columns.rows,
+        &columns.first,
+        &columns.second,
+        cut,
+    );
     let first = line.first;
     let second = line.second;
-    let list = sets::list_sets(&first, &second, table.rows, table.elements + 1);
+    let list = sets::list_sets(&first, &second, columns.rows, columns.elements + 1);
     let words = list.words;
     Outline {
         number: Answer::DONE,
         place: 0,
-        elements: table.elements,
-        rows: table.rows,
+        elements: columns.elements,
+        rows: columns.rows,
         cut: cut,
         hyper: hyper,
-        interval: shortest_of(file),
+        interval: shortest_of(columns.rows, &columns.period),
         first: first,
         second: second,
         sets: list.count,
@@ -116,23 +129,14 @@ fn found(file: &[u8], cut: usize, hyper: u64) -> Outline
 }
 
 // What a file's table is on the line, or the first refusal of 1 to 12.
-pub fn outline_of(file: &[u8]) -> Outline
-    ensures { λ r. ⌜ Outlined (now (file .entry)) r ⌝ }
+fn outline_file(file: &[u8]) -> Outline
+    ensures { λ r. ⌜ Outlined (outline-checks (now (file .entry))) (fileTable (now (file .entry))) r ⌝ }
 {
     let answer = table::check(file);
     if answer.number != Answer::DONE {
         return refuse(answer.number, answer.place);
     }
-    let table = Table::of(file);
-    let cut = ring::find_cut(file);
-    if cut > table.elements {
-        return refuse(Answer::NO_CUT, 0);
-    }
-    let hyper = hyperperiod_of(file);
-    if hyper == 0 {
-        return refuse(Answer::LONG_HYPERPERIOD, 0);
-    }
-    found(file, cut, hyper)
+    outline_of(table::columns_of(file))
 }
 
 // What the list of sets answers: a refusal number and its place, or the length of the list.
@@ -156,7 +160,7 @@ fn write_front(words: &[u64], out: &mut [u64])
 pub fn list_of_sets(file: &[u8], out: &mut [u64]) -> Listing
     ensures { λ r. ⌜ Listed (now (file .entry)) (now (out .entry)) (now (out .exit)) (r .number) (r .place) (r .sets) ⌝ }
 {
-    let o = outline_of(file);
+    let o = outline_file(file);
     if o.number != Answer::DONE {
         return Listing {
             number: o.number,

@@ -30,12 +30,12 @@ use Rattle.planner.proofs.Timed.{timed-of, timed-shown, slot-is, next-i
 use Rattle.planner.proofs.Course.{course-one, course-run}
 
 -- an analysis that refuses nothing
-pub analysed-none : {f : List ℕ} {a : Analysis} → Analysed f a → a .number ≡ 0 → None (verdict-checks f)
-analysed-none {f} {a} A z = none-of (verdict-checks f) (a .place) (verdict-numbered f) (rw z at (A .answers))
+pub analysed-none : (f : List ℕ) {a : Analysis} → Analysed (verdict-checks f) (fileTable f) a → a .number ≡ 0 → None (verdict-checks f)
+analysed-none f {a} A z = none-of (verdict-checks f) (a .place) (verdict-numbered f) (rw z at (A .answers))
 
 -- ---- standings
 
-module _ {f : List ℕ} {a : Analysis} (A : Accepted f a) (p : Planner) (s : ℕ) (e : s ≡ slotOf (a .hyper) (a .interval) (p .stage)) where
+module _ (f : List ℕ) {a : Analysis} (A : Accepted (fileTable f) a) (p : Planner) (s : ℕ) (e : s ≡ slotOf (a .hyper) (a .interval) (p .stage)) where
   pub standings-answer : (xs : List ℤ) → Answers (standings-checks f (plannerOf p)) 0 0
       → Stands (a .rows) (a .hyper) s (at (a .rate)) (at (p .totals)) xs
       → StandingsAnswer f p (record { number = 0; place = 0; values = xs })
@@ -77,7 +77,7 @@ module _ (f : List ℕ) (p : Planner) (n q : ℕ) (refuses : n ≢ 0) where
     size = size;
   }
 
-module _ {f : List ℕ} {a : Analysis} (A : Accepted f a) (p : Planner) (k : ℕ) (is-due : p .stage ≡ Due k) (now was out : List ℕ)
+module _ (f : List ℕ) {a : Analysis} (A : Accepted (fileTable f) a) (p : Planner) (k : ℕ) (is-due : p .stage ≡ Due k) (now was out : List ℕ)
     (C : Coursed (fileTable f) k (k + 1) (p .totals) now was out) where
   abbrev moved-on : Planner
   moved-on = record { stage = stageAt (a .hyper / a .interval) (k + 1); totals = now }

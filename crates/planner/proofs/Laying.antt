@@ -8,7 +8,6 @@ use Rattle.numbers.specs.Lists.{at}
 use Rattle.numbers.proofs.Lists.{zeros-at}
 use Rattle.rules.specs.Bounds.{max-elements, max-rows}
 use Rattle.rules.specs.Bus.{Table}
-use Rattle.rules.specs.TableFile.{fileTable}
 use Rattle.rules.specs.Loads.{start}
 use Rattle.rules.specs.Planner.{due, Off}
 use Rattle.lags.proofs.Intervals.{start-first, start-last, end-next}
@@ -31,11 +30,11 @@ use Rattle.planner.proofs.Timed.{timed-of, few-sets, intervals-are, end
 
 -- ---- what can be planned
 
-module _ {f : List ℕ} {a : Analysis} (A : Accepted f a) where
+module _ {t : Table} {a : Analysis} (A : Accepted t a) where
   -- the interval due, from a state that is not off
-  pub due-plannable : (p : Planner) (k room : ℕ) → length (p .totals) ≡ max-rows → ¬ Off (fileTable f) (plannerOf p) → p .stage ≡ Due k
+  pub due-plannable : (p : Planner) (k room : ℕ) → length (p .totals) ≡ max-rows → ¬ Off t (plannerOf p) → p .stage ≡ Due k
       → a .interval ≤ room
-      → Plannable (fileTable f) (a .rows) (a .sets) (a .elements) (a .hyper) (a .interval) (a .first) (a .second) (a .rate) (a .words)
+      → Plannable t (a .rows) (a .sets) (a .elements) (a .hyper) (a .interval) (a .first) (a .second) (a .rate) (a .words)
       k (k + 1) (p .totals) room
   due-plannable p k room size o e l =
       let n = not-off .0 o in
@@ -49,12 +48,12 @@ module _ {f : List ℕ} {a : Analysis} (A : Accepted f a) where
         order = omega arith;
         in-range = omega (arith, n .number k q);
         steady = rw q at (n .steady);
-        roomy = omega (arith, end-is (timed-of A) k (start (fileTable f) k) refl, end-next (A .admissible .sound) k);
+        roomy = omega (arith, end-is (timed-of A) k (start t k) refl, end-next (A .admissible .sound) k);
       }
 
   -- all intervals, from the fresh state
   pub whole-plannable : (room : ℕ) → a .hyper ≤ room
-      → Plannable (fileTable f) (a .rows) (a .sets) (a .elements) (a .hyper) (a .interval) (a .first) (a .second) (a .rate) (a .words)
+      → Plannable t (a .rows) (a .sets) (a .elements) (a .hyper) (a .interval) (a .first) (a .second) (a .rate) (a .words)
       0 (a .hyper / a .interval) (replicate max-rows 0) room
   whole-plannable room l =
       let S = A .admissible .sound in
@@ -69,7 +68,7 @@ module _ {f : List ℕ} {a : Analysis} (A : Accepted f a) where
         in-range = omega (arith, all);
         steady =
             rw (start-first S)
-            (steady-eq (fileTable f) 0 (λ i. 0) (at (replicate max-rows 0)) (λ i h. sym (zeros-at max-rows i))
+            (steady-eq t 0 (λ i. 0) (at (replicate max-rows 0)) (λ i h. sym (zeros-at max-rows i))
             (steady-fresh (A .admissible)));
         roomy = rw (all, start-last S) (omega (arith, A .outline .hyper));
       }

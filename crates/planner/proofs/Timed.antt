@@ -8,7 +8,6 @@ use native.Mathlib.Omega.{arith}
 use lib.Dec.{eqb}
 use Rattle.rules.specs.Bounds.{max-rows, max-slots}
 use Rattle.rules.specs.Bus.{Table}
-use Rattle.rules.specs.TableFile.{fileTable}
 use Rattle.rules.specs.Loads.{start, end, intervals}
 use Rattle.rules.specs.Planner.{due, finished, next, reached}
 use Rattle.lags.proofs.Intervals.{shortest-positive, start-mono, start-last, end-next}
@@ -20,8 +19,8 @@ use Rattle.planner.specs.declared.Stage.the-variants.{Due, Finished}
 use Rattle.planner.specs.State.{stageOf, slotOf, stageAt}
 use Rattle.planner.specs.Timed.{Timed}
 
-pub timed-of : {f : List ℕ} {a : Analysis} → Accepted f a
-    → Timed (fileTable f) (a .rows) (a .sets) (a .hyper) (a .interval) (a .rate) (a .words)
+pub timed-of : {t : Table} {a : Analysis} → Accepted t a
+    → Timed t (a .rows) (a .sets) (a .hyper) (a .interval) (a .rate) (a .words)
 timed-of A = record {
   admissible = A .admissible;
   row-count = A .outline .rows;

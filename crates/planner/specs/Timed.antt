@@ -14,7 +14,7 @@ use Rattle.rules.specs.Bounds.{max-rows}
 use Rattle.rules.specs.Bus.{Table}
 use Rattle.rules.specs.Line.{lineFirst, lineSecond, Sets}
 use Rattle.rules.specs.Loads.{hyperperiod, shortest, start, intervals, rate}
-use Rattle.outline.specs.Outlined.{ByRow}
+use Rattle.table.specs.Columns.{ByRow}
 use Rattle.lags.specs.Lags.{Admissible, Steady}
 
 pub record Timed (t : Table) (rows sets hyper interval : ℕ) (rates words : List ℕ) : Type 0 where

@@ -11,7 +11,6 @@ ghost use Prim.Native.Nat.{_/_, _≤_, _<_};
 ghost use lib.ListN.{length};
 ghost use Rattle.rules.specs.Bounds.{max-slots};
 ghost use Rattle.rules.specs.Bus as bus;
-ghost use Rattle.rules.specs.TableFile.{fileTable};
 ghost use Rattle.rules.specs.Planner.{Off};
 ghost use Rattle.numbers.specs.Decides.{Decides};
 ghost use Rattle.planner.specs.Timed.{Timed, Plannable};
@@ -85,7 +84,6 @@ fn stage_at(k: u64, intervals: u64) -> Stage
 // front of `plan`, each interval's to its own stretch, and gives the totals after the last. What the intervals share is laid out once,
 // and so are the arrays that are lent to each of them for its work.
 fn plan_intervals<'a>(
-    file: &[u8],
     rows: usize,
     sets: usize,
     elements: usize,
@@ -100,9 +98,11 @@ fn plan_intervals<'a>(
     totals: [u64; Table::ROWS],
     plan: &mut [u64],
 ) -> [u64; Table::ROWS]
-    requires { ⌜ Plannable (fileTable (now file)) rows sets elements hyper interval (now first) (now second) (now rate) (now words)
-        from to totals (length (now plan)) ⌝ }
-    ensures { λ r. ⌜ Coursed (fileTable (now (file .entry))) from to totals r (now (plan .entry)) (now (plan .exit)) ⌝ }
+    requires { ⌜ ((t : bus.Table) × Plannable t rows sets elements hyper interval (now first) (now second) (now rate) (now words)
+        from to totals (length (now plan))) ⌝ }
+    ensures { λ r. ⌜ ((t : bus.Table) → Plannable t rows sets elements hyper interval (now (first .entry)) (now (second .entry))
+        (now (rate .entry)) (now (words .entry)) from to totals (length (now (plan .entry)))
+        → Coursed t from to totals r (now (plan .entry)) (now (plan .exit))) ⌝ }
 {
     let ranges = interval::ranges_of(rows, sets, words);
     let lowest = ranges.from;
@@ -123,8 +123,6 @@ fn plan_intervals<'a>(
     while k < to {
         let end = slot + interval as usize;
         interval::advance(
-            file,
-            k as usize,
             slot,
             end,
             rows,
@@ -273,7 +271,6 @@ impl Planner {
         let next = k + 1;
         let totals = self.totals;
         let after = plan_intervals(
-            file,
             table.rows,
             table.sets,
             table.elements,
@@ -320,7 +317,6 @@ pub fn whole_plan(file: &[u8], plan: &mut [u64]) -> Answer
     let fresh = Planner::fresh();
     let totals = fresh.totals;
     plan_intervals(
-        file,
         table.rows,
         table.sets,
         table.elements,

@@ -3,4 +3,3 @@ pub mod Routes
 pub mod Rows
 pub mod Cut
 pub mod OnLine
-pub mod Laying

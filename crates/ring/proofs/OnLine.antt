@@ -5,13 +5,10 @@ use mathlib.Core.Bool.{_&&_}
 use Prim.Native.Nat.{ℕ, _+_, _≤_, _<_}
 use native.Mathlib.Omega.{arith}
 use lib.Dec.{leb, ltb}
-use Rattle.numbers.specs.Lists.{at}
 use Rattle.rules.specs.Bus.{Table, uses, through, overlap}
 use Rattle.rules.specs.Line.{cut, onLine, lineFirst, lineSecond, meet}
 use Rattle.table.specs.Sound.{Sound}
 use Rattle.ring.specs.Route.{Element, routeUses, routeThrough, place, endPlace}
-use Rattle.ring.specs.Laid.{line-end, Laid}
-use Rattle.ring.specs.declared.Line.{Line}
 use Rattle.ring.proofs.Routes.{Route, route-low, route-ordered, route-high, route-uses, routes-share}
 use Rattle.ring.proofs.Cut.{cut-low, cut-clear}
 
@@ -41,9 +38,6 @@ module _ (t : Table) (sound : Sound t) (some : cut t ≤ t .elements) where
   unfolding lineSecond onLine place endPlace
   line-high i l = route-high (row-route i l)
 
-  pub line-within : (i : ℕ) → i < t .rows → lineSecond t i ≤ line-end
-  line-within i l = omega (arith, line-high i l, sound .elements-high)
-
   -- row i uses exactly the segments that begin on its stretch of the line
   pub line-uses : (i s : ℕ) → i < t .rows → Element (t .elements) s
       → uses t i s ≡ (leb (lineFirst t i) (onLine t s) && ltb (onLine t s) (lineSecond t i))
@@ -54,16 +48,3 @@ module _ (t : Table) (sound : Sound t) (some : cut t ≤ t .elements) where
   pub overlap-meet : (i j : ℕ) → i < t .rows → j < t .rows → overlap t i j ≡ meet (lineFirst t) (lineSecond t) i j
   unfolding overlap meet uses routeUses lineFirst lineSecond onLine place endPlace
   overlap-meet i j l m = routes-share (row-route i l) (row-route j m)
-
-  -- ---- the same of the ends that the code has laid
-
-  module _ (line : Line) (laid : Laid t line) where
-    pub laid-ordered : (i : ℕ) → i < t .rows → at (line .first) i < at (line .second) i
-    laid-ordered i l = omega (arith, laid .first i l, laid .second i l, line-ordered i l)
-
-    pub laid-high : (i : ℕ) → i < t .rows → at (line .second) i ≤ t .elements + 1
-    laid-high i l = omega (arith, laid .second i l, line-high i l)
-
-    pub laid-meet : (i j : ℕ) → i < t .rows → j < t .rows → overlap t i j ≡ meet (at (line .first)) (at (line .second)) i j
-    unfolding meet
-    laid-meet i j l m = rw (laid .first i l, laid .first j m, laid .second i l, laid .second j m) (overlap-meet i j l m)

@@ -1,19 +1,37 @@
--- A table's rows as routes between plain numbers: what code that holds M, the cut and a row's ends in numbers of its own has computed.
-use mathlib.Core.Path.{_≡_}
+-- A table's cut and its rows' ends on the line, from its ring and its rows' ends alone.
+use mathlib.Core.Path.{_≡_, refl}
 use Prim.Native.Nat.{ℕ}
 use Rattle.rules.specs.Bus.{Table, uses, through}
-use Rattle.rules.specs.Line.{cut, onLine, lineFirst, lineSecond}
+use Rattle.rules.specs.Line.{clear, cut, onLine, lineFirst, lineSecond}
+use Rattle.table.specs.Sound.{Sound}
+use Rattle.table.specs.Columns.{ByRow}
 use Rattle.ring.specs.Route.{routeUses, routeThrough, place, endPlace}
+use Rattle.ring.specs.Laid.{Routes, onRing, Laid}
+use Rattle.ring.specs.declared.Line.{Line}
 
-module _ (t : Table) (i M : ℕ) (elements : M ≡ t .elements) where
-  pub row-through : (a b e : ℕ) → a ≡ t .first i → b ≡ t .second i → routeThrough M a b e ≡ through t i e
-  unfolding through uses routeThrough routeUses
-  row-through a b e p q = rw (elements, p, q)
+pub row-through : (M n : ℕ) (first second : ℕ → ℕ) (i e : ℕ) {a b : ℕ} → a ≡ first i → b ≡ second i
+    → routeThrough M a b e ≡ through (onRing M n first second) i e
+unfolding through uses routeThrough routeUses
+row-through M n first second i e p q = rw (p, q)
 
-  pub row-first : (c a : ℕ) → c ≡ cut t → a ≡ t .first i → place M c a ≡ lineFirst t i
-  unfolding lineFirst onLine place
-  row-first c a p q = rw (elements, p, q)
+pub sound-routes : {t : Table} → Sound t → Routes (t .elements) (t .rows) (t .first) (t .second)
+sound-routes s = record {
+  small = s .elements-high;
+  few = s .rows-high;
+  starts = λ i l. let row = s .row i l in record { low = row .first-low; high = row .first-high };
+  ends = λ i l. let row = s .row i l in record { low = row .second-low; high = row .second-high };
+}
 
-  pub row-second : (c b : ℕ) → c ≡ cut t → b ≡ t .second i → endPlace M c b ≡ lineSecond t i
-  unfolding lineSecond onLine endPlace place
-  row-second c b p q = rw (elements, p, q)
+module _ (t : Table) where
+  pub ring-cut : cut (onRing (t .elements) (t .rows) (t .first) (t .second)) ≡ cut t
+  unfolding cut clear through uses
+  ring-cut = refl
+
+  module _ {c : ℕ} {r : Line} (e : c ≡ cut t) (L : Laid (t .elements) c (t .rows) (t .first) (t .second) r) where
+    pub laid-first : ByRow (t .rows) (lineFirst t) (r .first)
+    unfolding lineFirst onLine place
+    laid-first = rw e at (L .starts)
+
+    pub laid-second : ByRow (t .rows) (lineSecond t) (r .second)
+    unfolding lineSecond onLine endPlace place
+    laid-second = rw e at (L .ends)

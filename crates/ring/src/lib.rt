@@ -1,53 +1,20 @@
-// From ring to line: the elements a row goes through, the cut, and the rows' ends on the line.
+// From ring to line: the elements a row goes through, the cut, and the rows' ends on the line. Rows are routes between two elements here:
+// what they cost, when they come and which file they came from is not known.
 use table::Table;
 ghost use mathlib.Core.Path.{_≡_};
 ghost use Prim.Native.Nat.{_+_, _≤_, _<_};
+ghost use Rattle.numbers.specs.Lists.{at};
 ghost use Rattle.rules.specs.Bounds.{max-elements};
 ghost use Rattle.rules.specs.Bus as bus;
 ghost use Rattle.rules.specs.Line as line;
-ghost use Rattle.rules.specs.TableFile.{fileTable};
-ghost use Rattle.table.specs.Sound.{Passed};
 ghost use Rattle.ring.specs.Route as route;
 ghost use Rattle.ring.specs.Route.{Element};
-ghost use Rattle.ring.specs.Laid.{line-end, HasEnds, AtCut, Laid};
+ghost use Rattle.ring.specs.Laid.{Routes, onRing, Laid};
 
 // The rows' ends on the line, 0 past the last row.
 pub struct Line {
     pub first: [u8; Table::ROWS],
     pub second: [u8; Table::ROWS],
-}
-
-impl Line {
-    // No second end stands past it: room for two rings, one after the other.
-    pub const END: usize = 2 * (Table::ELEMENTS + 1);
-
-    // The constant, where a proof has to cite it.
-    pub fn last_end() -> usize
-        ensures { λ r. ⌜ r ≡ line-end ⌝ }
-    {
-        Line::END
-    }
-}
-
-// A row's first and second element.
-struct Ends {
-    first: usize,
-    second: usize,
-}
-
-// How many elements the ring has.
-fn elements_of(file: &[u8]) -> usize
-    requires { ⌜ Passed (now file) ⌝ }
-    ensures { λ r. ⌜ r ≡ fileTable (now (file .entry)) .elements ⌝ }
-{
-    file[5] as usize
-}
-
-fn rows_of(file: &[u8]) -> usize
-    requires { ⌜ Passed (now file) ⌝ }
-    ensures { λ r. ⌜ r ≡ fileTable (now (file .entry)) .rows ⌝ }
-{
-    file[6] as usize
 }
 
 // How many segments lie from element `from` clockwise to element `to`.
@@ -83,36 +50,25 @@ fn end_place(m: usize, cut: usize, e: usize) -> usize
     if e == cut { m + 1 } else { place(m, cut, e) }
 }
 
-// The ends of row `i`.
-fn ends_at(file: &[u8], i: usize) -> Ends
-    requires { ⌜ Passed (now file) × (i < fileTable (now file) .rows) ⌝ }
-    ensures { λ r. ⌜ HasEnds (fileTable (now (file .entry))) i r ⌝ }
-{
-    let row = table::row_at(file, i);
-    Ends {
-        first: row.first as usize,
-        second: row.second as usize,
-    }
-}
-
-// Row `i` goes through element `e`.
-fn row_through(file: &[u8], i: usize, e: usize) -> bool
-    requires { ⌜ Passed (now file) × (i < fileTable (now file) .rows) × Element (fileTable (now file) .elements) e ⌝ }
-    ensures { λ r. ⌜ r ≡ bus.through (fileTable (now (file .entry))) i e ⌝ }
-{
-    let ends = ends_at(file, i);
-    through(elements_of(file), ends.first, ends.second, e)
-}
-
 // No row goes through element `e`.
-fn is_clear(file: &[u8], e: usize) -> bool
-    requires { ⌜ Passed (now file) × Element (fileTable (now file) .elements) e ⌝ }
-    ensures { λ r. ⌜ r ≡ line.clear (fileTable (now (file .entry))) e ⌝ }
+fn is_clear<'a>(
+    elements: usize,
+    rows: usize,
+    first: &'a [u8; Table::ROWS],
+    second: &'a [u8; Table::ROWS],
+    e: usize,
+) -> bool
+    requires { ⌜ Routes elements rows (at (now first)) (at (now second)) × Element elements e ⌝ }
+    ensures { λ r. ⌜ r ≡ line.clear (onRing elements rows (at (now (first .entry))) (at (now (second .entry)))) e ⌝ }
 {
-    let n = rows_of(file);
     let mut i: usize = 0;
-    while i < n {
-        if row_through(file, i, e) {
+    while i < rows {
+        if through(
+            elements,
+            table::end_at(first, i),
+            table::end_at(second, i),
+            e,
+        ) {
             return false;
         }
         i += 1;
@@ -121,14 +77,18 @@ fn is_clear(file: &[u8], e: usize) -> bool
 }
 
 // The lowest-numbered element with no row through it; one past the last where there is none.
-pub fn find_cut(file: &[u8]) -> usize
-    requires { ⌜ Passed (now file) ⌝ }
-    ensures { λ r. ⌜ r ≡ line.cut (fileTable (now (file .entry))) ⌝ }
+pub fn find_cut<'a>(
+    elements: usize,
+    rows: usize,
+    first: &'a [u8; Table::ROWS],
+    second: &'a [u8; Table::ROWS],
+) -> usize
+    requires { ⌜ Routes elements rows (at (now first)) (at (now second)) ⌝ }
+    ensures { λ r. ⌜ r ≡ line.cut (onRing elements rows (at (now (first .entry))) (at (now (second .entry)))) ⌝ }
 {
-    let m = elements_of(file);
     let mut e: usize = 1;
-    while e <= m {
-        if is_clear(file, e) {
+    while e <= elements {
+        if is_clear(elements, rows, first, second, e) {
             return e;
         }
         e += 1;
@@ -136,37 +96,27 @@ pub fn find_cut(file: &[u8]) -> usize
     e
 }
 
-// Row `i`'s first end on the line that begins at the cut.
-fn line_first(file: &[u8], cut: usize, i: usize) -> u8
-    requires { ⌜ AtCut (now file) cut × (i < fileTable (now file) .rows) ⌝ }
-    ensures { λ r. ⌜ r ≡ line.lineFirst (fileTable (now (file .entry))) i ⌝ }
+// The rows laid on the line that begins at element `cut`.
+pub fn lay<'a>(
+    elements: usize,
+    rows: usize,
+    first: &'a [u8; Table::ROWS],
+    second: &'a [u8; Table::ROWS],
+    cut: usize,
+) -> Line
+    requires { ⌜ Routes elements rows (at (now first)) (at (now second)) × Element elements cut ⌝ }
+    ensures { λ r. ⌜ Laid elements cut rows (at (now (first .entry))) (at (now (second .entry))) r ⌝ }
 {
-    let ends = ends_at(file, i);
-    place(elements_of(file), cut, ends.first) as u8
-}
-
-// Row `i`'s second end on that line.
-fn line_second(file: &[u8], cut: usize, i: usize) -> u8
-    requires { ⌜ AtCut (now file) cut × (i < fileTable (now file) .rows) ⌝ }
-    ensures { λ r. ⌜ r ≡ line.lineSecond (fileTable (now (file .entry))) i ⌝ }
-{
-    let ends = ends_at(file, i);
-    end_place(elements_of(file), cut, ends.second) as u8
-}
-
-// The rows laid on the line that begins at the cut.
-pub fn lay(file: &[u8], cut: usize) -> Line
-    requires { ⌜ AtCut (now file) cut ⌝ }
-    ensures { λ r. ⌜ Laid (fileTable (now (file .entry))) r ⌝ }
-{
-    let n = rows_of(file);
-    let mut first = [0u8; Table::ROWS];
-    let mut second = [0u8; Table::ROWS];
+    let mut start = [0u8; Table::ROWS];
+    let mut end = [0u8; Table::ROWS];
     let mut i: usize = 0;
-    while i < n {
-        first[i] = line_first(file, cut, i);
-        second[i] = line_second(file, cut, i);
+    while i < rows {
+        start[i] = place(elements, cut, table::end_at(first, i)) as u8;
+        end[i] = end_place(elements, cut, table::end_at(second, i)) as u8;
         i += 1;
     }
-    Line { first, second }
+    Line {
+        first: start,
+        second: end,
+    }
 }

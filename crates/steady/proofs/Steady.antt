@@ -28,7 +28,7 @@ use Rattle.rules.specs.Loads.{hyperperiod, intervals, rate, share}
 use Rattle.rules.specs.Planner.{Stage, due, finished, Planner, reached, Off, standing}
 use Rattle.rules.proofs.Sets.{set-in}
 use Rattle.table.specs.Sound.{Sound}
-use Rattle.outline.specs.Outlined.{ByRow}
+use Rattle.table.specs.Columns.{ByRow}
 use Rattle.lags.specs.Lags.{Steady, NotOff}
 use Rattle.lags.proofs.Intervals.{hyperperiod-positive, rate-le, start-mono, start-last}
 use Rattle.numbers.proofs.Finite.{all-or-one}

@@ -3,3 +3,5 @@ pub mod Fills
 pub mod Calls
 pub mod Codec
 pub mod RoundTrip
+pub mod ByRow
+pub mod Decoding

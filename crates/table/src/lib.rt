@@ -1,8 +1,13 @@
 // The table file: its bounds, its rows, its reader and writer.
 mod checks;
+mod columns;
 mod reader;
 mod writer;
 
+pub use columns::Columns;
+pub use columns::columns_of;
+pub use columns::end_at;
+pub use columns::slots_at;
 pub use reader::check;
 pub use reader::read;
 pub use writer::write;
@@ -175,7 +180,7 @@ fn read16(file: &[u8], at: usize) -> u16
 }
 
 // Row `i` of a file that holds it.
-pub fn row_at(file: &[u8], i: usize) -> Row
+pub(crate) fn row_at(file: &[u8], i: usize) -> Row
     requires { ⌜ 7 + 6 * (i + 1) ≤ length (now file) ⌝ }
     ensures { λ r. ⌜ IsRow (fileTable (now (file .entry))) i r ⌝ }
 {

@@ -4,7 +4,7 @@
 use mathlib.Core.Path.{_≡_, refl, sym, subst}
 use mathlib.Core.Logic.{⊎-elim}
 use mathlib.Core.Bool.{Bool}
-use mathlib.Core.List.{List, [], _∷_}
+use mathlib.Core.List.{List, [], _∷_, _++_, append-assoc}
 use Prim.Native.Nat.{ℕ, _+_, _≤_, _<_}
 use native.Mathlib.Omega.{arith}
 use lib.Dec.{T}
@@ -29,7 +29,8 @@ use Rattle.ring.proofs.OnLine.{line-ordered}
 use Rattle.sets.proofs.List.{setsTo, setsTo-few, sets-are}
 use Rattle.outline.proofs.Sets.{ring-list, sets-untied}
 use Rattle.outline.specs.Outlined.{outline-checks}
-use Rattle.outline.proofs.Outlined.{outline-numbered, outline-passed, outline-short}
+use Rattle.outline.proofs.Outlined.{outline-numbered, none-line}
+use Rattle.verdict.specs.Analysed.{table-checks}
 use Rattle.lags.specs.Lags.{Admissible}
 use Rattle.rules.proofs.Answers.{single-none, none-single, single-numbered, single-stopped}
 use Rattle.rules.proofs.Answers.{Lacks, lacks-join, lacks-each, lacks-first, lacks-last}
@@ -116,14 +117,10 @@ sets-exist t s c =
       setsTo-few (t .rows) (lineFirst t) (lineSecond t) E,
     )
 
-pub admissible-of : (f : List ℕ) → None (verdict-checks f) → Admissible (fileTable f)
-unfolding verdict-checks
-admissible-of f a =
-    let t = fileTable f in
-    let b = none-left (outline-checks f) (bound-checks t) a in
-    let n = none-right (outline-checks f) (bound-checks t) a in
-    let s = outline-passed f b .sound in
-    let l = outline-short f b in
+pub table-admissible : (t : Table) → Sound t → None (table-checks t) → Admissible t
+table-admissible t s a =
+    let n = none-right (line-checks t) (bound-checks t) a in
+    let l = none-line t (none-left (line-checks t) (bound-checks t) a) in
     let e = sets-exist t s (l .0) in
     record {
       sound = s;
@@ -132,6 +129,17 @@ admissible-of f a =
       heavy = none-heavy t (s .rows-low) (e .0) (e .1) n;
       bounded = bounded t (s .rows-low) (e .0) (e .1) (none-within t (s .rows-low) (e .0) (e .1) n (e .2));
     }
+
+-- the verdict's checks are the file's, then the table's
+pub verdict-split : (f : List ℕ) → verdict-checks f ≡ file-checks f ++ table-checks (fileTable f)
+unfolding verdict-checks
+verdict-split f = append-assoc (file-checks f) (line-checks (fileTable f)) (bound-checks (fileTable f))
+
+pub admissible-of : (f : List ℕ) → None (verdict-checks f) → Admissible (fileTable f)
+admissible-of f a =
+    let n : None (file-checks f ++ table-checks (fileTable f)) = rw (verdict-split f) at a in
+    table-admissible (fileTable f) (passed-none f (none-left (file-checks f) (table-checks (fileTable f)) n) .sound)
+    (none-right (file-checks f) (table-checks (fileTable f)) n)
 
 -- ---- refusal 12, of two sets that tie, is never given
 

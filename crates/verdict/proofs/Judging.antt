@@ -23,7 +23,7 @@ use Rattle.verdict.proofs.Bound.{verdict-numbered, admissible-of, tie-n
 
 -- ---- the verdict of an analysis
 
-module _ {f : List ℕ} {a : Analysis} (A : Analysed f a) where
+module _ (f : List ℕ) {a : Analysis} (A : Analysed (verdict-checks f) (fileTable f) a) where
   pub judged-refused : a .number ≢ 0 → IsVerdict f (Refused (a .number) (a .place))
   judged-refused h = record { answers = A .answers; done = λ e. absurd (h e); refused = λ e. (refl, refl, refl, refl, refl) }
 
@@ -32,7 +32,7 @@ module _ {f : List ℕ} {a : Analysis} (A : Analysed f a) where
   judged-admitted z cut interval hyper load sets c i h l s =
       let F = A .found z in
       let O = F .outline in
-      let sound = O .passed .sound in
+      let sound = O .sound in
       let none = none-of (verdict-checks f) (a .place) (verdict-numbered f) (rw z at (A .answers)) in
       record {
         answers = answered (verdict-checks f) none;

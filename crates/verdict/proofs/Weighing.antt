@@ -1,8 +1,7 @@
 -- The weights of a sound table's rows and sets, found row by row and set by set: what one turn of each loop does, and that the code's
 -- weights are document 01's loads and bound.
 --
---   Same t i             the periods of the first i rows equal row 0's
---   Heavy t i            none of the first i rows is light
+--   Sought n q i         none of the first i of n numbers passes the test q
 --   Summed xs w i x      x is the load of the set w in the first i rows
 use mathlib.Core.Path.{_≡_, refl, sym, ap, _∙_}
 use mathlib.Core.Logic.{⊎-elim}
@@ -25,9 +24,9 @@ use Rattle.rules.specs.Bounds.{max-rows, max-slots}
 use Rattle.rules.specs.Bus.{Table}
 use Rattle.rules.specs.Loads.{hyperperiod, shortest, rate, load, equalPeriods, light, over}
 use Rattle.table.specs.Sound.{Sound}
-use Rattle.outline.specs.Outlined.{ByRow}
-use Rattle.lags.proofs.Intervals.{period-positive, shortest-positive, rate-le}
-use Rattle.verdict.specs.Weights.{costBelow, SmallRates, weight, past, nextLowest, Weighed}
+use Rattle.table.specs.Columns.{ByRow}
+use Rattle.lags.proofs.Intervals.{period-positive, period-divides, hyperperiod-positive, shortest-positive, equal-shortest, equal-hyperperiod, rate-le}
+use Rattle.verdict.specs.Weights.{Times, lightBy, SmallRates, weight, past, nextLowest, Weighed}
 
 -- ---- the interval
 
@@ -40,56 +39,77 @@ shortest-le {t} s =
 
 -- ---- equal periods
 
-pub record Same (t : Table) (i : ℕ) : Type 0 where
-  pub rows : i ≤ t .rows
-  pub alike : (j : ℕ) → j < i → t .period j ≡ t .period 0
+-- L divides every period and every period divides h, so all are equal exactly if L is h
+module _ {t : Table} (s : Sound t) where
+  shortest-low : (i : ℕ) → i < t .rows → shortest t ≤ t .period i
+  unfolding shortest
+  shortest-low i l = le-of-dvd (period-positive s i l) (gcd-divides (t .rows) (t .period) (s .rows-low) (period-positive s) i l)
 
-module _ {t : Table} where
-  pub same-start : Same t 0
-  same-start = record { rows = omega arith; alike = λ j l. absurd (omega arith) }
-
-  pub same-next : {i : ℕ} → Same t i → i < t .rows → t .period i ≡ t .period 0 → Same t (i + 1)
-  same-next s l e = record { rows = omega arith; alike = below-more _ _ (s .alike) e }
-
-  pub same-end : {i : ℕ} → Same t i → t .rows ≤ i → equalPeriods t ≡ true
+  all-equal : shortest t ≡ hyperperiod t → T (equalPeriods t)
   unfolding equalPeriods
-  same-end s l =
-      is-true (every (t .rows) (λ j. eqb (t .period j) (t .period 0)))
-      (every-of (t .rows) (λ j. eqb (t .period j) (t .period 0))
-      (λ j m. eqb-of (t .period j) (t .period 0) (s .alike j (omega arith))))
+  all-equal e =
+      let same : (i : ℕ) → i < t .rows → t .period i ≡ hyperperiod t =
+      λ i l. omega (arith, shortest-low i l, le-of-dvd (hyperperiod-positive s) (period-divides s i l), e) in
+      every-of (t .rows) (λ j. eqb (t .period j) (t .period 0))
+      (λ j m. eqb-of (t .period j) (t .period 0) (same j m ∙ sym (same 0 (s .rows-low))))
 
-pub different : (t : Table) (i : ℕ) → i < t .rows → (t .period i ≡ t .period 0 → ⊥) → equalPeriods t ≡ false
-unfolding equalPeriods
-different t i l d =
-    is-false (every (t .rows) (λ j. eqb (t .period j) (t .period 0)))
-    (λ e. d (eqb→eq (t .period i) (t .period 0) (every-at (t .rows) (λ j. eqb (t .period j) (t .period 0)) e i l)))
+  pub equal-is : eqb (shortest t) (hyperperiod t) ≡ equalPeriods t
+  equal-is =
+      let p : Bool = eqb (shortest t) (hyperperiod t) in
+      ⊎-elim (λ h. is-true p h ∙ sym (is-true (equalPeriods t) (all-equal (eqb→eq (shortest t) (hyperperiod t) h))))
+      (λ f. is-false p f
+      ∙ sym (is-false (equalPeriods t)
+      (λ e. f (eqb-of (shortest t) (hyperperiod t) (equal-shortest s e ∙ sym (equal-hyperperiod s e))))))
+      (decide p)
 
 -- ---- light rows
 
-pub light-equal : (t : Table) → equalPeriods t ≡ true → (i : ℕ) → T (light t i) → ⊥
-unfolding light
-light-equal t e i h = refutes (equalPeriods t) (fst (not (equalPeriods t)) (ltb (t .cost i * shortest t) (t .period i)) h) (of-true e)
+pub times-of : {t : Table} → Sound t → Times (t .rows) (t .cost) (t .period)
+times-of s = record {
+  few = s .rows-high;
+  period-low = λ i l. s .row i l .period-low;
+  cost-high = λ i l. let row = s .row i l in omega arith;
+}
 
-pub light-is : (t : Table) → equalPeriods t ≡ false → (i : ℕ) → light t i ≡ costBelow t i
-unfolding light
-light-is t e i = rw e
+module _ {e : Bool} (l : ℕ) (cost period : ℕ → ℕ) (i : ℕ) where
+  pub light-equal : e ≡ true → T (lightBy e l cost period i) → ⊥
+  unfolding lightBy
+  light-equal q h = refutes e (fst (not e) (ltb (cost i * l) (period i)) h) (of-true q)
 
-pub record Heavy (t : Table) (i : ℕ) : Type 0 where
-  pub rows : i ≤ t .rows
-  pub none : (j : ℕ) → j < i → T (light t j) → ⊥
+  pub light-differ : {a b : ℕ} → e ≡ false → a ≡ cost i → b ≡ period i → lightBy e l cost period i ≡ ltb (a * l) b
+  unfolding lightBy
+  light-differ q u v = rw (q, u, v)
 
-module _ {t : Table} where
-  pub heavy-start : Heavy t 0
-  heavy-start = record { rows = omega arith; none = λ j l. absurd (omega arith) }
+pub light-is : (t : Table) {e : Bool} {l : ℕ} → e ≡ equalPeriods t → l ≡ shortest t → lightBy e l (t .cost) (t .period) ≡ light t
+unfolding lightBy light
+light-is t p q = rw (p, q)
 
-  pub heavy-next : {i : ℕ} → Heavy t i → i < t .rows → light t i ≡ false → Heavy t (i + 1)
-  heavy-next h l e = record { rows = omega arith; none = below-more _ _ (h .none) (of-false e) }
+-- ---- the rates
 
-  pub heavy-stop : {i : ℕ} → Heavy t i → i < t .rows → light t i ≡ true → i ≡ lowest (t .rows) (light t)
-  heavy-stop {i} h l e = sym (lowest-is (t .rows) (light t) i l (of-true e) (h .none))
+pub rates-are : (t : Table) {h : ℕ} {xs : List ℕ} → h ≡ hyperperiod t → ByRow (t .rows) (λ i. h / t .period i * t .cost i) xs
+    → ByRow (t .rows) (rate t) xs
+unfolding rate
+rates-are t e B = rw e at B
 
-  pub heavy-end : {i : ℕ} → Heavy t i → t .rows ≤ i → i ≡ lowest (t .rows) (light t)
-  heavy-end {i} h l = omega (arith, lowest-none (t .rows) (light t) (λ j m. h .none j (omega arith)))
+-- ---- the lowest number that passes a test, from 0 up
+
+-- none below i passes
+pub record Sought (n : ℕ) (q : ℕ → Bool) (i : ℕ) : Type 0 where
+  pub within : i ≤ n
+  pub none : (j : ℕ) → j < i → T (q j) → ⊥
+
+module _ {n : ℕ} {q : ℕ → Bool} where
+  pub sought-start : Sought n q 0
+  sought-start = record { within = omega arith; none = λ j l. absurd (omega arith) }
+
+  pub sought-next : {i : ℕ} → Sought n q i → i < n → q i ≡ false → Sought n q (i + 1)
+  sought-next h l e = record { within = omega arith; none = below-more _ _ (h .none) (of-false e) }
+
+  pub sought-found : {i : ℕ} → Sought n q i → i < n → q i ≡ true → i ≡ lowest n q
+  sought-found {i} h l e = sym (lowest-is n q i l (of-true e) (h .none))
+
+  pub sought-end : {i : ℕ} → Sought n q i → n ≤ i → i ≡ lowest n q
+  sought-end {i} h l = omega (arith, lowest-none n q (λ j m. h .none j (omega arith)))
 
 -- ---- the load of a set
 

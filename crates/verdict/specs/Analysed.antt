@@ -1,22 +1,24 @@
--- A file's table analysed: its outline, its rows' rates and its reported load, or a refusal.
+-- A table analysed: its outline, its rows' rates and its reported load, or a refusal.
 --
 --   outlineOf a        the outline that an analysis holds
 --   analysisOf o xs x  the analysis of a table with outline o, rates xs and reported load x
---   Accepted f a       a is the analysis of the table in file f, which is admitted
+--   Accepted t a       a is the analysis of the table t, which is admitted
 --   blank n p          the analysis of a refusal: 0 for all but number and place
---   Analysed f a       a is what is found of file f, or the verdict's refusal
+--   table-checks t     10 to 14, in their order
+--   Analysed cs t a    a answers the checks cs, and is what is found of table t where none of them applies
 --
--- Only one analysis fits a file (proofs/Analysing, `analysed-only`).
+-- Only one analysis fits a table and its checks (proofs/Analysing, `analysed-only`).
 use mathlib.Core.Path.{_≡_}
 use mathlib.Core.Logic.{_≢_}
-use mathlib.Core.List.{List}
+use mathlib.Core.List.{List, _++_}
 use Prim.Native.Nat.{ℕ}
 use lib.ListN.{take, replicate}
 use Rattle.rules.specs.Bounds.{max-rows}
-use Rattle.rules.specs.TableFile.{fileTable}
+use Rattle.rules.specs.Bus.{Table}
 use Rattle.rules.specs.Loads as loads
-use Rattle.rules.specs.Refusals.{Answers, verdict-checks}
-use Rattle.outline.specs.Outlined.{ByRow, Found}
+use Rattle.rules.specs.Refusals.{Check, Answers, line-checks, bound-checks}
+use Rattle.table.specs.Columns.{ByRow}
+use Rattle.outline.specs.Outlined.{Found}
 use Rattle.outline.specs.declared.Outline.{Outline}
 use Rattle.lags.specs.Lags.{Admissible}
 use Rattle.verdict.specs.declared.Analysis.{Analysis}
@@ -53,11 +55,11 @@ analysisOf o xs x = record {
   rate = xs;
 }
 
-pub record Accepted (f : List ℕ) (a : Analysis) : Type 0 where
-  pub outline : Found f (outlineOf a)
-  pub admissible : Admissible (fileTable f)
-  pub rate : ByRow (fileTable f .rows) (loads.rate (fileTable f)) (a .rate)
-  pub load : a .load ≡ loads.reported (fileTable f) (take (a .sets) (a .words))
+pub record Accepted (t : Table) (a : Analysis) : Type 0 where
+  pub outline : Found t (outlineOf a)
+  pub admissible : Admissible t
+  pub rate : ByRow (t .rows) (loads.rate t) (a .rate)
+  pub load : a .load ≡ loads.reported t (take (a .sets) (a .words))
 
 abbrev pub blank : ℕ → ℕ → Analysis
 blank number place = record {
@@ -76,7 +78,10 @@ blank number place = record {
   rate = replicate max-rows 0;
 }
 
-pub record Analysed (f : List ℕ) (a : Analysis) : Type 0 where
-  pub answers : Answers (verdict-checks f) (a .number) (a .place)
-  pub found : a .number ≡ 0 → Accepted f a
+abbrev pub table-checks : Table → List Check
+table-checks t = line-checks t ++ bound-checks t
+
+pub record Analysed (cs : List Check) (t : Table) (a : Analysis) : Type 0 where
+  pub answers : Answers cs (a .number) (a .place)
+  pub found : a .number ≡ 0 → Accepted t a
   pub refused : a .number ≢ 0 → a ≡ blank (a .number) (a .place)

@@ -1,7 +1,8 @@
 -- The loads of rows and sets as the code weighs them: whole numbers of 1 / h, from the rows' rates in an array.
 --
---   Counted f n          file f passed the file's checks, and n is its row count
---   costBelow t i        row i's cost × L is below its period
+--   Times n cost period  costs and periods of n rows, as a bus allows them
+--   lightBy e l cost period i
+--                        row i is light, where e says whether all periods are equal, and l is L
 --   SmallRates xs n      no rate of n rows is above 4096
 --   weight n xs w        the load of the set whose word is w, from the rates xs of n rows
 --   past e h l x         load x is over the bound: 1 where e says that all periods are equal, (l − 1) / l where they differ
@@ -18,17 +19,14 @@ use Rattle.numbers.specs.Finite as finite
 use Rattle.numbers.specs.Word.{bit}
 use Rattle.numbers.specs.Lists.{at}
 use Rattle.rules.specs.Bounds.{max-rows, max-slots}
-use Rattle.rules.specs.Bus.{Table}
-use Rattle.rules.specs.TableFile.{fileTable}
-use Rattle.rules.specs.Loads.{shortest}
-use Rattle.table.specs.Sound.{Passed}
 
-pub record Counted (f : List ℕ) (n : ℕ) : Type 0 where
-  pub passed : Passed f
-  pub rows : n ≡ fileTable f .rows
+pub record Times (n : ℕ) (cost period : ℕ → ℕ) : Type 0 where
+  pub few : n ≤ max-rows
+  pub period-low : (i : ℕ) → i < n → 1 ≤ period i
+  pub cost-high : (i : ℕ) → i < n → cost i ≤ max-slots
 
-abbrev pub costBelow : Table → ℕ → Bool
-costBelow t i = ltb (t .cost i * shortest t) (t .period i)
+unfoldable pub lightBy : Bool → ℕ → (cost period : ℕ → ℕ) → ℕ → Bool
+lightBy e l cost period i = not e && ltb (cost i * l) (period i)
 
 pub record SmallRates (xs : List ℕ) (n : ℕ) : Type 0 where
   pub few : n ≤ max-rows

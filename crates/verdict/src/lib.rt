@@ -4,90 +4,82 @@
 // rounded and no verdict uses it.
 use outline::Outline;
 use table::Answer;
+use table::Columns;
 use table::Table;
 ghost use mathlib.Core.Path.{_≡_};
 ghost use Prim.Native.Nat.{_+_, _-_, _*_, _/_, _<_, _≤_, max};
+ghost use lib.Dec.{ltb};
+ghost use Rattle.numbers.specs.Lists.{at};
 ghost use Rattle.numbers.specs.Finite.{lowest};
 ghost use Rattle.numbers.specs.Rounding.{up};
 ghost use Rattle.rules.specs.Bounds.{max-rows, max-slots};
 ghost use Rattle.rules.specs.TableFile.{fileTable};
-ghost use Rattle.rules.specs.Loads.{hyperperiod, shortest, equalPeriods, light};
-ghost use Rattle.rules.specs.Loads as loads;
+ghost use Rattle.rules.specs.Refusals.{verdict-checks};
 ghost use Rattle.rules.specs.Calls.{Judged};
-ghost use Rattle.outline.specs.Outlined.{ByRow};
-ghost use Rattle.verdict.specs.Weights.{Counted, costBelow, SmallRates, weight, past, nextLowest, Weighed};
-ghost use Rattle.verdict.specs.Analysed.{analysisOf, blank, Analysed};
+ghost use Rattle.table.specs.Sound.{Sound};
+ghost use Rattle.table.specs.Columns.{ByRow, tableOf};
+ghost use Rattle.verdict.specs.Weights.{Times, lightBy, SmallRates, weight, past, nextLowest, Weighed};
+ghost use Rattle.verdict.specs.Analysed.{table-checks, analysisOf, blank, Analysed};
 ghost use Rattle.verdict.specs.Verdict.{numberOf, placeOf, cutOf, intervalOf, hyperOf, loadOf, setsOf};
 
 // ---- rows
 
-// Row `i`'s load cost / period, in units of 1 / h.
-fn rate_at(file: &[u8], rows: usize, hyper: u64, i: usize) -> u64
-    requires { ⌜ Counted (now file) rows × (hyper ≡ hyperperiod (fileTable (now file))) × (hyper ≤ max-slots) × (i < rows) ⌝ }
-    ensures { λ r. ⌜ r ≡ loads.rate (fileTable (now (file .entry))) i ⌝ }
+// The load cost / period of a row, in units of 1 / h.
+fn rate_of(hyper: u64, period: u64, cost: u64) -> u64
+    requires { ⌜ (hyper ≤ max-slots) × (1 ≤ period) × (cost ≤ max-slots) ⌝ }
+    ensures { λ r. ⌜ r ≡ hyper / period * cost ⌝ }
 {
-    let row = table::row_at(file, i);
-    hyper / row.period as u64 * row.cost as u64
-}
-
-// The period of row `i`.
-fn period_at(file: &[u8], rows: usize, i: usize) -> u64
-    requires { ⌜ Counted (now file) rows × (i < rows) ⌝ }
-    ensures { λ r. ⌜ r ≡ fileTable (now (file .entry)) .period i ⌝ }
-{
-    let row = table::row_at(file, i);
-    row.period as u64
+    hyper / period * cost
 }
 
 // All rows' rates, 0 past the last row.
-fn rates(file: &[u8], rows: usize, hyper: u64) -> [u64; Table::ROWS]
-    requires { ⌜ Counted (now file) rows × (hyper ≡ hyperperiod (fileTable (now file))) × (hyper ≤ max-slots) ⌝ }
-    ensures { λ r. ⌜ ByRow (fileTable (now (file .entry)) .rows) (loads.rate (fileTable (now (file .entry)))) r ⌝ }
+fn rates<'a>(
+    rows: usize,
+    hyper: u64,
+    cost: &'a [u16; Table::ROWS],
+    period: &'a [u16; Table::ROWS],
+) -> [u64; Table::ROWS]
+    requires { ⌜ Times rows (at (now cost)) (at (now period)) × (hyper ≤ max-slots) ⌝ }
+    ensures { λ r. ⌜ ByRow rows (λ i. hyper / at (now (period .entry)) i * at (now (cost .entry)) i) r ⌝ }
 {
     let mut rate = [0u64; Table::ROWS];
     let mut i: usize = 0;
     while i < rows {
-        rate[i] = rate_at(file, rows, hyper, i);
+        rate[i] = rate_of(hyper, table::slots_at(period, i), table::slots_at(cost, i));
         i += 1;
     }
     rate
 }
 
-fn equal_periods(file: &[u8], rows: usize) -> bool
-    requires { ⌜ Counted (now file) rows ⌝ }
-    ensures { λ r. ⌜ r ≡ equalPeriods (fileTable (now (file .entry))) ⌝ }
+// A row's cost × L is below its period.
+fn is_light(cost: u64, interval: u64, period: u64) -> bool
+    requires { ⌜ (cost ≤ max-slots) × (interval ≤ max-slots) ⌝ }
+    ensures { λ r. ⌜ r ≡ ltb (cost * interval) period ⌝ }
 {
-    let period = period_at(file, rows, 0);
-    let mut i: usize = 0;
-    while i < rows {
-        if period_at(file, rows, i) != period {
-            return false;
-        }
-        i += 1;
-    }
-    true
-}
-
-// Row `i`'s cost × L is below its period.
-fn is_light(file: &[u8], rows: usize, interval: u64, i: usize) -> bool
-    requires { ⌜ Counted (now file) rows × (interval ≡ shortest (fileTable (now file))) × (i < rows) ⌝ }
-    ensures { λ r. ⌜ r ≡ costBelow (fileTable (now (file .entry))) i ⌝ }
-{
-    let row = table::row_at(file, i);
-    row.cost as u64 * interval < row.period as u64
+    cost * interval < period
 }
 
 // The lowest row with cost × L below its period, where periods differ; the row count where there is none.
-fn lowest_light(file: &[u8], rows: usize, interval: u64, equal: bool) -> usize
-    requires { ⌜ Counted (now file) rows × (interval ≡ shortest (fileTable (now file))) × (equal ≡ equalPeriods (fileTable (now file))) ⌝ }
-    ensures { λ r. ⌜ r ≡ lowest rows (light (fileTable (now (file .entry)))) ⌝ }
+fn lowest_light<'a>(
+    rows: usize,
+    cost: &'a [u16; Table::ROWS],
+    period: &'a [u16; Table::ROWS],
+    interval: u64,
+    equal: bool,
+) -> usize
+    requires { ⌜ Times rows (at (now cost)) (at (now period)) × (interval ≤ max-slots) ⌝ }
+    ensures { λ r. ⌜ r ≡ lowest rows (lightBy equal interval (at (now (cost .entry))) (at (now (period .entry)))) ⌝ }
 {
     if equal {
         return rows;
     }
     let mut i: usize = 0;
     while i < rows {
-        if is_light(file, rows, interval, i) {
+        if is_light(
+            table::slots_at(cost, i),
+            interval,
+            table::slots_at(period, i),
+        ) {
             return i;
         }
         i += 1;
@@ -239,20 +231,27 @@ fn accept(outline: Outline, rate: [u64; Table::ROWS], load: u64) -> Analysis
     }
 }
 
-// The analysis of a file's table: 1 to 12 are refused by its outline, then 13, then 14.
-pub fn analyse(file: &[u8]) -> Analysis
-    ensures { λ r. ⌜ Analysed (now (file .entry)) r ⌝ }
+// The analysis of a table: 10 to 12 are refused by its outline, then 13, then 14. All periods are equal exactly if L is h.
+pub fn analysis_of(columns: Columns) -> Analysis
+    requires { ⌜ Sound (tableOf columns) ⌝ }
+    ensures { λ r. ⌜ Analysed (table-checks (tableOf columns)) (tableOf columns) r ⌝ }
 {
-    let found = outline::outline_of(file);
+    let found = outline::outline_of(columns);
     if found.number != Answer::DONE {
         return refuse(found.number, found.place);
     }
-    let equal = equal_periods(file, found.rows);
-    let light = lowest_light(file, found.rows, found.interval, equal);
+    let equal = found.interval == found.hyper;
+    let light = lowest_light(
+        found.rows,
+        &columns.cost,
+        &columns.period,
+        found.interval,
+        equal,
+    );
     if light < found.rows {
         return refuse(Answer::LIGHT_ROW, light as u32);
     }
-    let rate = rates(file, found.rows, found.hyper);
+    let rate = rates(found.rows, found.hyper, &columns.cost, &columns.period);
     let words = found.words;
     let weights = weigh_sets(
         &words,
@@ -267,6 +266,17 @@ pub fn analyse(file: &[u8]) -> Analysis
         return refuse(Answer::OVER_BOUND, weights.over as u32);
     }
     accept(found, rate, thousandths(weights.largest, found.hyper))
+}
+
+// The analysis of a file's table, or the first refusal of 1 to 14.
+pub fn analyse(file: &[u8]) -> Analysis
+    ensures { λ r. ⌜ Analysed (verdict-checks (now (file .entry))) (fileTable (now (file .entry))) r ⌝ }
+{
+    let answer = table::check(file);
+    if answer.number != Answer::DONE {
+        return refuse(answer.number, answer.place);
+    }
+    analysis_of(table::columns_of(file))
 }
 
 // ---- the verdict

@@ -1,5 +1,4 @@
 -- `advance` does the interval: each of its calls is met by what the calls before it give.
-use mathlib.Core.Path.{refl}
 use borrow.Author.Needs.{needs}
 use mathlib.Core.List.{List}
 use Prim.Native.Nat.{ℕ}
@@ -21,7 +20,7 @@ use Rattle.interval.proofs.advance.Tie as tie
 
 -- the function's entry, from where the loads are chosen
 abbrev start : tie.After-choose → tie.Start
-start d = d .before .before .before .before .before .before .before .before .before
+start d = d .before .before .before .before .before .before .before .before
 
 -- the loads that are chosen
 abbrev chosen : tie.After-choose → List ℕ
@@ -29,24 +28,26 @@ chosen d = d .choose .last .1 .1 .1 .1 .1 .1 .1 .1 .1 .1 .1 .1 .1 .1 .1 .1 .1 .0
 
 choose-requires : tie.Need-choose-requires
 choose-requires c κs =
-    let p = c .before .before .before .before .before .before .before .before .pre in
-    (spans-laid (p .0), network-laid (p .0), lags-fit (p .0) (p .1) (p .2) (p .3) (p .4), p .6)
+    let p = c .before .before .before .before .before .before .before .pre in
+    let R = p .0 .2 in
+    (spans-laid R, network-laid R, lags-fit R (p .0 .3), p .2)
 
 sub-fill : tie.Need-sub-fill
 sub-fill c =
     let p = start (c .before) .pre in
-    ends-after (p .0) (p .1) (p .2) (p .3)
+    ends-after (p .0 .2) (p .0 .3)
 
 fill-requires : tie.Need-fill-requires
 fill-requires c κs =
     let p = start (c .before .before .before) .pre in
-    (few-rows (p .0), low-top (p .0), p .7, p .8, ready-ends (p .0), chains-laid (p .0))
+    let R = p .0 .2 in
+    (few-rows R, low-top R, p .3, p .4, ready-ends R, chains-laid R)
 
 add-loads-requires : tie.Need-add-loads-requires
 add-loads-requires c κs =
     let d = c .before .before .before .before .before .before .before .before .before .before in
     let p = start d .pre in
-    (few-rows (p .0), totals-fit (p .0) (p .1) (p .2) (p .3) (p .4) {x = at (chosen d)} (d .choose .ensures .1), p .5)
+    (few-rows (p .0 .2), totals-fit (p .0 .2) (p .0 .3) {x = at (chosen d)} (d .choose .ensures .1), p .1)
 
 same-length : tie.Need-same-length
 same-length c = search needs
@@ -58,9 +59,8 @@ returns : tie.Need-returns
 returns c =
     let f = c .before .before .before .before .before .before .before in
     let d = f .before .before .before .before in
-    let p = start d .pre in
     let a = c .add-loads .ensures in (
-      advanced-of (p .0) (p .1) (p .2) (p .3) (p .4) {x = at (chosen d)} (d .choose .ensures .1) refl (a .0) (f .fill .ensures .0) (a .1),
+      λ t k R D. advanced-of R D {x = at (chosen d)} (d .choose .ensures .1) (a .0) (f .fill .ensures .0) (a .1),
       d .choose .ensures .0,
       f .fill .ensures .1,
     )

@@ -3,7 +3,7 @@ use mathlib.Core.Path.{_≡_}
 use Prim.Native.Nat.{_-_, _≤_}
 use native.Mathlib.Omega.{arith}
 use Rattle.interval.specs.Ranges.{Ranged}
-use Rattle.outline.proofs.ByRow.{by-row-start, by-row-put}
+use Rattle.table.proofs.ByRow.{by-row-start, by-row-put}
 use Rattle.interval.proofs.ranges_of.Statement.{statement}
 use Rattle.interval.proofs.ranges_of.Tie as tie
 

@@ -2,28 +2,29 @@
 use native.Mathlib.Omega.{arith}
 use borrow.Author.Needs.{needs}
 use mathlib.Core.Path.{sym}
+use Rattle.rules.specs.TableFile.{fileTable}
 use Rattle.outline.specs.Outlined.{Found}
 use Rattle.outline.proofs.Outlined.{found-few, found-count}
 use Rattle.outline.proofs.Listed.{listed-refused, listed-short, listed-done}
 use Rattle.outline.proofs.list_of_sets.Statement.{statement}
 use Rattle.outline.proofs.list_of_sets.Tie as tie
 
-found : (c : tie.Else1) → Found (c .before .before .before .before .before .args .file .now) (c .before .before .outline-of .result)
-found c = c .before .before .outline-of .ensures .found (c .if1 .left)
+found : (c : tie.Else1) → Found (fileTable (c .before .before .before .before .before .args .file .now)) (c .before .before .outline-file .result)
+found c = c .before .before .outline-file .ensures .found (c .if1 .left)
 
-outline-of-requires : tie.Need-outline-of-requires
-outline-of-requires c κs = search needs
+outline-file-requires : tie.Need-outline-file-requires
+outline-file-requires c κs = search needs
 
 returns : tie.Need-returns
 returns c =
     let z = c .before .before .before .before .before .args in
-    let o = c .before .before .outline-of in
+    let o = c .before .before .outline-file in
     listed-refused (z .file .now) (z .out .now) (o .result) (o .ensures) (c .if1 .taken)
 
 returns-2 : tie.Need-returns-2
 returns-2 c =
     let z = c .before .before .before .before .before .before .args in
-    let o = c .before .before .before .outline-of in
+    let o = c .before .before .before .outline-file in
     listed-short (z .file .now) (z .out .now) (o .result) (o .ensures) (c .before .if1 .left) (c .if2 .taken)
 
 array-share-prefix-words : tie.Need-array-share-prefix-words
@@ -44,7 +45,7 @@ same-length c = search needs
 returns-3 : tie.Need-returns-3
 returns-3 c =
     let z = c .before .before .before .before .before .before .before .before .before .before .before .before .args in
-    let o = c .before .before .before .before .before .before .before .before .before .outline-of in
+    let o = c .before .before .before .before .before .before .before .before .before .outline-file in
     let e = c .before .before .before .before .before .before in
     let w = c .before .before .write-front in
     listed-done (z .file .now) (z .out .now) (o .result) (o .ensures) (e .before .if1 .left) (w .last .1 .0) (e .if2 .left) (w .ensures)
@@ -53,7 +54,7 @@ pub list-of-sets-spec : {M : Type 1} → statement M
 list-of-sets-spec =
     tie.close
     (tie.spec
-    outline-of-requires
+    outline-file-requires
     returns
     returns-2
     array-share-prefix-words

@@ -1,95 +1,133 @@
 -- outline_of: each refusal stands as its check gives it, and what is left is found.
-use mathlib.Core.List.{List}
-use Prim.Native.Nat.{ℕ}
+use mathlib.Core.Path.{_≡_, refl, _∙_}
+use Prim.Native.Nat.{_≤_}
 use native.Mathlib.Omega.{arith}
 use borrow.Author.Needs.{needs}
-use Rattle.rules.specs.TableFile.{fileTable}
-use Rattle.rules.specs.Refusals.{Answers, file-checks}
-use Rattle.table.specs.Sound.{Passed}
-use Rattle.table.proofs.Faults.{passed-of}
-use Rattle.outline.proofs.Periods.{hyperperiod-positive, capped-some, capped-none}
-use Rattle.outline.proofs.Outlined.{cut-refused, long-refused, outlined-file, outlined-line, outlined-found}
+use lib.ListN.{take}
+use Rattle.numbers.specs.Lists.{at}
+use Rattle.rules.specs.Bus.{Table}
+use Rattle.rules.specs.Line.{cut}
+use Rattle.table.specs.Columns.{tableOf}
+use Rattle.ring.proofs.Rows.{sound-routes, ring-cut, laid-first, laid-second}
+use Rattle.ring.proofs.Cut.{cut-low}
+use Rattle.outline.proofs.Periods.{periods-of, falling-shortest, hyperperiod-positive, capped-hyper, capped-some, capped-none}
+use Rattle.outline.proofs.Sets.{Ends, ends-on-line, ring-list}
+use Rattle.outline.proofs.Outlined.{cut-refused, long-refused, outlined-refused, outlined-found}
 use Rattle.outline.proofs.outline_of.Statement.{statement}
 use Rattle.outline.proofs.outline_of.Tie as tie
 
--- past the file's checks: its bytes, what the checks say, and that it holds a sound table
-abbrev bytes : tie.Else1 → List ℕ
-bytes c = c .before .before .before .before .args .file .now
+-- the table, and its cut
+abbrev table : tie.Start → Table
+table z = tableOf (z .args .t1)
 
-abbrev place : tie.Else1 → ℕ
-place c = c .before .before .check .result .place
+is-cut : (d : tie.After-find-cut) → d .find-cut .result ≡ cut (table (d .before .before .before .before))
+is-cut d = d .find-cut .ensures ∙ ring-cut (table (d .before .before .before .before))
 
-checked : (c : tie.Else1) → Answers (file-checks (bytes c)) 0 (place c)
-checked c = rw (c .if1 .left) at (c .before .before .check .ensures)
-
-pass : (c : tie.Else1) → Passed (bytes c)
-pass c = passed-of (bytes c) (place c) (checked c)
-
-check-requires : tie.Need-check-requires
-check-requires c κs = search needs
+find-cut-requires : tie.Need-find-cut-requires
+find-cut-requires c κs = sound-routes (c .before .before .before .pre)
 
 refuse-requires : tie.Need-refuse-requires
 refuse-requires c κs = search needs
 
 returns : tie.Need-returns
 returns c =
-    let a = c .before .before .before .check in
-    let z = c .before .before .before .before .before .args in
-    rw (c .refuse .ensures) (outlined-file (z .file .now) (a .result .number) (a .result .place) (c .before .if1 .taken) (a .ensures))
+    let d = c .before .before in
+    let t = table (d .before .before .before .before) in
+    rw (c .refuse .ensures) (outlined-refused _ _ (λ q. omega arith) (cut-refused t (omega (arith, is-cut d))))
 
-of-requires : tie.Need-of-requires
-of-requires c κs = omega (arith, pass c .size)
-
-find-cut-requires : tie.Need-find-cut-requires
-find-cut-requires c κs = pass (c .before)
+hyperperiod-of-requires : tie.Need-hyperperiod-of-requires
+hyperperiod-of-requires c κs = periods-of (c .before .before .before .before .before .before .before .pre)
 
 refuse-requires-2 : tie.Need-refuse-requires-2
 refuse-requires-2 c κs = search needs
 
 returns-2 : tie.Need-returns-2
 returns-2 c =
-    let e = c .before .before .before .before .before in
-    let r = cut-refused (fileTable (bytes e)) (omega arith) in
-    rw (c .refuse2 .ensures) (outlined-line (bytes e) (place e) (checked e) _ _ (λ q. omega arith) r)
+    let d = c .before .before .before .before .before .before in
+    let z = d .before .before .before .before in
+    let t = table z in
+    let h = capped-none (capped-hyper t (c .before .before .hyperperiod-of .ensures)) (c .before .if2 .taken) (hyperperiod-positive (z .pre)) in
+    rw (c .refuse2 .ensures) (outlined-refused _ _ (λ q. omega arith) (long-refused t (omega (arith, is-cut d)) h))
 
-hyperperiod-of-requires : tie.Need-hyperperiod-of-requires
-hyperperiod-of-requires c κs = pass (c .before .before .before .before)
+-- ---- past both tests all is found
 
-refuse-requires-3 : tie.Need-refuse-requires-3
-refuse-requires-3 c κs = search needs
+-- the way back to the cut from where h is in range, and to there from the line
+abbrev at-cut : tie.Else2 → tie.After-find-cut
+at-cut e = e .before .before .before .before .before
+
+abbrev entry : tie.Else2 → tie.Start
+entry e = at-cut e .before .before .before .before
+
+abbrev in-time : tie.After-lay → tie.Else2
+in-time d = d .before .before .before .before
+
+clear : (e : tie.Else2) → cut (table (entry e)) ≤ table (entry e) .elements
+clear e = omega (arith, is-cut (at-cut e), e .before .before .before .before .if1 .left)
+
+lay-requires : tie.Need-lay-requires
+lay-requires c κs =
+    let e = c .before .before .before in
+    (sound-routes (entry e .pre), omega (arith, is-cut (at-cut e), clear e, cut-low (table (entry e))))
+
+add-list-sets : tie.Need-add-list-sets
+add-list-sets c = let s = entry (in-time (c .before .before .before .before)) .pre in omega arith
+
+-- the ends that are laid are the table's
+ends : (d : tie.After-lay) → Ends (table (entry (in-time d))) (at (d .lay .result .first)) (at (d .lay .result .second))
+ends d i l =
+    let e = in-time d in
+    let q = is-cut (at-cut e) in
+    (laid-first (table (entry e)) q (d .lay .ensures) .row i l, laid-second (table (entry e)) q (d .lay .ensures) .row i l)
+
+list-sets-requires : tie.Need-list-sets-requires
+list-sets-requires c κs =
+    let d = c .before .before .before .before in
+    let e = in-time d in
+    ends-on-line (table (entry e)) (entry e .pre) (clear e) _ _ (ends d)
+
+shortest-of-requires : tie.Need-shortest-of-requires
+shortest-of-requires c κs = periods-of (entry (in-time (c .before .before .before .before .before .before .before .before)) .pre)
 
 returns-3 : tie.Need-returns-3
 returns-3 c =
-    let e = c .before .before .before .before .before .before .before in
-    let h = capped-none (c .before .before .hyperperiod-of .ensures) (c .before .if3 .taken) (hyperperiod-positive (pass e .sound)) in
-    let r = long-refused (fileTable (bytes e)) (omega arith) h in
-    rw (c .refuse3 .ensures) (outlined-line (bytes e) (place e) (checked e) _ _ (λ q. omega arith) r)
-
-found-requires : tie.Need-found-requires
-found-requires c κs =
-    let e = c .before .before .before .before .before .before in
-    let h = capped-some (c .before .hyperperiod-of .ensures) (c .if3 .left) in
-    (record { passed = pass e; is-cut = c .before .before .before .before .find-cut .ensures; some = omega arith }, h .0, h .1)
-
-returns-4 : tie.Need-returns-4
-returns-4 c =
-    let e = c .before .before .before .before .before .before .before in
-    let r = c .found .ensures in
-    outlined-found (bytes e) (place e) (checked e) (c .found .result) (r .0) (r .1) (r .2)
+    let d = c .before .before .before .before .before .before .before .before .before in
+    let e = in-time d in
+    let z = entry e in
+    let t = table z in
+    let q = is-cut (at-cut e) in
+    let h = capped-some (capped-hyper t (e .before .hyperperiod-of .ensures)) (e .if2 .left) in
+    let s = c .before .before .before .before .list-sets .result in
+    let S = c .before .before .before .before .list-sets .ensures in
+    outlined-found t _ refl refl
+    (record {
+      sound = z .pre;
+      clear = clear e;
+      short = omega (arith, h);
+      elements = refl;
+      rows = refl;
+      cut = q;
+      hyper = h .0;
+      interval = falling-shortest t (c .shortest-of .ensures);
+      first = laid-first t q (d .lay .ensures);
+      second = laid-second t q (d .lay .ensures);
+      few = S .few;
+      list = ring-list t (z .pre) (clear e) _ _ (ends d) (take (s .count) (s .words)) (S .sets);
+      size = S .size;
+      rest = S .rest;
+    })
 
 pub outline-of-spec : {M : Type 1} → statement M
 outline-of-spec =
     tie.close
     (tie.spec
-    check-requires
+    find-cut-requires
     refuse-requires
     returns
-    of-requires
-    find-cut-requires
+    hyperperiod-of-requires
     refuse-requires-2
     returns-2
-    hyperperiod-of-requires
-    refuse-requires-3
-    returns-3
-    found-requires
-    returns-4)
+    lay-requires
+    add-list-sets
+    list-sets-requires
+    shortest-of-requires
+    returns-3)

@@ -2,28 +2,25 @@
 use Prim.Native.Nat.{_-_}
 use native.Mathlib.Omega.{arith}
 use borrow.Author.Needs.{needs}
-use Rattle.rules.specs.TableFile.{fileTable}
+use Rattle.numbers.specs.Lists.{at}
 use Rattle.outline.proofs.Periods.{Falling, falling-start, falling-next, falling-end}
 use Rattle.outline.proofs.shortest_of.Statement.{statement}
 use Rattle.outline.proofs.shortest_of.Tie as tie
 
 abbrev Inv-loop : tie.InvT-loop
-Inv-loop file table l₀ i₀ l i = Falling (fileTable file) i l
+Inv-loop rows period l₀ i₀ l i = Falling rows (at period) i l
 
 abbrev μ-loop : tie.MeasureT-loop
-μ-loop file table l₀ i₀ l i = table .rows - i
+μ-loop rows period l₀ i₀ l i = rows - i
 
-of-requires : tie.Need-of-requires Inv-loop μ-loop
-of-requires c κs = omega arith
-
-period-at-requires : tie.Need-period-at-requires Inv-loop μ-loop
-period-at-requires c κs = search needs
+slots-at-requires : tie.Need-slots-at-requires Inv-loop μ-loop
+slots-at-requires c κs = omega arith
 
 loop-holds : tie.Need-loop-holds Inv-loop μ-loop
-loop-holds c = rw (c .period-at .ensures .0) (falling-start (c .before .before .before .pre .sound))
+loop-holds c = rw (c .slots-at .ensures) (falling-start (c .before .pre))
 
-period-at-requires-2 : tie.Need-period-at-requires-2 Inv-loop μ-loop
-period-at-requires-2 c κs = search needs
+slots-at-requires-2 : tie.Need-slots-at-requires-2 Inv-loop μ-loop
+slots-at-requires-2 c κs = omega arith
 
 gcd-of-requires : tie.Need-gcd-of-requires Inv-loop μ-loop
 gcd-of-requires c κs = search needs
@@ -36,12 +33,11 @@ loop-less c = omega arith
 
 loop-again : tie.Need-loop-again Inv-loop μ-loop
 loop-again c =
-    let z = c .before .before .before .before .before .before .before .before in
-    falling-next (z .pre .sound) (c .before .before .before .before .loop .inv) (omega arith)
-    (rw (c .before .period-at2 .ensures .0) at (c .gcd-of .ensures))
+    let u = c .before .before .before in
+    falling-next (u .before .before .pre) (u .loop .inv) (omega arith) (rw (c .before .slots-at2 .ensures) at (c .gcd-of .ensures))
 
 returns : tie.Need-returns Inv-loop μ-loop
-returns c = falling-end (c .before .before .loop .inv) (omega arith)
+returns c = falling-end (c .before .loop .inv) (omega arith)
 
 pub shortest-of-spec : {M : Type 1} → statement M
 shortest-of-spec =
@@ -49,10 +45,9 @@ shortest-of-spec =
     (tie.spec
     Inv-loop
     μ-loop
-    of-requires
-    period-at-requires
+    slots-at-requires
     loop-holds
-    period-at-requires-2
+    slots-at-requires-2
     gcd-of-requires
     add-i
     loop-less

@@ -4,8 +4,9 @@ use Prim.Native.Nat.{_+_, _-_, _≤_, _<_}
 use native.Mathlib.Omega.{arith}
 use lib.ListN.{length, length-take, length-drop}
 use Rattle.rules.specs.Bounds.{max-slots}
-use Rattle.rules.specs.TableFile.{fileTable}
-use Rattle.rules.specs.Loads.{end, intervals}
+use Rattle.rules.specs.Bus.{Table}
+use Rattle.interval.specs.Ready.{Due}
+use Rattle.planner.specs.Timed.{Plannable}
 use Rattle.loads.specs.Laid.{Lent}
 use Rattle.planner.proofs.Timed.{few-rows, few-sets, start-is, end-is, start-small, end-small}
 use Rattle.planner.proofs.Laying.{few-elements, ranges-span, ready-of}
@@ -14,12 +15,15 @@ use Rattle.planner.proofs.plan_intervals.Statement.{statement}
 use Rattle.planner.proofs.plan_intervals.Tie as tie
 
 abbrev Inv-loop : tie.InvT-loop
-Inv-loop file rows sets elements hyper interval first second rate words from to plan₀ lowest highest net head next x₀ low₀ high₀ load₀ last₀ after₀
+Inv-loop rows sets elements hyper interval first second rate words from to plan₀ lowest highest net head next x₀ low₀ high₀ load₀ last₀ after₀
     slot₀ at₀ k₀ plan x low high load last after slot at k =
-    (k ≤ to) × (length last ≡ max-slots) × Planning (fileTable file) from after₀ plan₀ k slot at after plan × Lent x low high load
+    (k ≤ to) × (length last ≡ max-slots)
+    × ((t : Table) → Plannable t rows sets elements hyper interval first second rate words from to after₀ (length plan₀)
+    → Planning t from after₀ plan₀ k slot at after plan)
+    × Lent x low high load
 
 abbrev μ-loop : tie.MeasureT-loop
-μ-loop file rows sets elements hyper interval first second rate words from to plan₀ lowest highest net head next x₀ low₀ high₀ load₀ last₀ after₀
+μ-loop rows sets elements hyper interval first second rate words from to plan₀ lowest highest net head next x₀ low₀ high₀ load₀ last₀ after₀
     slot₀ at₀ k₀ plan x low high load last after slot at k =
     to - k
 
@@ -27,16 +31,16 @@ abbrev μ-loop : tie.MeasureT-loop
 
 -- the function's entry, from where the sets of each row are known
 abbrev entry : tie.After-ranges-of Inv-loop μ-loop → tie.Start Inv-loop μ-loop
-entry c = c .before .before .before
+entry c = c .before .before
 
 ranges-of-requires : tie.Need-ranges-of-requires Inv-loop μ-loop
-ranges-of-requires c κs = let H = c .before .before .pre .timed in (few-rows H, few-sets H)
+ranges-of-requires c κs = let H = c .before .pre .1 .timed in (few-rows H, few-sets H)
 
 lay-requires : tie.Need-lay-requires Inv-loop μ-loop
-lay-requires c κs = let R = c .before .before .before .before in ranges-span (entry R .pre) (R .ranges-of .ensures)
+lay-requires c κs = let R = c .before .before .before .before in ranges-span (entry R .pre .1) (R .ranges-of .ensures)
 
 chain-requires : tie.Need-chain-requires Inv-loop μ-loop
-chain-requires c κs = few-rows (entry (c .before .before .before .before .before) .pre .timed)
+chain-requires c κs = few-rows (entry (c .before .before .before .before .before) .pre .1 .timed)
 
 -- ---- where the loop begins
 
@@ -46,18 +50,20 @@ ranged c = c .before .before .before .before .before .before .before .before
 mul-slot : tie.Need-mul-slot Inv-loop μ-loop
 mul-slot c =
     let S = entry (ranged c) in
-    let H = S .pre .timed in
-    let low = start-small H (S .args .from) (omega (arith, S .pre .order, S .pre .in-range)) in
+    let P = S .pre .1 in
+    let H = P .timed in
+    let low = start-small H (S .args .from) (omega (arith, P .order, P .in-range)) in
     record { fits = omega (arith, start-is H (S .args .from), low) }
 
 loop-holds : tie.Need-loop-holds Inv-loop μ-loop
 loop-holds c =
-    let S = entry (ranged c) in
-    let H = S .pre .timed in
-    let e = start-is H (S .args .from) in (
-      S .pre .order,
+    let S = entry (ranged c) in (
+      S .pre .1 .order,
       refl,
-      planning-start (H .admissible) (S .args .from) (S .args .totals) (S .args .plan .now) _ e (S .pre .totals) (rw e (S .pre .steady)),
+      λ t P.
+          let H = P .timed in
+          let e = start-is H (S .args .from) in
+          planning-start (H .admissible) (S .args .from) (S .args .totals) (S .args .plan .now) _ e (P .totals) (rw e (P .steady)),
       record { x-size = refl; low-size = refl; high-size = refl; loads-size = refl },
     )
 
@@ -66,15 +72,26 @@ loop-holds c =
 abbrev begun : tie.In-loop Inv-loop μ-loop → tie.Start Inv-loop μ-loop
 begun c = entry (ranged (c .before .before))
 
-module _ (c : tie.In-loop Inv-loop μ-loop) where
-  ends : c .before .loop .slot + begun c .args .interval ≡ end (fileTable (begun c .args .file .now)) (c .before .loop .k)
-  ends = end-is (begun c .pre .timed) (c .before .loop .k) (c .before .loop .slot) (c .before .loop .inv .2 .slot)
+-- t is a table that is given to be planned
+abbrev Given : tie.Start Inv-loop μ-loop → Table → Type 0
+Given S t =
+    Plannable t (S .args .rows) (S .args .sets) (S .args .elements) (S .args .hyper) (S .args .interval) (S .args .first .now)
+    (S .args .second .now) (S .args .rate .now) (S .args .words .now) (S .args .from) (S .args .to) (S .args .totals)
+    (length (S .args .plan .now))
 
-  in-range : c .before .loop .k < intervals (fileTable (begun c .args .file .now))
-  in-range = omega (arith, c .loop-test .taken, begun c .pre .in-range)
+module _ (c : tie.In-loop Inv-loop μ-loop) {t : Table} (P : Given (begun c) t) where
+  due : Due t (c .before .loop .k) (c .before .loop .slot) (c .before .loop .slot + begun c .args .interval) (c .before .loop .after)
+  due =
+      let L = c .before .loop .inv .2 t P in
+      record {
+        in-range = omega (arith, c .loop-test .taken, P .in-range);
+        begins = L .slot;
+        ends = end-is (P .timed) (c .before .loop .k) (c .before .loop .slot) (L .slot);
+        steady = L .steady;
+      }
 
   ends-low : c .before .loop .slot + begun c .args .interval ≤ max-slots
-  ends-low = omega (arith, ends, end-small (begun c .pre .timed) (c .before .loop .k) in-range)
+  ends-low = omega (arith, due .ends, end-small (P .timed) (c .before .loop .k) (due .in-range))
 
   roomy : (c .before .loop .slot ≤ c .before .loop .slot + begun c .args .interval)
       × (c .before .loop .at + (c .before .loop .slot + begun c .args .interval - c .before .loop .slot)
@@ -82,17 +99,21 @@ module _ (c : tie.In-loop Inv-loop μ-loop) where
       × (length (c .before .loop .plan) ≡ length (begun c .args .plan .now))
   roomy =
       let S = begun c in
-      planning-room (S .pre .timed .admissible) (S .args .from) (S .args .totals) (S .args .plan .now) (S .args .to) (S .pre .in-range)
-      (S .pre .roomy) (c .before .loop .inv .2) (c .loop-test .taken) _ ends
+      planning-room (P .timed .admissible) (S .args .from) (S .args .totals) (S .args .plan .now) (S .args .to) (P .in-range)
+      (P .roomy) (c .before .loop .inv .2 t P) (c .loop-test .taken) _ (due .ends)
 
   place-low : c .before .loop .at ≤ max-slots
-  place-low = omega (arith, c .before .loop .inv .2 .place, ends-low)
+  place-low = omega (arith, c .before .loop .inv .2 t P .place, ends-low)
+
+-- the one that the call was made with
+abbrev given : (c : tie.In-loop Inv-loop μ-loop) → Given (begun c) (begun c .pre .0)
+given c = begun c .pre .1
 
 add-end : tie.Need-add-end Inv-loop μ-loop
-add-end c = record { fits = omega (arith, ends-low c) }
+add-end c = record { fits = omega (arith, ends-low c (given c)) }
 
 add-advance : tie.Need-add-advance Inv-loop μ-loop
-add-advance c = record { fits = omega (arith, few-elements (begun c .pre)) }
+add-advance c = record { fits = omega (arith, few-elements (given c)) }
 
 -- the turn, from where all that the intervals share is lent
 abbrev sharing : tie.After-next2 Inv-loop μ-loop → tie.In-loop Inv-loop μ-loop
@@ -106,31 +127,33 @@ slice-aggregate-advance : tie.Need-slice-aggregate-advance Inv-loop μ-loop
 slice-aggregate-advance c = sym (lending c .before .loop .inv .1)
 
 mul-advance : tie.Need-mul-advance Inv-loop μ-loop
-mul-advance c = omega (arith, place-low (lending c))
+mul-advance c = omega (arith, place-low (lending c) (given (lending c)))
 
 sub-advance : tie.Need-sub-advance Inv-loop μ-loop
-sub-advance c = omega (arith, roomy (lending c))
+sub-advance c = omega (arith, roomy (lending c) (given (lending c)))
 
 part-advance-start : tie.Need-part-advance-start Inv-loop μ-loop
-part-advance-start c = omega (arith, roomy (lending c))
+part-advance-start c = omega (arith, roomy (lending c) (given (lending c)))
 
 part-advance-end : tie.Need-part-advance-end Inv-loop μ-loop
-part-advance-end c = omega (arith, roomy (lending c))
+part-advance-end c = omega (arith, roomy (lending c) (given (lending c)))
 
 advance-requires : tie.Need-advance-requires Inv-loop μ-loop
 advance-requires c κs =
     let I = lending (c .before) in
     let L = I .before .loop in
-    let P = I .before .before in (
-      ready-of (begun I .pre) (ranged P .ranges-of .ensures) (P .before .before .before .lay .ensures) (P .before .before .chain .ensures),
-      in-range I,
-      L .inv .2 .slot,
-      ends I,
-      L .inv .2 .steady,
-      L .inv .2 .size,
+    let N = I .before .before in
+    let P = given I in (
+      (
+        begun I .pre .0,
+        L .k,
+        ready-of P (ranged N .ranges-of .ensures) (N .before .before .before .lay .ensures) (N .before .before .chain .ensures),
+        due I P,
+      ),
+      L .inv .2 _ P .size,
       L .inv .3,
-      omega (arith, L .inv .1, ends-low I),
-      simp (length-take, length-drop) (omega (arith, roomy I)),
+      omega (arith, L .inv .1, ends-low I P),
+      simp (length-take, length-drop) (omega (arith, roomy I P)),
     )
 
 -- the turn, from where the interval is done
@@ -141,7 +164,7 @@ sub-at : tie.Need-sub-at Inv-loop μ-loop
 sub-at c = omega arith
 
 add-at : tie.Need-add-at Inv-loop μ-loop
-add-at c = omega (arith, place-low (turn c), ends-low (turn c))
+add-at c = omega (arith, place-low (turn c) (given (turn c)), ends-low (turn c) (given (turn c)))
 
 add-k : tie.Need-add-k Inv-loop μ-loop
 add-k c = omega (arith, turn c .loop-test .taken, begun (turn c) .fits .to)
@@ -154,26 +177,31 @@ loop-again c =
     let I = turn c in
     let L = I .before .loop in
     let S = begun I in
+    let N = I .before .before in
     let D = c .before .before .before .advance in
-    let last = D .last .1 .1 .1 .1 .1 .1 .1 .1 .1 .1 .1 .1 .1 .1 .1 .1 .1 .1 .1 .1 .1 in (
+    let last = D .last .1 .1 .1 .1 .1 .1 .1 .1 .1 .1 .1 .1 .1 .1 .1 .1 .1 .1 .1 in (
       omega (arith, I .loop-test .taken),
       omega (arith, D .ensures .2, L .inv .1),
-      planning-next (S .pre .timed .admissible) (S .args .from) (S .args .totals) (S .args .plan .now) (S .args .to) (S .pre .in-range)
-          (S .pre .roomy) (L .inv .2) (I .loop-test .taken) _ (ends I) (last .0) (last .1 .1 .1 .1 .1 .1 .0) (D .ensures .0),
+      λ t P.
+          planning-next (P .timed .admissible) (S .args .from) (S .args .totals) (S .args .plan .now) (S .args .to) (P .in-range)
+          (P .roomy) (L .inv .2 t P) (I .loop-test .taken) _ (due I P .ends) (last .0) (last .1 .1 .1 .1 .1 .1 .0)
+          (D .ensures .0 t (L .k)
+          (ready-of P (ranged N .ranges-of .ensures) (N .before .before .before .lay .ensures) (N .before .before .chain .ensures))
+          (due I P)),
       D .ensures .1,
     )
 
 -- ---- the end
 
 same-length : tie.Need-same-length Inv-loop μ-loop
-same-length c = c .before .loop .inv .2 .filled .same
+same-length c = let S = entry (ranged (c .before .before)) in c .before .loop .inv .2 (S .pre .0) (S .pre .1) .filled .same
 
 returns : tie.Need-returns Inv-loop μ-loop
-returns c =
+returns c t P =
     let L = c .before .loop in
     let S = entry (ranged (c .before .before)) in
     let e : L .k ≡ S .args .to = omega (arith, c .loop-test .left, L .inv .0) in
-    rw (← e) (planning-end (S .pre .timed .admissible) (S .args .from) (S .args .totals) (S .args .plan .now) (L .inv .2))
+    rw (← e) (planning-end (P .timed .admissible) (S .args .from) (S .args .totals) (S .args .plan .now) (L .inv .2 t P))
 
 pub plan-intervals-spec : {M : Type 1} → statement M
 plan-intervals-spec =

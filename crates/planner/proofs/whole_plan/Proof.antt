@@ -3,6 +3,7 @@ use mathlib.Core.Path.{ap}
 use native.Mathlib.Omega.{arith}
 use borrow.Author.Needs.{needs}
 use lib.ListN.{length}
+use Rattle.rules.specs.TableFile.{fileTable}
 use Rattle.rules.specs.Refusals.{verdict-checks}
 use Rattle.rules.proofs.Answers.{None}
 use Rattle.verdict.specs.Analysed.{Accepted}
@@ -32,9 +33,9 @@ abbrev entry : tie.Else1 → tie.Start
 entry c = c .before .before .before .before
 
 admitted : (c : tie.Else1) → None (verdict-checks (entry c .args .file .now))
-admitted c = analysed-none (c .before .analyse .ensures) (c .if1 .left)
+admitted c = analysed-none _ (c .before .analyse .ensures) (c .if1 .left)
 
-accepted : (c : tie.Else1) → Accepted (entry c .args .file .now) (c .before .analyse .result)
+accepted : (c : tie.Else1) → Accepted (fileTable (entry c .args .file .now)) (c .before .analyse .result)
 accepted c = c .before .analyse .ensures .found (c .if1 .left)
 
 returns-2 : tie.Need-returns-2
@@ -54,7 +55,8 @@ div-plan-intervals c = omega (arith, interval-positive (timed-of (accepted (c .b
 plan-intervals-requires : tie.Need-plan-intervals-requires
 plan-intervals-requires c κs =
     let N = c .before .before .before .before .before .before .before .before in
-    rw (c .before .before .before .before .before .before .before .fresh .ensures) (whole-plannable (accepted (N .before)) _ (N .if2 .left))
+    let F = c .before .before .before .before .before .before .before in
+    (fileTable (entry (N .before) .args .file .now), rw (F .fresh .ensures) (whole-plannable (accepted (N .before)) _ (N .if2 .left)))
 
 same-length : tie.Need-same-length
 same-length c = search needs
@@ -66,8 +68,9 @@ returns-3 c =
     let S = entry E in
     let A = accepted E in
     let P = c .before .before .plan-intervals in
+    let F = c .before .before .before .before .before .before .before .before .before .before in
     plan-answer (S .args .file .now) (S .args .plan .now) (A .admissible) _ _ (P .result) _ (intervals-are (timed-of A))
-    (ap (λ (p : Planner). p .totals) (c .before .before .before .before .before .before .before .before .before .before .fresh .ensures)) (P .ensures)
+    (ap (λ (p : Planner). p .totals) (F .fresh .ensures)) (P .ensures (fileTable (S .args .file .now)) (rw (F .fresh .ensures) (whole-plannable A _ (N .if2 .left))))
     (plan-done (S .args .file .now) (admitted E) (length (S .args .plan .now)) (omega (arith, A .outline .hyper, N .if2 .left)))
 
 pub whole-plan-spec : {M : Type 1} → statement M

@@ -3,19 +3,17 @@ use mathlib.Core.Path.{sym, _∙_}
 use Prim.Native.Nat.{_+_, _-_}
 use native.Mathlib.Omega.{arith}
 use borrow.Author.Needs.{needs}
-use Rattle.rules.specs.TableFile.{fileTable}
+use Rattle.numbers.specs.Lists.{at}
+use Rattle.ring.specs.Laid.{onRing}
 use Rattle.ring.proofs.Cut.{Searched, searched-start, searched-next, searched-found, searched-all}
 use Rattle.ring.proofs.find_cut.Statement.{statement}
 use Rattle.ring.proofs.find_cut.Tie as tie
 
 abbrev Inv-loop : tie.InvT-loop
-Inv-loop file m e₀ e = Searched (fileTable file) e
+Inv-loop elements rows first second e₀ e = Searched (onRing elements rows (at first) (at second)) e
 
 abbrev μ-loop : tie.MeasureT-loop
-μ-loop file m e₀ e = m + 1 - e
-
-elements-of-requires : tie.Need-elements-of-requires Inv-loop μ-loop
-elements-of-requires c κs = search needs
+μ-loop elements rows first second e₀ e = elements + 1 - e
 
 loop-holds : tie.Need-loop-holds Inv-loop μ-loop
 loop-holds c = searched-start _
@@ -39,5 +37,4 @@ returns-2 : tie.Need-returns-2 Inv-loop μ-loop
 returns-2 c = searched-all (c .before .loop .inv) (omega arith)
 
 pub find-cut-spec : {M : Type 1} → statement M
-find-cut-spec =
-    tie.close (tie.spec Inv-loop μ-loop elements-of-requires loop-holds is-clear-requires returns add-e loop-less loop-again returns-2)
+find-cut-spec = tie.close (tie.spec Inv-loop μ-loop loop-holds is-clear-requires returns add-e loop-less loop-again returns-2)

@@ -1,35 +1,48 @@
 -- `ring::lay` meets its contract. The loop's invariant: the rows before row `i` are laid.
-use Prim.Native.Nat.{_-_, _≤_}
+use mathlib.Core.Path.{_≡_, ap, _∙_}
+use Prim.Native.Nat.{ℕ, _-_, _≤_}
 use native.Mathlib.Omega.{arith}
-use borrow.Author.Needs.{needs}
-use Rattle.rules.specs.TableFile.{fileTable}
-use Rattle.ring.proofs.Laying.{Laying, laying-start, laying-next, laying-end}
+use Rattle.numbers.specs.Lists.{at}
+use Rattle.table.specs.Columns.{ByRow}
+use Rattle.table.proofs.ByRow.{by-row-start, by-row-put}
+use Rattle.ring.specs.Route as route
 use Rattle.ring.proofs.lay.Statement.{statement}
 use Rattle.ring.proofs.lay.Tie as tie
 
 abbrev Inv-loop : tie.InvT-loop
-Inv-loop file cut n first₀ second₀ i₀ first second i = (i ≤ n) × Laying (fileTable file) i first second
+Inv-loop elements rows first second cut start₀ end₀ i₀ start end i =
+    (i ≤ rows) × ByRow i (λ k. route.place elements cut (at first k)) start × ByRow i (λ k. route.endPlace elements cut (at second k)) end
 
 abbrev μ-loop : tie.MeasureT-loop
-μ-loop file cut n first₀ second₀ i₀ first second i = n - i
-
-rows-of-requires : tie.Need-rows-of-requires Inv-loop μ-loop
-rows-of-requires c κs = search needs
+μ-loop elements rows first second cut start₀ end₀ i₀ start end i = rows - i
 
 loop-holds : tie.Need-loop-holds Inv-loop μ-loop
-loop-holds c = (omega arith, laying-start _)
+loop-holds c = (omega arith, by-row-start _, by-row-start _)
 
-line-first-requires : tie.Need-line-first-requires Inv-loop μ-loop
-line-first-requires c κs = search needs
+end-at-requires : tie.Need-end-at-requires Inv-loop μ-loop
+end-at-requires c κs = omega arith
 
-array-write-first : tie.Need-array-write-first Inv-loop μ-loop
-array-write-first c = omega arith
+place-requires : tie.Need-place-requires Inv-loop μ-loop
+place-requires c κs = omega (arith, c .before .before .before .pre .0 .starts (c .before .before .loop .i) (omega arith))
 
-line-second-requires : tie.Need-line-second-requires Inv-loop μ-loop
-line-second-requires c κs = search needs
+cast-start : tie.Need-cast-start Inv-loop μ-loop
+cast-start c = omega arith
 
-array-write-second : tie.Need-array-write-second Inv-loop μ-loop
-array-write-second c = omega arith
+array-write-start : tie.Need-array-write-start Inv-loop μ-loop
+array-write-start c = omega arith
+
+end-at-requires-2 : tie.Need-end-at-requires-2 Inv-loop μ-loop
+end-at-requires-2 c κs = omega arith
+
+end-place-requires : tie.Need-end-place-requires Inv-loop μ-loop
+end-place-requires c κs =
+    omega (arith, c .before .before .before .before .before .pre .0 .ends (c .before .before .before .before .loop .i) (omega arith))
+
+cast-end : tie.Need-cast-end Inv-loop μ-loop
+cast-end c = omega arith
+
+array-write-end : tie.Need-array-write-end Inv-loop μ-loop
+array-write-end c = omega arith
 
 add-i : tie.Need-add-i Inv-loop μ-loop
 add-i c = omega arith
@@ -38,13 +51,22 @@ loop-less : tie.Need-loop-less Inv-loop μ-loop
 loop-less c = omega arith
 
 loop-again : tie.Need-loop-again Inv-loop μ-loop
-loop-again c = (
-  omega arith,
-  laying-next (c .before .before .before .loop .inv .1) (omega arith) (c .before .line-first .ensures) (c .line-second .ensures),
-)
+loop-again c =
+    let z = c .before .before .before .before .before .before .args in
+    let inv = c .before .before .before .before .before .loop .inv in
+    let start = c .before .before in (
+      omega arith,
+      by-row-put _ (inv .1) (omega arith)
+          (start .place .ensures .0 ∙ ap (route.place (z .elements) (z .cut)) (start .before .end-at .ensures)),
+      by-row-put _ (inv .2) (omega arith)
+          (c .end-place .ensures .0 ∙ ap (route.endPlace (z .elements) (z .cut)) (c .before .end-at2 .ensures)),
+    )
 
 returns : tie.Need-returns Inv-loop μ-loop
-returns c = laying-end _ (c .before .loop .inv .1) (omega arith)
+returns c =
+    let all : c .before .loop .i ≡ c .before .before .args .rows = omega arith in
+    let inv = c .before .loop .inv in
+    record { starts = rw all at (inv .1); ends = rw all at (inv .2) }
 
 pub lay-spec : {M : Type 1} → statement M
 lay-spec =
@@ -52,12 +74,15 @@ lay-spec =
     (tie.spec
     Inv-loop
     μ-loop
-    rows-of-requires
     loop-holds
-    line-first-requires
-    array-write-first
-    line-second-requires
-    array-write-second
+    end-at-requires
+    place-requires
+    cast-start
+    array-write-start
+    end-at-requires-2
+    end-place-requires
+    cast-end
+    array-write-end
     add-i
     loop-less
     loop-again

@@ -1,38 +1,39 @@
 -- rates: row after row's rate is put in its place.
-use mathlib.Core.Path.{_≡_}
-use Prim.Native.Nat.{_-_, _≤_}
+use mathlib.Core.Path.{_≡_, ap₂, _∙_}
+use Prim.Native.Nat.{ℕ, _-_, _*_, _/_, _≤_}
 use native.Mathlib.Omega.{arith}
-use borrow.Author.Needs.{needs}
-use Rattle.rules.specs.TableFile.{fileTable}
-use Rattle.rules.specs.Loads as loads
-use Rattle.outline.specs.Outlined.{ByRow}
-use Rattle.outline.proofs.ByRow.{by-row-start, by-row-put}
+use Rattle.numbers.specs.Lists.{at}
+use Rattle.table.specs.Columns.{ByRow}
+use Rattle.table.proofs.ByRow.{by-row-start, by-row-put}
 use Rattle.verdict.proofs.rates.Statement.{statement}
 use Rattle.verdict.proofs.rates.Tie as tie
 
 abbrev Inv-loop : tie.InvT-loop
-Inv-loop file rows hyper rate₀ i₀ rate i = (i ≤ rows) × ByRow i (loads.rate (fileTable file)) rate
+Inv-loop rows hyper cost period rate₀ i₀ rate i = (i ≤ rows) × ByRow i (λ k. hyper / at period k * at cost k) rate
 
 abbrev μ-loop : tie.MeasureT-loop
-μ-loop file rows hyper rate₀ i₀ rate i = rows - i
+μ-loop rows hyper cost period rate₀ i₀ rate i = rows - i
 
 loop-holds : tie.Need-loop-holds Inv-loop μ-loop
 loop-holds c = (omega arith, by-row-start _)
 
-rate-at-requires : tie.Need-rate-at-requires Inv-loop μ-loop
-rate-at-requires c κs = search needs
+slots-at-requires : tie.Need-slots-at-requires Inv-loop μ-loop
+slots-at-requires c κs = omega arith
+
+slots-at-requires-2 : tie.Need-slots-at-requires-2 Inv-loop μ-loop
+slots-at-requires-2 c κs = omega arith
+
+rate-of-requires : tie.Need-rate-of-requires Inv-loop μ-loop
+rate-of-requires c κs =
+    let T = c .before .before .before .before .pre .0 in
+    let i = c .before .before .before .loop .i in
+    omega (arith, T .period-low i (omega arith), T .cost-high i (omega arith))
 
 mul-rate : tie.Need-mul-rate Inv-loop μ-loop
-mul-rate c =
-    let z = c .before .before .before .before .pre .0 in
-    let s = z .passed .sound in
-    omega (arith, z .rows)
+mul-rate c = omega arith
 
 array-write-rate : tie.Need-array-write-rate Inv-loop μ-loop
-array-write-rate c =
-    let z = c .before .before .before .before .pre .0 in
-    let s = z .passed .sound in
-    omega (arith, z .rows)
+array-write-rate c = omega arith
 
 add-i : tie.Need-add-i Inv-loop μ-loop
 add-i c = omega arith
@@ -42,15 +43,17 @@ loop-less c = omega arith
 
 loop-again : tie.Need-loop-again Inv-loop μ-loop
 loop-again c =
-    let z = c .before .before in
-    let s = z .before .before .pre .0 .passed .sound in
-    (omega arith, by-row-put _ (z .loop .inv .1) (omega (arith, z .before .before .pre .0 .rows)) (c .rate-at .ensures))
+    let u = c .before .before .before .before in
+    let rate : ℕ → ℕ → ℕ = λ p x. u .before .args .hyper / p * x in (
+      omega arith,
+      by-row-put _ (u .loop .inv .1) (omega arith)
+          (c .rate-of .ensures ∙ ap₂ rate (c .before .before .slots-at .ensures) (c .before .slots-at2 .ensures)),
+    )
 
 returns : tie.Need-returns Inv-loop μ-loop
 returns c =
-    let z = c .before in
-    let e : z .loop .i ≡ fileTable (z .before .before .args .file .now) .rows = omega (arith, z .before .before .pre .0 .rows) in
-    rw e at (z .loop .inv .1)
+    let e : c .before .loop .i ≡ c .before .before .args .rows = omega arith in
+    rw e at (c .before .loop .inv .1)
 
 pub rates-spec : {M : Type 1} → statement M
 rates-spec =
@@ -59,7 +62,9 @@ rates-spec =
     Inv-loop
     μ-loop
     loop-holds
-    rate-at-requires
+    slots-at-requires
+    slots-at-requires-2
+    rate-of-requires
     mul-rate
     array-write-rate
     add-i

@@ -36,9 +36,9 @@ abbrev entry : tie.Else1 → tie.Start
 entry c = c .before .before .before
 
 admitted : (c : tie.Else1) → None (verdict-checks (entry c .args .file .now))
-admitted c = analysed-none (c .before .analyse .ensures) (c .if1 .left)
+admitted c = analysed-none _ (c .before .analyse .ensures) (c .if1 .left)
 
-accepted : (c : tie.Else1) → Accepted (entry c .args .file .now) (c .before .analyse .result)
+accepted : (c : tie.Else1) → Accepted (fileTable (entry c .args .file .now)) (c .before .analyse .result)
 accepted c = c .before .analyse .ensures .found (c .if1 .left)
 
 is-off-requires : tie.Need-is-off-requires
@@ -86,7 +86,7 @@ returns-3 c =
     let N = R .before in
     let E = tested N in
     let S = entry E in
-    standings-answer (accepted E) (S .args .t1) (R .slot-reached .result) (R .slot-reached .ensures) (c .standings .result)
+    standings-answer _ (accepted E) (S .args .t1) (R .slot-reached .result) (R .slot-reached .ensures) (c .standings .result)
     (standings-done (S .args .file .now) (admitted E) (plannerOf (S .args .t1)) (still N)) (c .standings .ensures)
 
 pub standings-spec : {M : Type 1} → statement M

@@ -46,9 +46,9 @@ abbrev entry : tie.Else1 → tie.Start
 entry c = c .before .before .before .before
 
 admitted : (c : tie.Else1) → None (verdict-checks (entry c .args .file .now))
-admitted c = analysed-none (c .before .analyse .ensures) (c .if1 .left)
+admitted c = analysed-none _ (c .before .analyse .ensures) (c .if1 .left)
 
-accepted : (c : tie.Else1) → Accepted (entry c .args .file .now) (c .before .analyse .result)
+accepted : (c : tie.Else1) → Accepted (fileTable (entry c .args .file .now)) (c .before .analyse .result)
 accepted c = c .before .analyse .ensures .found (c .if1 .left)
 
 is-off-requires : tie.Need-is-off-requires
@@ -130,9 +130,11 @@ plan-intervals-requires c κs =
     let D = c .before .before .before .before .before .before .before .before .before in
     let N = D .before .before in
     let E = tested N in
-    let S = entry E in
-    due-plannable (accepted E) (S .args .self) (D .stage .given .0 .0) (length (S .args .out .now)) (size S) (still N)
-    (D .stage .given .1) (c .before .before .before .before .before .before .before .if3 .left)
+    let S = entry E in (
+      fileTable (S .args .file .now),
+      due-plannable (accepted E) (S .args .self) (D .stage .given .0 .0) (length (S .args .out .now)) (size S) (still N)
+          (D .stage .given .1) (c .before .before .before .before .before .before .before .if3 .left),
+    )
 
 -- where the interval due is known, from where it is planned
 abbrev due : tie.After-plan-intervals → tie.After-stage
@@ -157,8 +159,9 @@ returns-5 c =
     let k = D .stage .given .0 .0 in
     let room = P .before .before .before .before .before .before .before .before .if3 .left in
     rw (c .stage-at .ensures)
-    (step-answer (accepted E) (S .args .self) k (D .stage .given .1) (P .plan-intervals .result) (S .args .out .now) _
-    (P .plan-intervals .ensures)
+    (step-answer _ (accepted E) (S .args .self) k (D .stage .given .1) (P .plan-intervals .result) (S .args .out .now) _
+    (P .plan-intervals .ensures (fileTable (S .args .file .now))
+    (due-plannable (accepted E) (S .args .self) k (length (S .args .out .now)) (size S) (still N) (D .stage .given .1) room))
     (step-done (S .args .file .now) (admitted E) (plannerOf (S .args .self)) (length (S .args .out .now)) (still N) k
     (ap stageOf (D .stage .given .1)) (omega (arith, length-is (timed-of (accepted E)) k, room))))
 

@@ -1,17 +1,18 @@
--- Arrays that hold a number of each row: how a loop over the rows fills one, and that only one fits.
-use mathlib.Core.Path.{_≡_, sym, _∙_}
+-- Arrays that hold a number of each row: how a loop over the rows fills one, what stands anywhere in one, and that only one fits.
+use mathlib.Core.Path.{_≡_, refl, sym, _∙_, fun-ext}
 use mathlib.Core.Logic.{⊎-elim}
-use mathlib.Core.List.{List}
-use Prim.Native.Nat.{ℕ, suc, _+_, _<_}
+use mathlib.Core.List.{List, [], _∷_}
+use Prim.Native.Nat.{ℕ, zero, suc, _+_, _≤_, _<_}
 use native.Mathlib.Nat.{not-suc-le-zero}
 use native.Mathlib.Omega.{arith}
-use lib.ListN.{set, replicate, length-set, length-replicate}
+use lib.ListN.{length, set, replicate, length-set, length-replicate}
 use lib.Seq.{ext-getD, getD-set-same, getD-set-other}
+use Rattle.numbers.specs.Lists.{at}
 use Rattle.numbers.proofs.Truth.{le-or-lt}
 use Rattle.numbers.proofs.Finite.{below}
 use Rattle.numbers.proofs.Lists.{zeros-at}
 use Rattle.rules.specs.Bounds.{max-rows}
-use Rattle.outline.specs.Outlined.{ByRow}
+use Rattle.table.specs.Columns.{ByRow}
 
 pub by-row-only : {n : ℕ} {g : ℕ → ℕ} {xs ys : List ℕ} → ByRow n g xs → ByRow n g ys → xs ≡ ys
 by-row-only {n} {g} {xs} {ys} X Y =
@@ -38,3 +39,19 @@ by-row-put {i} {g} {xs} v B h e = record {
       (below (let z : j < suc i = omega arith in z));
   rest = λ j l m. getD-set-other xs i j v 0 (λ q. omega arith) ∙ B .rest j (omega arith) m;
 }
+
+-- ---- everywhere
+
+pub past-end : (xs : List ℕ) (i : ℕ) → length xs ≤ i → at xs i ≡ 0
+past-end [] i l = refl
+past-end (x ∷ xs) zero l = absurd (not-suc-le-zero l)
+past-end (x ∷ xs) (suc i) l = past-end xs i (omega arith)
+
+-- an array of numbers that are 0 past the last row holds them everywhere
+pub by-row-all : {n : ℕ} {g : ℕ → ℕ} {xs : List ℕ} → ByRow n g xs → ((i : ℕ) → n ≤ i → g i ≡ 0) → at xs ≡ g
+by-row-all {n} {g} {xs} B z = fun-ext (λ i. ⊎-elim (λ l. rest i l ∙ sym (z i l)) (B .row i) (le-or-lt n i))
+  where
+    rest : (i : ℕ) → n ≤ i → at xs i ≡ 0
+    rest i l =
+        ⊎-elim (λ (h : length xs ≤ i). past-end xs i h) (λ (h : i < length xs). B .rest i l (omega (arith, B .size)))
+        (le-or-lt (length xs) i)

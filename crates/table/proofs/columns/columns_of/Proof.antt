@@ -1,0 +1,92 @@
+-- `table::columns::columns_of` meets its contract. The loop's invariant: the rows before row `i` are decoded.
+use mathlib.Core.Path.{_≡_}
+use Prim.Native.Nat.{_-_, _≤_}
+use native.Mathlib.Omega.{arith}
+use borrow.Author.Needs.{needs}
+use Rattle.rules.specs.TableFile.{fileTable}
+use Rattle.table.proofs.Decoding.{Decoding, decoding-start, decoding-next, decoding-end}
+use Rattle.table.proofs.columns.columns_of.Statement.{statement}
+use Rattle.table.proofs.columns.columns_of.Tie as tie
+
+abbrev Inv-loop : tie.InvT-loop
+Inv-loop file table cost₀ period₀ first₀ second₀ i₀ cost period first second i =
+    (i ≤ table .rows) × Decoding (fileTable file) i cost period first second
+
+abbrev μ-loop : tie.MeasureT-loop
+μ-loop file table cost₀ period₀ first₀ second₀ i₀ cost period first second i = table .rows - i
+
+of-requires : tie.Need-of-requires Inv-loop μ-loop
+of-requires c κs = omega arith
+
+loop-holds : tie.Need-loop-holds Inv-loop μ-loop
+loop-holds c = (omega arith, decoding-start _)
+
+row-at-requires : tie.Need-row-at-requires Inv-loop μ-loop
+row-at-requires c κs = omega (arith, c .before .before .before .before .before .pre .size)
+
+mul-cost : tie.Need-mul-cost Inv-loop μ-loop
+mul-cost c = omega arith
+
+array-write-cost : tie.Need-array-write-cost Inv-loop μ-loop
+array-write-cost c = omega arith
+
+mul-period : tie.Need-mul-period Inv-loop μ-loop
+mul-period c = omega arith
+
+array-write-period : tie.Need-array-write-period Inv-loop μ-loop
+array-write-period c = omega arith
+
+cast-first : tie.Need-cast-first Inv-loop μ-loop
+cast-first c =
+    let z = c .before .before .before .before .before .before .before in
+    let row = z .pre .sound .row (c .before .before .before .before .loop .i) (omega arith) in
+    omega arith
+
+array-write-first : tie.Need-array-write-first Inv-loop μ-loop
+array-write-first c = omega arith
+
+cast-second : tie.Need-cast-second Inv-loop μ-loop
+cast-second c =
+    let z = c .before .before .before .before .before .before .before .before in
+    let row = z .pre .sound .row (c .before .before .before .before .before .loop .i) (omega arith) in
+    omega arith
+
+array-write-second : tie.Need-array-write-second Inv-loop μ-loop
+array-write-second c = omega arith
+
+add-i : tie.Need-add-i Inv-loop μ-loop
+add-i c = omega arith
+
+loop-less : tie.Need-loop-less Inv-loop μ-loop
+loop-less c = omega arith
+
+loop-again : tie.Need-loop-again Inv-loop μ-loop
+loop-again c = (omega arith, decoding-next (c .before .before .before .before .before .loop .inv .1) (omega arith) (c .before .before .row-at .ensures))
+
+returns : tie.Need-returns Inv-loop μ-loop
+returns c =
+    let of = c .before .before .before .of .ensures in
+    let e : c .before .before .loop .i ≡ c .before .before .before .of .result .rows = omega arith in
+    decoding-end _ (c .before .before .before .before .before .pre) (of .elements) (of .rows) (rw e at (c .before .before .loop .inv .1))
+
+pub columns-of-spec : {M : Type 1} → statement M
+columns-of-spec =
+    tie.close
+    (tie.spec
+    Inv-loop
+    μ-loop
+    of-requires
+    loop-holds
+    row-at-requires
+    mul-cost
+    array-write-cost
+    mul-period
+    array-write-period
+    cast-first
+    array-write-first
+    cast-second
+    array-write-second
+    add-i
+    loop-less
+    loop-again
+    returns)
