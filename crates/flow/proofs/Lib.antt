@@ -3,3 +3,4 @@ pub mod Cut
 pub mod Searching
 pub mod Pushing
 pub mod Raising
+pub mod Ways

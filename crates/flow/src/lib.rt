@@ -13,13 +13,17 @@
 // What can be brought forward by an arc is its upper bound less its amount, and backward its amount less its lower bound. Both are
 // one scan, which knows an arc's near and far end and the two numbers whose difference it can take.
 ghost use mathlib.Core.Path.{_≡_};
+ghost use mathlib.Core.Bool.{Bool, true, false};
 ghost use mathlib.Core.Logic.{_≢_};
 ghost use Prim.Native.Nat.{ℕ, _+_, _<_, _≤_};
+ghost use lib.Dec.{leb};
 ghost use lib.ListN.{length};
 ghost use Rattle.numbers.specs.Lists.{at};
+ghost use Rattle.numbers.specs.Word.{bit};
 ghost use Rattle.flow.specs.Network.{arcs-most, places-most, net, Circulation, Within, Ends, Linked, Ready};
 ghost use Rattle.flow.specs.Search.{reach, Wide, Room, Gain, Marks, Queue, Side, Scanned, Found};
 ghost use Rattle.flow.specs.Raised.{Shifted, Pushed, Tried, Raised, Settled};
+ghost use Rattle.flow.specs.Way.{With, Visited, Fresh, Span, Sought};
 
 // What the arrays hold: 64 rows and 64 sets as arcs, and the places between the sets, in whole words.
 pub const ARCS: usize = 128;
@@ -416,4 +420,124 @@ pub fn link(end: &[u8; ARCS], arcs: usize, first: &mut [u8; PLACES], next: &mut 
         first[u] = (e + 1) as u8;
         e += 1;
     }
+}
+
+// The first place that is in one of two words only.
+fn pick(seen: u64, done: u64) -> usize
+    requires { ⌜ seen ≢ done ⌝ }
+    ensures { λ r. ⌜ (r < 64) × (bit seen r ≢ bit done r) ⌝ }
+{
+    u64::trailing_zeros(seen ^ done) as usize
+}
+
+// The word w with c, where c is below n.
+fn joined(w: u64, c: usize, n: usize) -> u64
+    requires { ⌜ n ≤ 64 ⌝ }
+    ensures { λ r. ⌜ With n w c r ⌝ }
+{
+    if c < n {
+        return w | (1u64 << c);
+    }
+    w
+}
+
+// Whether an arc from a seen place to q can take more, and q is new.
+fn fresh(lower: u64, upper: u64, seen: u64, q: usize) -> bool
+    requires { ⌜ q < 64 ⌝ }
+    ensures { λ r. ⌜ Fresh lower upper seen q r ⌝ }
+{
+    if upper <= lower {
+        return false;
+    }
+    (seen >> q) % 2 == 0
+}
+
+// The seen places, with the far ends of the arcs from `floor` on at place u that can take more.
+fn visit(
+    near: &[u8; ARCS],
+    far: &[u8; ARCS],
+    upper: &[u64; ARCS],
+    lower: &[u64; ARCS],
+    first: &[u8; PLACES],
+    next: &[u8; ARCS],
+    arcs: usize,
+    n: usize,
+    floor: usize,
+    u: usize,
+    seen: u64,
+    by: &mut [u64; PLACES],
+) -> u64
+    requires { ⌜ (arcs ≤ arcs-most) × (n ≤ 64) × (u < 64) × ((c : ℕ) → c < arcs → at (now far) c < 64)
+        × Linked arcs (at (now near)) (at (now first)) (at (now next)) × (bit seen u ≡ true) × (length (now by) ≡ places-most) ⌝ }
+    ensures { λ r. ⌜ (length (now (by .exit)) ≡ places-most)
+        × Visited arcs n floor floor (at (now (near .entry))) (at (now (far .entry))) (at (now (upper .entry))) (at (now (lower .entry)))
+        u seen r (at (now (by .entry))) (at (now (by .exit))) ⌝ }
+{
+    let w = by[u];
+    let mut all = seen;
+    let mut cur = first[u] as usize;
+    while floor < cur {
+        let c = cur - 1;
+        let q = far[c] as usize;
+        if fresh(lower[c], upper[c], all, q) {
+            by[q] = joined(w, c, n);
+            all = all | (1u64 << q);
+        }
+        cur = next[c] as usize;
+    }
+    all
+}
+
+// Whether one more can be brought from place s to place t, by arcs from `floor` on. If so, by[t] is the word of the rows, the first n arcs,
+// that are toggled on the way.
+pub fn find_way<'a>(
+    tail: &'a [u8; ARCS],
+    head: &'a [u8; ARCS],
+    low: &[u64; ARCS],
+    high: &[u64; ARCS],
+    x: &[u64; ARCS],
+    out: &'a [u8; PLACES],
+    outs: &'a [u8; ARCS],
+    into: &'a [u8; PLACES],
+    intos: &'a [u8; ARCS],
+    arcs: usize,
+    n: usize,
+    floor: usize,
+    s: usize,
+    t: usize,
+    by: &mut [u64; PLACES],
+) -> bool
+    requires { ⌜ Ready (net arcs (now tail) (now head) (now low) (now high)) (at (now out)) (at (now outs)) (at (now into)) (at (now intos))
+        × Span n (net arcs (now tail) (now head) (now low) (now high)) (at (now x)) × (s < 64) × (t < 64)
+        × Circulation (net arcs (now tail) (now head) (now low) (now high)) (at (now x)) × (length (now by) ≡ places-most) ⌝ }
+    ensures { λ r. ⌜ (length (now (by .exit)) ≡ places-most)
+        × Sought n (net arcs (now (tail .entry)) (now (head .entry)) (now (low .entry)) (now (high .entry))) (leb floor)
+        (at (now (x .entry))) s t (at (now (by .exit)) t) r ⌝ }
+{
+    by[s] = 0;
+    let mut seen = 1u64 << s;
+    let mut done: u64 = 0;
+    while seen != done {
+        if (seen >> t) % 2 == 1 {
+            return true;
+        }
+        let u = pick(seen, done);
+        let ahead = visit(tail, head, high, x, out, outs, arcs, n, floor, u, seen, by);
+        seen = visit(
+            head,
+            tail,
+            x,
+            low,
+            into,
+            intos,
+            arcs,
+            n,
+            floor,
+            u,
+            ahead,
+            by,
+        );
+        done = done | (1u64 << u);
+    }
+    (seen >> t) % 2 == 1
 }

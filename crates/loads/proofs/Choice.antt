@@ -22,19 +22,19 @@ use Rattle.loads.proofs.Line.{circ-of-sums, sums-of-circ}
 
 -- ---- arcs that are rows, and then sets
 
-abbrev join : ℕ → (f g : ℕ → ℕ) → ℕ → ℕ
+abbrev pub join : ℕ → (f g : ℕ → ℕ) → ℕ → ℕ
 join n f g e = cond (ltb e n) (f e) (g (e - n))
 
-join-low : (n : ℕ) (f g : ℕ → ℕ) (e : ℕ) → e < n → join n f g e ≡ f e
+pub join-low : (n : ℕ) (f g : ℕ → ℕ) (e : ℕ) → e < n → join n f g e ≡ f e
 join-low n f g e l = rw (lt-ltb e n l)
 
-join-high : (n : ℕ) (f g : ℕ → ℕ) (k : ℕ) → join n f g (n + k) ≡ g k
+pub join-high : (n : ℕ) (f g : ℕ → ℕ) (k : ℕ) → join n f g (n + k) ≡ g k
 join-high n f g k =
     let p : n + k - n ≡ k = omega arith in
     rw (le-ltb (n + k) n (omega arith), p)
 
 -- a fact of each row and of each set is a fact of each arc
-both : (P : ℕ → Type 0) (n K : ℕ) → ((j : ℕ) → j < n → P j) → ((k : ℕ) → k < K → P (n + k)) → (e : ℕ) → e < n + K → P e
+pub both : (P : ℕ → Type 0) (n K : ℕ) → ((j : ℕ) → j < n → P j) → ((k : ℕ) → k < K → P (n + k)) → (e : ℕ) → e < n + K → P e
 both P n K f g e l = go (decLt e n)
   where
     go : Dec (e < n) → P e
@@ -61,7 +61,7 @@ multiple : (h q : ℕ) → q * h % h ≡ 0
 multiple h q = zero-of-cong h (q * h) (0, q, omega arith)
 
 -- a set's share is its lag and the slots that it has had
-lag-sum : (n h : ℕ) (share had y : ℕ → ℕ) (D : ℕ → Bool) → ((i : ℕ) → i < n → share i ≡ y i + had i * h)
+pub lag-sum : (n h : ℕ) (share had y : ℕ → ℕ) (D : ℕ → Bool) → ((i : ℕ) → i < n → share i ≡ y i + had i * h)
     → sumIn n D share ≡ sumIn n D y + sumIn n D had * h
 lag-sum n h share had y D e =
     sumIn-eq n D D share (λ i. y i + had i * h) (λ i l. refl) (λ i l t. e i l) ∙ sumIn-add n D y (λ i. had i * h)

@@ -13,7 +13,7 @@ use Rattle.numbers.proofs.Finite.{sumIn-most}
 use Rattle.loads.proofs.Line.{covers-in, covers-before, covers-after}
 
 -- what holds below m, and of m, holds below m + 1
-extend : (P : ℕ → Type 0) (m : ℕ) → ((i : ℕ) → i < m → P i) → P m → (i : ℕ) → i < m + 1 → P i
+pub extend : (P : ℕ → Type 0) (m : ℕ) → ((i : ℕ) → i < m → P i) → P m → (i : ℕ) → i < m + 1 → P i
 extend P m f p i l = go (ℕ-discrete i m)
   where
     go : Dec (i ≡ m) → P i

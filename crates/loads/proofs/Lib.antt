@@ -1,3 +1,5 @@
 pub mod Line
 pub mod Filling
 pub mod Choice
+pub mod Taking
+pub mod Whole

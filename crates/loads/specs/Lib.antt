@@ -1,2 +1,4 @@
 pub mod Loads
 pub mod Laid
+pub mod Taken
+pub mod Whole
