@@ -1,35 +1,26 @@
--- Laws of ways: how they grow, what a way to the tail of an arc gives, and what it says of an arc, and of one that carries too little,
--- that there is none.
---
---   put f k v    f with v at k
+-- Laws of ways: how they grow, what a way to the tail of an arc gives, what it says of an arc that there is none, and the search as a
+-- whole.
 use mathlib.Core.Path.{_≡_, refl, sym, ap, _∙_}
-use mathlib.Core.Bool.{Bool, true, false, not, _||_, cond, true≢false, false≢true}
+use mathlib.Core.Bool.{Bool, true, false, _&&_, _||_, true≢false, false≢true}
 use mathlib.Core.Logic.{_≢_, _⊎_, inl, inr}
-use Prim.Native.Nat.{ℕ, zero, suc, _+_, _-_, _*_, _/_, _%_, _^_, _≤_, _<_}
+use Prim.Native.Nat.{ℕ, suc, _+_, _-_, _*_, _≤_, _<_}
 use native.Mathlib.Decide.{decLt, ℕ-discrete}
-use native.Mathlib.Nat.{mul-le-mul-right, pow-suc}
+use native.Mathlib.Nat.{mul-le-mul-right}
 use native.Mathlib.Omega.{arith}
-use lib.Bits.{bitOr, bitXor, differ, xor-step}
-use lib.Count.{trailingZeros, under}
-use lib.Dec.{eqb, leb}
-use borrow.Author.Tests.{eq-eqb, ne-eqb, eqb-true, eqb-false, le-leb, leb-true}
-use Rattle.numbers.specs.Finite.{sumIn, only, count}
+use lib.Bits.{bitAnd}
+use lib.Dec.{eqb, ltb}
+use borrow.Author.Tests.{eq-eqb, ne-eqb, eqb-true, lt-ltb, ltb-true}
+use Rattle.numbers.specs.Finite.{sumIn, only}
 use Rattle.numbers.specs.Word.{bit}
-use Rattle.numbers.proofs.Finite.{only-true, only-false, only-add, only-scaled, sum-add, sum-eq, sum-scaled, sum-but, sum-bump, le-additive}
-use Rattle.numbers.proofs.Word.{bit-zero, one-shl, bit-or, bit-pow, bit-suc, low-eq}
-use Rattle.flow.specs.Network.{Net, Circulation, Within, Put, Linked}
-use Rattle.flow.specs.Raised.{Pushed, WholeBounds, Best}
-use Rattle.flow.specs.Way.{Step, Way, Shut, Toggled, With, Reached, Visited, Done}
-use Rattle.flow.proofs.Network.{sum-put}
-use Rattle.flow.proofs.Cut.{Closed, closed-whole, closed-greatest}
-
--- ---- one number changed
-
-abbrev pub put : (ℕ → ℕ) → ℕ → ℕ → ℕ → ℕ
-put f k v w = cond (eqb w k) v (f w)
-
-pub put-is : (f : ℕ → ℕ) (k v : ℕ) → Put f k v (put f k v)
-put-is f k v = (rw (eq-eqb k k refl), λ w ne. rw (ne-eqb w k ne))
+use Rattle.numbers.proofs.Finite.{only-true, only-false, only-add, only-scaled, sum-add, sum-eq, sum-scaled, sum-but, le-additive}
+use Rattle.numbers.proofs.Word.{bit-zero, bit-and}
+use Rattle.flow.specs.declared.Arcs.{Arcs}
+use Rattle.flow.specs.Network.{Net, Circulation, Within, Put}
+use Rattle.flow.specs.Raised.{Pushed, Best}
+use Rattle.flow.specs.Way.{Step, Way, Shut, Toggled, With, Reached, Visited, Passed, Done, ByPlace, Wired, Narrow, Takes, Shown}
+use Rattle.flow.proofs.Network.{put, put-is, sum-put}
+use Rattle.flow.proofs.Cut.{Closed, closed-best}
+use Rattle.flow.proofs.Words.{or-left, or-not, or-same, or-right, and-both, and-left, one-of, unseen}
 
 -- ---- ways grow
 
@@ -144,7 +135,7 @@ module _ (G : Net) (may seen : ℕ → Bool) (x x' x'' : ℕ → ℕ) (i : ℕ) 
         only-add (r (G .head i)) (x' i) 1,
       )
 
-  pub way-pushed : Within G x → ((e : ℕ) → e < i → may e ≡ false) → x i < G .high i → Pushed G i x x'' 1
+  pub way-pushed : Within G x → ((e : ℕ) → e < i → may e ≡ false) → x i < G .high i → Pushed G i x x''
   way-pushed wi below up = record {
     circ = way-circ;
     within = λ e k. go e k (ℕ-discrete e i);
@@ -167,15 +158,14 @@ module _ (G : Net) (may seen : ℕ → Bool) (x : ℕ → ℕ) (i : ℕ) (l : i 
     (start : seen (G .head i) ≡ true) (out : seen (G .tail i) ≡ false) where
   -- arc i carries the most that it can
   pub shut-best : Within G x → ((e : ℕ) → i < e → may e ≡ true) → Best G i x
-  shut-best w m = record { greatest = closed-greatest G i x seen l c cl; whole = closed-whole G i x seen l c cl }
-    where
-      cl : Closed G i x seen
-      cl = record {
+  shut-best w m =
+      closed-best G i x seen l c
+      (record {
         inside = start;
         outside = out;
         full = λ e k g p q. omega (arith, s .ahead e k (m e g) p q, w e k);
         bare = λ e k g p q. omega (arith, s .back e k (m e g) p q, w e k);
-      }
+      })
 
   -- Arc i carries no less than y, a circulation in units of 1 / h that is within the bounds: so an arc below its bounds always has a way.
   pub shut-enough : (h : ℕ) (y : ℕ → ℕ) → Circulation G y
@@ -222,99 +212,13 @@ module _ (G : Net) (may seen : ℕ → Bool) (x : ℕ → ℕ) (i : ℕ) (l : i 
 
 -- ---- the search: places seen, and the words that are toggled on the way to each
 
-pub or-left : (p q : Bool) → p ≡ true → (p || q) ≡ true
-or-left true q e = refl
-or-left false q e = absurd (false≢true e)
-
-pub or-not : (p q : Bool) → (p || q) ≡ false → p ≡ false
-or-not true q e = absurd (true≢false e)
-or-not false q e = refl
-
-pub or-same : (p q : Bool) → q ≡ false → (p || q) ≡ p
-or-same true q e = refl
-or-same false q e = e
-
-pub or-right : (p q : Bool) → q ≡ true → (p || q) ≡ true
-or-right true q e = refl
-or-right false q e = e
-
--- `w | (1u64 << c)`
-pub bit-one-more : (w c e : ℕ) → c < 64 → bit (bitOr w (1 * 2 ^ c % 2 ^ 64)) e ≡ (bit w e || eqb e c)
-bit-one-more w c e l = rw (one-shl c l) (bit-or w (2 ^ c) e ∙ ap (λ (b : Bool). bit w e || b) (bit-pow c e))
-
--- `1u64 << c`
-pub bit-first : (c e : ℕ) → c < 64 → bit (1 * 2 ^ c % 2 ^ 64) e ≡ eqb e c
-bit-first c e l = rw (one-shl c l) (bit-pow c e)
-
--- `(w >> q) % 2 == 1`
-pub bit-odd : (w q : ℕ) → w / 2 ^ q % 2 ≡ 1 → bit w q ≡ true
-unfolding bit
-bit-odd w q e = eq-eqb (w / 2 ^ q % 2) 1 e
-
--- `(w >> q) % 2 == 0`
-pub bit-clear : (w q : ℕ) → eqb (w / 2 ^ q % 2) 0 ≡ true → bit w q ≡ false
-unfolding bit
-bit-clear w q e = ap (λ (k : ℕ). eqb k 1) (eqb-true (w / 2 ^ q % 2) 0 e)
-
-pub bit-set : (w q : ℕ) → eqb (w / 2 ^ q % 2) 0 ≡ false → bit w q ≡ true
-unfolding bit
-bit-set w q e = let z = eqb-false (w / 2 ^ q % 2) 0 e in eq-eqb (w / 2 ^ q % 2) 1 (omega (arith, z))
-
--- `trailing_zeros(v ^ w)`: the first digit in which they differ
-differ-zero : (a b : ℕ) → a < 2 → b < 2 → differ a b ≡ 0 → a ≡ b
-differ-zero zero b p q e = sym e
-differ-zero (suc zero) zero p q e = e
-differ-zero (suc zero) (suc b) p q e = ap suc (sym e)
-differ-zero (suc (suc a)) b p q e = absurd (omega arith)
-
-differ-lt : (a b : ℕ) → a < 2 → b < 2 → differ a b < 2
-differ-lt zero b p q = q
-differ-lt (suc zero) zero p q = p
-differ-lt (suc zero) (suc b) p q = omega arith
-differ-lt (suc (suc a)) b p q = absurd (omega arith)
-
-differ-same : (a b : ℕ) → a ≡ b → differ a b ≡ 0
-differ-same zero b e = sym e
-differ-same (suc a) zero e = absurd (omega arith)
-differ-same (suc a) (suc b) e = differ-same a b (omega arith)
-
-pub first-differ : (d a b : ℕ) → a < 2 ^ d → b < 2 ^ d → a ≢ b
-    → (trailingZeros d (bitXor a b) < d) × (bit a (trailingZeros d (bitXor a b)) ≢ bit b (trailingZeros d (bitXor a b)))
-unfolding trailingZeros
-first-differ zero a b p q ne = absurd (ne (omega arith))
-first-differ (suc d) a b p q ne =
-    go (bitXor a b % 2) refl (λ (k : ¬ (a / 2 ≡ b / 2)). first-differ d (a / 2) (b / 2) (omega (arith, pow-suc 2 d)) (omega (arith, pow-suc 2 d)) k)
-  where
-    la : a % 2 < 2
-    la = omega arith
-
-    lb : b % 2 < 2
-    lb = omega arith
-
-    half : bitXor a b / 2 ≡ bitXor (a / 2) (b / 2)
-    half = omega (arith, xor-step a b, differ-lt (a % 2) (b % 2) la lb)
-
-    low : bitXor a b % 2 ≡ differ (a % 2) (b % 2)
-    low = omega (arith, xor-step a b, differ-lt (a % 2) (b % 2) la lb)
-
-    go : (r : ℕ) → bitXor a b % 2 ≡ r
-        → (¬ (a / 2 ≡ b / 2) → (trailingZeros d (bitXor (a / 2) (b / 2)) < d)
-        × (bit (a / 2) (trailingZeros d (bitXor (a / 2) (b / 2))) ≢ bit (b / 2) (trailingZeros d (bitXor (a / 2) (b / 2)))))
-        → (under r (trailingZeros d (bitXor a b / 2)) < suc d)
-        × (bit a (under r (trailingZeros d (bitXor a b / 2))) ≢ bit b (under r (trailingZeros d (bitXor a b / 2))))
-    go zero e ih =
-        let z : a % 2 ≡ b % 2 = differ-zero (a % 2) (b % 2) la lb (sym low ∙ e) in
-        let i = ih (λ k. ne (omega arith)) in
-        rw half (omega (arith, i .0), λ k. i .1 (sym (bit-suc a _) ∙ k ∙ bit-suc b _))
-    go (suc r) e ih = (omega arith, λ k. absurd (omega (arith, e, low, differ-same (a % 2) (b % 2) (low-eq a b k))))
-
-module _ (n : ℕ) (low high x : ℕ → ℕ) where
-  pub toggled-none : Toggled n low high 0 x x
+module _ (n : ℕ) (x : ℕ → ℕ) where
+  pub toggled-none : Toggled n 0 x x
   toggled-none = record { inside = λ e l q. absurd (false≢true (sym (bit-zero e) ∙ q)); outside = λ e l q. refl }
 
-  -- the arc c, which carried what it did, is put to its other amount
-  pub toggled-next : (w c w' u : ℕ) (x' x'' : ℕ → ℕ) → Toggled n low high w x x' → With n w c w' → Put x' c u x''
-      → (c < n → u ≡ low c + high c - x c) → Toggled n low high w' x x''
+  -- the arc c, which carried what it did, is put to its other digit
+  pub toggled-next : (w c w' u : ℕ) (x' x'' : ℕ → ℕ) → Toggled n w x x' → With n w c w' → Put x' c u x''
+      → (c < n → u ≡ 1 - x c) → Toggled n w' x x''
   toggled-next w c w' u x' x'' t j p o = record {
     inside = λ e l q. go e l (ℕ-discrete e c) q;
     outside = λ e l q.
@@ -322,7 +226,7 @@ module _ (n : ℕ) (low high x : ℕ → ℕ) where
         p .1 e ne ∙ t .outside e l (or-not (bit w e) (eqb e c) (sym (j e l) ∙ q));
   }
     where
-      go : (e : ℕ) → e < n → Dec (e ≡ c) → bit w' e ≡ true → x'' e ≡ low e + high e - x e
+      go : (e : ℕ) → e < n → Dec (e ≡ c) → bit w' e ≡ true → x'' e ≡ 1 - x e
       go e l (yes z) q = rw z (p .0 ∙ o (omega arith))
       go e l (no z) q = p .1 e z ∙ t .inside e l (sym (or-same (bit w e) (eqb e c) (ne-eqb e c z)) ∙ sym (j e l) ∙ q)
 
@@ -330,53 +234,57 @@ module _ (n : ℕ) (G : Net) (may : ℕ → Bool) (x : ℕ → ℕ) (s : ℕ) wh
   pub reached-start : (seen : ℕ) (by : ℕ → ℕ) → Circulation G x → ((u : ℕ) → bit seen u ≡ eqb u s) → by s ≡ 0 → Reached n G may x s seen by
   reached-start seen by c one z = record {
     start = one s ∙ eq-eqb s s refl;
-    way = λ v l q.
+    way = λ v q.
         let e : v ≡ s = eqb-true v s (sym (one v) ∙ q) in
-        (x, rw e (way-none G may x s (bit seen) c), rw (e, z) (toggled-none n (G .low) (G .high) x));
+        (x, rw e (way-none G may x s (bit seen) c), rw (e, z) (toggled-none n x));
   }
 
   -- the places reached from u: their arcs had no part in the way to u
-  module _ (floor u seen seen' : ℕ) (by by' : ℕ → ℕ) (R : Reached n G may x s seen by) (up : u < G .places) (us : bit seen u ≡ true)
-      (free : (e : ℕ) → floor ≤ e → may e ≡ true)
-      (two : (c : ℕ) → c < n → (G .low c ≤ x c) × (x c ≤ G .high c) × (G .high c ≤ G .low c + 1)) where
-    old : (x' : ℕ → ℕ) × Way G may (bit seen) x x' s u × Toggled n (G .low) (G .high) (by u) x x'
-    old = R .way u up us
-
+  module _ (m u way seen seen' : ℕ) (by by' : ℕ → ℕ) (go : ℕ → Bool) (far : ℕ → ℕ) (few : n ≤ m) (us : bit seen u ≡ true)
+      (old : (x' : ℕ → ℕ) × Way G may (bit seen) x x' s u × Toggled n way x x') (R : Reached n G may x s seen by)
+      (two : (c : ℕ) → c < n → (x c ≤ 1) × (G .high c ≤ 1)) (Z : Visited m go far way seen seen' by by') where
     -- the ways to the places seen before, and to each that came
-    grow : (near far upper lower : ℕ → ℕ) → Visited (G .arcs) n floor floor near far upper lower u seen seen' by by'
-        → ((v c : ℕ) → c < G .arcs → may c ≡ true → near c ≡ u → far c ≡ v → bit seen v ≡ false → bit seen' v ≡ true → lower c < upper c
-        → With n (by u) c (by' v)
-        → (x' : ℕ → ℕ) × Way G may (bit seen') x x' s v × Toggled n (G .low) (G .high) (by' v) x x') → Reached n G may x s seen' by'
-    grow near far upper lower Z new =
-        record { start = Z .kept s (R .start) .0; way = λ v k q. go v k q (bit seen v) refl }
+    grow : ((v c : ℕ) → go c ≡ true → far c ≡ v → bit seen v ≡ false → bit seen' v ≡ true → With n way c (by' v)
+        → (x' : ℕ → ℕ) × Way G may (bit seen') x x' s v × Toggled n (by' v) x x') → Reached n G may x s seen' by'
+    grow new = record { start = Z .kept s (R .start) .0; way = λ v q. by-case v q (bit seen v) refl }
       where
-        go : (v : ℕ) → v < G .places → bit seen' v ≡ true → (b : Bool) → bit seen v ≡ b
-            → (x' : ℕ → ℕ) × Way G may (bit seen') x x' s v × Toggled n (G .low) (G .high) (by' v) x x'
-        go v k q true e =
-            let o = R .way v k e in
+        by-case : (v : ℕ) → bit seen' v ≡ true → (b : Bool) → bit seen v ≡ b
+            → (x' : ℕ → ℕ) × Way G may (bit seen') x x' s v × Toggled n (by' v) x x'
+        by-case v q true e =
+            let o = R .way v e in
             (o .0, way-wider G may x s (bit seen) (bit seen') (o .0) v (λ w z. Z .kept w z .0) (o .1), rw (Z .kept v e .1) (o .2))
-        go v k q false e = let w = Z .came v e q in new v (w .0) (w .2) (free (w .0) (w .1)) (w .3) (w .4) e q (w .5) (w .6)
+        by-case v q false e = let w = Z .came v e q in new v (w .0) (w .1) (w .2) e q (λ e l. w .3 e (omega arith))
 
-    pub reached-ahead : Visited (G .arcs) n floor floor (G .tail) (G .head) (G .high) x u seen seen' by by' → Reached n G may x s seen' by'
-    reached-ahead Z = grow (G .tail) (G .head) (G .high) x Z (λ v c l m t h e e' room j.
-        let q : old .0 c ≡ x c = way-fresh G may x s (bit seen) (old .0) u c (old .1) l (inr (ap (bit seen) h ∙ e)) in
+    -- the way to u is still one
+    pub old-still : (x' : ℕ → ℕ) × Way G may (bit seen') x x' s u × Toggled n way x x'
+    old-still = (old .0, way-wider G may x s (bit seen) (bit seen') (old .0) u (λ w z. Z .kept w z .0) (old .1), old .2)
+
+    pub reached-ahead : ((c : ℕ) → go c ≡ true → (c < G .arcs) × (G .tail c ≡ u) × (G .head c ≡ far c) × (may c ≡ true) × (x c < G .high c))
+        → Reached n G may x s seen' by'
+    reached-ahead arc = grow (λ v c g f e e' j.
+        let a = arc c g in
+        let h : G .head c ≡ v = a .2 ∙ f in
+        let q : old .0 c ≡ x c = way-fresh G may x s (bit seen) (old .0) u c (old .1) (a .0) (inr (ap (bit seen) h ∙ e)) in
         let y : ℕ → ℕ = put (old .0) c (old .0 c + 1) in
         let pc = put-is (old .0) c (old .0 c + 1) in (
           y,
-          rw h at (way-ahead G may x s (bit seen) (bit seen') (old .0) u (λ w z. Z .kept w z .0) (old .1) c l m
-              (ap (bit seen') t ∙ Z .kept u us .0) (ap (bit seen') h ∙ e') y t q room pc),
-          toggled-next n (G .low) (G .high) x (by u) c (by' v) (old .0 c + 1) (old .0) y (old .2) j pc (λ k. omega (arith, q, two c k)),
+          rw h at (way-ahead G may x s (bit seen) (bit seen') (old .0) u (λ w z. Z .kept w z .0) (old .1) c (a .0) (a .3)
+              (ap (bit seen') (a .1) ∙ Z .kept u us .0) (ap (bit seen') h ∙ e') y (a .1) q (a .4) pc),
+          toggled-next n x way c (by' v) (old .0 c + 1) (old .0) y (old .2) j pc (λ k. omega (arith, q, two c k, a .4)),
         ))
 
-    pub reached-back : Visited (G .arcs) n floor floor (G .head) (G .tail) x (G .low) u seen seen' by by' → Reached n G may x s seen' by'
-    reached-back Z = grow (G .head) (G .tail) x (G .low) Z (λ v c l m h t e e' room j.
-        let q : old .0 c ≡ x c = way-fresh G may x s (bit seen) (old .0) u c (old .1) l (inl (ap (bit seen) t ∙ e)) in
+    pub reached-back : ((c : ℕ) → go c ≡ true → (c < G .arcs) × (G .head c ≡ u) × (G .tail c ≡ far c) × (may c ≡ true) × (G .low c < x c))
+        → Reached n G may x s seen' by'
+    reached-back arc = grow (λ v c g f e e' j.
+        let a = arc c g in
+        let t : G .tail c ≡ v = a .2 ∙ f in
+        let q : old .0 c ≡ x c = way-fresh G may x s (bit seen) (old .0) u c (old .1) (a .0) (inl (ap (bit seen) t ∙ e)) in
         let y : ℕ → ℕ = put (old .0) c (old .0 c - 1) in
         let pc = put-is (old .0) c (old .0 c - 1) in (
           y,
-          rw t at (way-back G may x s (bit seen) (bit seen') (old .0) u (λ w z. Z .kept w z .0) (old .1) c l m
-              (ap (bit seen') t ∙ e') (ap (bit seen') h ∙ Z .kept u us .0) y h q room pc),
-          toggled-next n (G .low) (G .high) x (by u) c (by' v) (old .0 c - 1) (old .0) y (old .2) j pc (λ k. omega (arith, q, two c k)),
+          rw t at (way-back G may x s (bit seen) (bit seen') (old .0) u (λ w z. Z .kept w z .0) (old .1) c (a .0) (a .3)
+              (ap (bit seen') t ∙ e') (ap (bit seen') (a .1) ∙ Z .kept u us .0) y (a .1) q (a .4) pc),
+          toggled-next n x way c (by' v) (old .0 c - 1) (old .0) y (old .2) j pc (λ k. omega (arith, q, two c k, a .4)),
         ))
 
 module _ (G : Net) (may : ℕ → Bool) (x : ℕ → ℕ) where
@@ -397,25 +305,18 @@ module _ (G : Net) (may : ℕ → Bool) (x : ℕ → ℕ) where
     back = λ e l m d s. go-back e l m d s (ℕ-discrete (G .head e) v);
   }
     where
-      unseen : (u : ℕ) → bit seen' u ≡ false → bit seen u ≡ false
-      unseen u f = go (bit seen u) refl
-        where
-          go : (b : Bool) → bit seen u ≡ b → b ≡ false
-          go true q = absurd (true≢false (sym (wider u q) ∙ f))
-          go false q = refl
-
       was : (u : ℕ) → u ≢ v → bit done' u ≡ true → bit done u ≡ true
       was u ne d = sym (or-same (bit done u) (eqb u v) (ne-eqb u v ne)) ∙ sym (one u) ∙ d
 
       go-ahead : (e : ℕ) → e < G .arcs → may e ≡ true → bit done' (G .tail e) ≡ true → bit seen' (G .head e) ≡ false
           → Dec (G .tail e ≡ v) → G .high e ≤ x e
       go-ahead e l m d s (yes q) = ahead e l m q s
-      go-ahead e l m d s (no q) = D .ahead e l m (was (G .tail e) q d) (unseen (G .head e) s)
+      go-ahead e l m d s (no q) = D .ahead e l m (was (G .tail e) q d) (unseen seen seen' (G .head e) (wider (G .head e)) s)
 
       go-back : (e : ℕ) → e < G .arcs → may e ≡ true → bit done' (G .head e) ≡ true → bit seen' (G .tail e) ≡ false
           → Dec (G .head e ≡ v) → x e ≤ G .low e
       go-back e l m d s (yes q) = back e l m q s
-      go-back e l m d s (no q) = D .back e l m (was (G .head e) q d) (unseen (G .tail e) s)
+      go-back e l m d s (no q) = D .back e l m (was (G .head e) q d) (unseen seen seen' (G .tail e) (wider (G .tail e)) s)
 
   -- all that is seen is done
   pub done-shut : (seen done : ℕ) → seen ≡ done → Done G may x seen done → Shut G may (bit seen) x
@@ -424,118 +325,260 @@ module _ (G : Net) (may : ℕ → Bool) (x : ℕ → ℕ) where
     back = λ e l m h t. D .back e l m (ap (λ (k : ℕ). bit k (G .head e)) (sym q) ∙ h) t;
   }
 
--- ---- the arcs at one place, down their list
+-- ---- what a visit gives
 
-module _ (arcs n floor : ℕ) (near far upper lower first next : ℕ → ℕ) (k : Linked arcs near first next) (u seen : ℕ) (by : ℕ → ℕ)
-    (us : bit seen u ≡ true) where
-  pub visit-start : Visited arcs n floor (first u) near far upper lower u seen seen by by
+-- one place, by a set
+pub passed-visited : (m n k : ℕ) (on : Bool) (far : ℕ → ℕ) (p way seen seen' : ℕ) (by by' : ℕ → ℕ) → m ≤ n → far (n + k) ≡ p
+    → Passed on p way seen seen' by by' → Visited m (λ c. eqb c (n + k) && on) far way seen seen' by by'
+passed-visited m n k on far p way seen seen' by by' l f P = record {
+  kept = P .kept;
+  came = λ v e q.
+      let w = P .came v e q in (
+        n + k,
+        rw (w .0) (and-true (eqb (n + k) (n + k)) (eq-eqb (n + k) (n + k) refl)),
+        f ∙ sym (w .1),
+        λ c g. ap (λ (z : ℕ). bit z c) (w .2) ∙ sym (or-same (bit way c) (eqb c (n + k)) (ne-eqb c (n + k) (omega arith))),
+      );
+  swept = λ c q.
+      let w = and-both (eqb c (n + k)) on q in
+      rw (eqb-true c (n + k) (w .0), f) (P .swept (w .1));
+}
+  where
+    and-true : (b : Bool) → b ≡ true → (b && true) ≡ true
+    and-true true e = refl
+    and-true false e = e
+
+module _ (seen : ℕ) (by : ℕ → ℕ) where
+  pub passed-seen : (p w : ℕ) → bit seen p ≡ true → Passed true p w seen seen by by
+  passed-seen p w q = record { kept = λ v e. (e, refl); came = λ v f t. absurd (true≢false (sym t ∙ f)); swept = λ _. q }
+
+  pub passed-not : (on : Bool) (p w : ℕ) → on ≡ false → Passed on p w seen seen by by
+  passed-not on p w q =
+      record { kept = λ v e. (e, refl); came = λ v f t. absurd (true≢false (sym t ∙ f)); swept = λ t. absurd (true≢false (sym t ∙ q)) }
+
+  pub passed-on : (on : Bool) (p w seen' : ℕ) (by' : ℕ → ℕ) → on ≡ true → Passed true p w seen seen' by by' → Passed on p w seen seen' by by'
+  passed-on on p w seen' by' e P = rw e P
+
+  pub passed-new : (p w seen' : ℕ) (by' : ℕ → ℕ) → bit seen p ≡ false → ((v : ℕ) → bit seen' v ≡ (bit seen v || eqb v p)) → Put by p w by'
+      → Passed true p w seen seen' by by'
+  passed-new p w seen' by' f one pt = record {
+    kept = λ v e. (one v ∙ or-left (bit seen v) _ e, pt .1 v (λ q. true≢false (sym e ∙ ap (bit seen) q ∙ f)));
+    came = λ v e t. go v e t (ℕ-discrete v p);
+    swept = λ _. one p ∙ or-right (bit seen p) (eqb p p) (eq-eqb p p refl);
+  }
+    where
+      go : (v : ℕ) → bit seen v ≡ false → bit seen' v ≡ true → Dec (v ≡ p) → (true ≡ true) × (v ≡ p) × (by' v ≡ w)
+      go v e t (yes q) = (refl, q, rw q (pt .0))
+      go v e t (no q) = absurd (true≢false (sym (sym (or-same (bit seen v) _ (ne-eqb v p q)) ∙ sym (one v) ∙ t) ∙ e))
+
+-- the rows of a word, one after the other
+module _ (rows : ℕ) (far : ℕ → ℕ) (way seen : ℕ) (by : ℕ → ℕ) where
+  pub visit-start : Visited 64 (bit 0) far way seen seen by by
   visit-start = record {
-    kept = λ v q. (q, refl);
+    kept = λ v e. (e, refl);
     came = λ v f t. absurd (true≢false (sym t ∙ f));
-    swept = λ c l m q s. absurd (omega (arith, k .first-all c m, ap first q));
+    swept = λ c q. absurd (false≢true (sym (bit-zero c) ∙ q));
   }
 
-  module _ (seen' cur : ℕ) (by' : ℕ → ℕ) (Z : Visited arcs n floor cur near far upper lower u seen seen' by by') (l : floor < cur)
-      (top : cur ≤ arcs) (own : near (cur - 1) ≡ u) where
-    -- the arc leads to a place that is seen, or can take no more
-    pub visit-skip : (bit seen' (far (cur - 1)) ≡ false → upper (cur - 1) ≤ lower (cur - 1))
-        → Visited arcs n floor (next (cur - 1)) near far upper lower u seen seen' by by'
-    visit-skip none = record { kept = Z .kept; came = Z .came; swept = λ c g m q s. go c g m q s (ℕ-discrete c (cur - 1)) (decLt c cur) }
+  pub visit-next : (done done' i w seen' seen'' : ℕ) (by' by'' : ℕ → ℕ) → Visited 64 (bit done) far way seen seen' by by'
+      → ((v : ℕ) → bit done' v ≡ (bit done v || eqb v i)) → ((e : ℕ) → bit w e ≡ (bit way e || eqb e i))
+      → Passed true (far i) w seen' seen'' by' by'' → Visited 64 (bit done') far way seen seen'' by by''
+  visit-next done done' i w seen' seen'' by' by'' Z one j P = record {
+    kept = λ v e. let a = Z .kept v e in let b = P .kept v (a .0) in (b .0, b .1 ∙ a .1);
+    came = λ v f t. go v f t (bit seen' v) refl;
+    swept = λ c q. met c q (ℕ-discrete c i);
+  }
+    where
+      go : (v : ℕ) → bit seen v ≡ false → bit seen'' v ≡ true → (b : Bool) → bit seen' v ≡ b
+          → (c : ℕ) × (bit done' c ≡ true) × (far c ≡ v) × With 64 way c (by'' v)
+      go v f t true e =
+          let a = Z .came v f e in
+          (a .0, one (a .0) ∙ or-left (bit done (a .0)) _ (a .1), a .2, λ c g. ap (λ (z : ℕ). bit z c) (P .kept v e .1) ∙ a .3 c g)
+      go v f t false e =
+          let a = P .came v e t in
+          (i, one i ∙ or-right (bit done i) (eqb i i) (eq-eqb i i refl), sym (a .1), λ c g. ap (λ (z : ℕ). bit z c) (a .2) ∙ j c)
+
+      met : (c : ℕ) → bit done' c ≡ true → Dec (c ≡ i) → bit seen'' (far c) ≡ true
+      met c q (yes e) = rw e (P .swept refl)
+      met c q (no e) =
+          P .kept (far c) (Z .swept c (sym (or-same (bit done c) (eqb c i) (ne-eqb c i e)) ∙ sym (one c) ∙ q)) .0
+
+-- the places seen stay on a line of K sets
+visited-line : (K m : ℕ) (go : ℕ → Bool) (far : ℕ → ℕ) (way seen seen' : ℕ) (by by' : ℕ → ℕ) → Visited m go far way seen seen' by by'
+    → ((c : ℕ) → go c ≡ true → far c ≤ K) → ((v : ℕ) → bit seen v ≡ true → v ≤ K) → (v : ℕ) → bit seen' v ≡ true → v ≤ K
+visited-line K m go far way seen seen' by by' Z on line v q = by-case (bit seen v) refl
+  where
+    by-case : (b : Bool) → bit seen v ≡ b → v ≤ K
+    by-case true e = line v e
+    by-case false e = let w = Z .came v e q in omega (arith, on (w .0) (w .1), w .2)
+
+passed-line : (K : ℕ) (on : Bool) (p way seen seen' : ℕ) (by by' : ℕ → ℕ) → Passed on p way seen seen' by by' → (on ≡ true → p ≤ K)
+    → ((v : ℕ) → bit seen v ≡ true → v ≤ K) → (v : ℕ) → bit seen' v ≡ true → v ≤ K
+passed-line K on p way seen seen' by by' Z l line v q = by-case (bit seen v) refl
+  where
+    by-case : (b : Bool) → bit seen v ≡ b → v ≤ K
+    by-case true e = line v e
+    by-case false e = let w = Z .came v e q in omega (arith, l (w .0), w .1)
+
+-- ---- a place that is gone on from
+
+-- the places that the code's words name
+module _ (n K : ℕ) (tail head out into : ℕ → ℕ) (W : Wired n K tail head out into) where
+  placed : (end words : ℕ → ℕ) → ByPlace n K end words → (v i w : ℕ) → v ≤ K → bit (bitAnd (words v) w) i ≡ true
+      → (i < n) × (end i ≡ v) × (bit w i ≡ true)
+  placed end words B v i w l q =
+      let a = and-left (words v) w i q in
+      let b = and-both (ltb i n) (eqb (end i) v) (sym (B v i l) ∙ a .0) in
+      (ltb-true i n (b .0), eqb-true (end i) v (b .1), a .1)
+
+  pub out-place : (v i w : ℕ) → v ≤ K → bit (bitAnd (out v) w) i ≡ true → (i < n) × (tail i ≡ v) × (bit w i ≡ true)
+  out-place = placed tail out (W .starting)
+
+  pub into-place : (v i w : ℕ) → v ≤ K → bit (bitAnd (into v) w) i ≡ true → (i < n) × (head i ≡ v) × (bit w i ≡ true)
+  into-place = placed head into (W .ending)
+
+  found-at : (end words : ℕ → ℕ) → ByPlace n K end words → (v i w : ℕ) → v ≤ K → i < n → end i ≡ v → bit w i ≡ true
+      → bit (bitAnd (words v) w) i ≡ true
+  found-at end words B v i w l m e q = bit-and (words v) w i ∙ go (bit (words v) i) (bit w i) (B v i l ∙ rw (lt-ltb i n m, eq-eqb (end i) v e)) q
+    where
+      go : (a b : Bool) → a ≡ true → b ≡ true → (a && b) ≡ true
+      go true b p q = q
+      go false b p q = p
+
+  pub leave-line : (A : Arcs) (N : Narrow K A) (u way seen one two three four : ℕ) (by by1 by2 by3 by4 : ℕ → ℕ) → u ≤ K
+      → Visited 64 (bit (bitAnd (out u) (A .up))) head way seen one by by1 → Visited 64 (bit (bitAnd (into u) (A .down))) tail way one two by1 by2
+      → Passed (bit (A .more) u) (u - 1) way two three by2 by3 → Passed (bit (A .less) u) (u + 1) way three four by3 by4
+      → ((v : ℕ) → bit seen v ≡ true → v ≤ K) → (v : ℕ) → bit four v ≡ true → v ≤ K
+  leave-line A N u way seen one two three four by by1 by2 by3 by4 ul a b c d line =
+      passed-line K (bit (A .less) u) (u + 1) way three four by3 by4 d (λ q. omega (arith, N .less u q))
+      (passed-line K (bit (A .more) u) (u - 1) way two three by2 by3 c (λ q. omega arith)
+      (visited-line K 64 (bit (bitAnd (into u) (A .down))) tail way one two by1 by2 b (λ i q. W .ends i (into-place u i (A .down) ul q .0) .0)
+      (visited-line K 64 (bit (bitAnd (out u) (A .up))) head way seen one by by1 a (λ i q. W .ends i (out-place u i (A .up) ul q .0) .1) line)))
+
+  module _ (A : Arcs) (N : Narrow K A) (G : Net) (may : ℕ → Bool) (x : ℕ → ℕ) (S : Shown n K G may x tail head A) (s : ℕ)
+      (u way seen one two three four : ℕ) (by by1 by2 by3 by4 : ℕ → ℕ) (ul : u ≤ K) (us : bit seen u ≡ true) (wu : way ≡ by u)
+      (a : Visited 64 (bit (bitAnd (out u) (A .up))) head way seen one by by1)
+      (b : Visited 64 (bit (bitAnd (into u) (A .down))) tail way one two by1 by2)
+      (c : Passed (bit (A .more) u) (u - 1) way two three by2 by3)
+      (d : Passed (bit (A .less) u) (u + 1) way three four by3 by4) where
+    up-one : bit one u ≡ true
+    up-one = a .kept u us .0
+
+    up-two : bit two u ≡ true
+    up-two = b .kept u up-one .0
+
+    up-three : bit three u ≡ true
+    up-three = c .kept u up-two .0
+
+    pub leave-wider : (v : ℕ) → bit seen v ≡ true → bit four v ≡ true
+    leave-wider v q = d .kept v (c .kept v (b .kept v (a .kept v q .0) .0) .0) .0
+
+    -- the sets at u, as arcs
+    down-set : Visited n (λ e. eqb e (n + (u - 1)) && bit (A .more) u) (λ e. e - n) way two three by2 by3
+    down-set = passed-visited n n (u - 1) (bit (A .more) u) (λ e. e - n) (u - 1) way two three by2 by3 (omega arith) (omega arith) c
+
+    up-set : Visited n (λ e. eqb e (n + u) && bit (A .less) u) (λ e. suc (e - n)) way three four by3 by4
+    up-set = passed-visited n n u (bit (A .less) u) (λ e. suc (e - n)) (u + 1) way three four by3 by4 (omega arith) (omega arith) d
+
+    pub leave-reached : Reached n G may x s seen by → Reached n G may x s four by4
+    leave-reached R =
+        let o1 : (x' : ℕ → ℕ) × Way G may (bit seen) x x' s u × Toggled n way x x' = rw wu (R .way u us) in
+        let R1 = reached-ahead n G may x s 64 u way seen one by by1 (bit (bitAnd (out u) (A .up))) head (W .few-rows) us o1 R (S .digits) a
+        (λ e q. let p = out-place u e (A .up) ul q in
+        let t = S .up e (p .0) .can (p .2) in
+        (omega (arith, S .arcs, p .0), S .rows e (p .0) .0 ∙ p .1, S .rows e (p .0) .1, t .0, t .1)) in
+        let o2 = old-still n G may x s 64 u way seen one by by1 (bit (bitAnd (out u) (A .up))) head (W .few-rows) us o1 R (S .digits) a in
+        let R2 = reached-back n G may x s 64 u way one two by1 by2 (bit (bitAnd (into u) (A .down))) tail (W .few-rows) up-one o2 R1
+        (S .digits) b
+        (λ e q. let p = into-place u e (A .down) ul q in
+        let t = S .down e (p .0) .can (p .2) in
+        (omega (arith, S .arcs, p .0), S .rows e (p .0) .1 ∙ p .1, S .rows e (p .0) .0, t .0, t .1)) in
+        let o3 = old-still n G may x s 64 u way one two by1 by2 (bit (bitAnd (into u) (A .down))) tail (W .few-rows) up-one o2 R1
+        (S .digits) b in
+        let R3 = reached-ahead n G may x s n u way two three by2 by3 (λ e. eqb e (n + (u - 1)) && bit (A .more) u) (λ e. e - n)
+        (omega arith) up-two o3 R2 (S .digits) down-set
+        (λ e q. let p = and-both (eqb e (n + (u - 1))) (bit (A .more) u) q in
+        let z : e ≡ n + (u - 1) = eqb-true e (n + (u - 1)) (p .0) in
+        let w = N .more u (p .1) in
+        let k : u - 1 < K = omega (arith, w) in
+        let v : suc (u - 1) ≡ u = omega (arith, w) in
+        let t = S .more (u - 1) k .can (ap (bit (A .more)) v ∙ p .1) in
+        rw z (omega (arith, S .arcs), S .sets (u - 1) k .0 ∙ v, S .sets (u - 1) k .1 ∙ omega arith, t .0, t .1)) in
+        let o4 = old-still n G may x s n u way two three by2 by3 (λ e. eqb e (n + (u - 1)) && bit (A .more) u) (λ e. e - n)
+        (omega arith) up-two o3 R2 (S .digits) down-set in
+        reached-back n G may x s n u way three four by3 by4 (λ e. eqb e (n + u) && bit (A .less) u) (λ e. suc (e - n))
+        (omega arith) up-three o4 R3 (S .digits) up-set
+        (λ e q. let p = and-both (eqb e (n + u)) (bit (A .less) u) q in
+        let z : e ≡ n + u = eqb-true e (n + u) (p .0) in
+        let k = N .less u (p .1) in
+        let t = S .less u k .can (p .1) in
+        rw z (omega (arith, S .arcs), S .sets u k .1, S .sets u k .0 ∙ omega arith, t .0, t .1))
+
+    -- every arc at u leads to a seen place, or can take no more
+    pub leave-done : (done done' : ℕ) → ((v : ℕ) → bit done' v ≡ (bit done v || eqb v u)) → Done G may x seen done → Done G may x four done'
+    leave-done done done' one' D =
+        done-next G may x seen four done done' u D leave-wider one'
+        (λ e l m t f. ahead e l m t f (decLt e n)) (λ e l m h f. back e l m h f (decLt e n))
       where
-        go : (c : ℕ) → next (cur - 1) ≤ c → c < arcs → near c ≡ u → bit seen' (far c) ≡ false → Dec (c ≡ cur - 1) → Dec (c < cur)
-            → upper c ≤ lower c
-        go c g m q s (yes e) d = rw e (none (rw e at s))
-        go c g m q s (no e) (yes d) = absurd (omega (arith, k .next-all (cur - 1) c (omega arith) (omega arith) (q ∙ sym own)))
-        go c g m q s (no e) (no d) = Z .swept c (omega arith) m q s
-
-    -- it leads to a new place
-    pub visit-mark : (seen'' : ℕ) (by'' : ℕ → ℕ) (r : ℕ) → bit seen' (far (cur - 1)) ≡ false → lower (cur - 1) < upper (cur - 1)
-        → ((v : ℕ) → bit seen'' v ≡ (bit seen' v || eqb v (far (cur - 1))))
-        → Put by' (far (cur - 1)) r by'' → With n (by u) (cur - 1) r
-        → Visited arcs n floor (next (cur - 1)) near far upper lower u seen seen'' by by''
-    visit-mark seen'' by'' r new room wide p j = record {
-      kept = λ v q.
-          let o = Z .kept v q in
-          let ne : v ≢ far (cur - 1) = λ e. true≢false (sym (o .0) ∙ ap (bit seen') e ∙ new) in
-          (wide v ∙ or-left (bit seen' v) _ (o .0), p .1 v ne ∙ o .1);
-      came = λ v f t. come v f t (ℕ-discrete v (far (cur - 1)));
-      swept = λ c g m q s. go c g m q s (ℕ-discrete c (cur - 1)) (decLt c cur);
-    }
-      where
-        w : ℕ
-        w = far (cur - 1)
-
-        come : (v : ℕ) → bit seen v ≡ false → bit seen'' v ≡ true → Dec (v ≡ w)
-            → (c : ℕ) × (floor ≤ c) × (c < arcs) × (near c ≡ u) × (far c ≡ v) × (lower c < upper c) × With n (by u) c (by'' v)
-        come v f t (yes e) = (cur - 1, omega arith, omega arith, own, sym e, room, rw (e, p .0) j)
-        come v f t (no e) =
-            let o = Z .came v f (sym (or-same (bit seen' v) _ (ne-eqb v w e)) ∙ sym (wide v) ∙ t) in
-            (o .0, o .1, o .2, o .3, o .4, o .5, rw (p .1 v e) (o .6))
-
-        go : (c : ℕ) → next (cur - 1) ≤ c → c < arcs → near c ≡ u → bit seen'' (far c) ≡ false → Dec (c ≡ cur - 1) → Dec (c < cur)
-            → upper c ≤ lower c
-        go c g m q s (yes e) d =
-            absurd (true≢false (sym (or-right (bit seen' w) (eqb w w) (eq-eqb w w refl)) ∙ sym (wide w) ∙ rw e at s))
-        go c g m q s (no e) (yes d) = absurd (omega (arith, k .next-all (cur - 1) c (omega arith) (omega arith) (q ∙ sym own)))
-        go c g m q s (no e) (no d) = Z .swept c (omega arith) m q (or-not (bit seen' (far c)) _ (sym (wide (far c)) ∙ s))
-
--- the list has been gone through as far as the floor
-pub visit-end : (arcs n floor cur : ℕ) (near far upper lower : ℕ → ℕ) (u seen seen' : ℕ) (by by' : ℕ → ℕ) → cur ≤ floor
-    → Visited arcs n floor cur near far upper lower u seen seen' by by' → Visited arcs n floor floor near far upper lower u seen seen' by by'
-visit-end arcs n floor cur near far upper lower u seen seen' by by' l Z =
-    record { kept = Z .kept; came = Z .came; swept = λ c g. Z .swept c (omega arith) }
-
--- ---- the search as a whole
-
-pub seen-not-done : (p q : Bool) → p ≢ q → (q ≡ true → p ≡ true) → (p ≡ true) × (q ≡ false)
-seen-not-done true true ne sub = absurd (ne refl)
-seen-not-done true false ne sub = (refl, refl)
-seen-not-done false true ne sub = absurd (false≢true (sub refl))
-seen-not-done false false ne sub = absurd (ne refl)
-
-module _ (n : ℕ) (G : Net) (x : ℕ → ℕ) (s floor : ℕ)
-    (two : (c : ℕ) → c < n → (G .low c ≤ x c) × (x c ≤ G .high c) × (G .high c ≤ G .low c + 1)) where
-  -- place u is visited, by arcs ahead and by arcs back
-  module _ (seen ahead all done done' u : ℕ) (by by' by'' : ℕ → ℕ) (up : u < G .places) (us : bit seen u ≡ true)
-      (one : (v : ℕ) → bit done' v ≡ (bit done v || eqb v u))
-      (a : Visited (G .arcs) n floor floor (G .tail) (G .head) (G .high) x u seen ahead by by')
-      (b : Visited (G .arcs) n floor floor (G .head) (G .tail) x (G .low) u ahead all by' by'') where
-    wider : (v : ℕ) → bit seen v ≡ true → bit all v ≡ true
-    wider v q = b .kept v (a .kept v q .0) .0
-
-    pub search-reached : Reached n G (leb floor) x s seen by → Reached n G (leb floor) x s all by''
-    search-reached R =
-        let free : (e : ℕ) → floor ≤ e → leb floor e ≡ true = λ e l. le-leb floor e l in
-        reached-back n G (leb floor) x s floor u ahead all by' by''
-        (reached-ahead n G (leb floor) x s floor u seen ahead by by' R up us free two a) up (a .kept u us .0) free two b
-
-    pub search-done : Done G (leb floor) x seen done → Done G (leb floor) x all done'
-    search-done D =
-        done-next G (leb floor) x seen all done done' u D wider one
-        (λ e l m t f. a .swept e (leb-true floor e m) l t (unseen (G .head e) f))
-        (λ e l m h f. b .swept e (leb-true floor e m) l h f)
-      where
-        unseen : (v : ℕ) → bit all v ≡ false → bit ahead v ≡ false
-        unseen v f = go (bit ahead v) refl
+        ahead : (e : ℕ) → e < G .arcs → may e ≡ true → G .tail e ≡ u → bit four (G .head e) ≡ false → Dec (e < n) → G .high e ≤ x e
+        ahead e l m t f (yes g) = go (bit (A .up) e) refl
           where
-            go : (c : Bool) → bit ahead v ≡ c → c ≡ false
-            go true q = absurd (true≢false (sym (b .kept v q .0) ∙ f))
-            go false q = refl
+            go : (r : Bool) → bit (A .up) e ≡ r → G .high e ≤ x e
+            go true q =
+                let p = found-at tail out (W .starting) u e (A .up) ul g (sym (S .rows e g .0) ∙ t) q in
+                absurd (true≢false (sym (d .kept _ (c .kept _ (b .kept _ (a .swept e p) .0) .0) .0) ∙ ap (bit four) (sym (S .rows e g .1)) ∙ f))
+            go false q = S .up e g .cannot q m
+        ahead e l m t f (no g) = go (bit (A .more) u) refl
+          where
+            k : ℕ
+            k = e - n
 
-    pub search-within : ((v : ℕ) → bit done v ≡ true → bit seen v ≡ true) → (v : ℕ) → bit done' v ≡ true → bit all v ≡ true
-    search-within sub v d = go (ℕ-discrete v u)
-      where
-        go : Dec (v ≡ u) → bit all v ≡ true
-        go (yes q) = rw q (wider u us)
-        go (no q) = wider v (sub v (sym (or-same (bit done v) (eqb v u) (ne-eqb v u q)) ∙ sym (one v) ∙ d))
+            is : n + k ≡ e
+            is = omega arith
 
--- one place fewer is not done
-pub search-less : (done done' u : ℕ) → u < 64 → bit done u ≡ false → ((v : ℕ) → bit done' v ≡ (bit done v || eqb v u))
-    → count 64 (λ v. not (bit done' v)) < count 64 (λ v. not (bit done v))
-search-less done done' u l f one =
-    omega (
-      arith,
-      sum-bump 64 (λ v. only (not (bit done' v)) 1) (λ v. only (not (bit done v)) 1) u 1 l
-          (λ j k ne. ap (λ (b : Bool). only (not b) 1) (sym (one j ∙ or-same (bit done j) (eqb j u) (ne-eqb j u ne))))
-          (rw (f, one u ∙ or-right (bit done u) (eqb u u) (eq-eqb u u refl)) (omega (arith, only-true true 1 refl, only-false false 1 refl))),
-    )
+            kK : k < K
+            kK = omega (arith, S .arcs)
+
+            ku : suc k ≡ u
+            ku = sym (S .sets k kK .0) ∙ ap (G .tail) is ∙ t
+
+            go : (r : Bool) → bit (A .more) u ≡ r → G .high e ≤ x e
+            go true q =
+                let w : u - 1 ≡ G .head e = omega (arith, ku, S .sets k kK .1, ap (G .head) is) in
+                absurd (true≢false (sym (d .kept _ (c .swept q) .0) ∙ ap (bit four) w ∙ f))
+            go false q = rw is at (S .more k kK .cannot (ap (bit (A .more)) ku ∙ q) (ap may is ∙ m))
+
+        back : (e : ℕ) → e < G .arcs → may e ≡ true → G .head e ≡ u → bit four (G .tail e) ≡ false → Dec (e < n) → x e ≤ G .low e
+        back e l m h f (yes g) = go (bit (A .down) e) refl
+          where
+            go : (r : Bool) → bit (A .down) e ≡ r → x e ≤ G .low e
+            go true q =
+                let p = found-at head into (W .ending) u e (A .down) ul g (sym (S .rows e g .1) ∙ h) q in
+                absurd (true≢false (sym (d .kept _ (c .kept _ (b .swept e p) .0) .0) ∙ ap (bit four) (sym (S .rows e g .0)) ∙ f))
+            go false q = S .down e g .cannot q m
+        back e l m h f (no g) = go (bit (A .less) u) refl
+          where
+            k : ℕ
+            k = e - n
+
+            is : n + k ≡ e
+            is = omega arith
+
+            kK : k < K
+            kK = omega (arith, S .arcs)
+
+            ku : k ≡ u
+            ku = sym (S .sets k kK .1) ∙ ap (G .head) is ∙ h
+
+            go : (r : Bool) → bit (A .less) u ≡ r → x e ≤ G .low e
+            go true q =
+                let w : u + 1 ≡ G .tail e = omega (arith, ku, S .sets k kK .0, ap (G .tail) is) in
+                absurd (true≢false (sym (d .swept q) ∙ ap (bit four) w ∙ f))
+            go false q = rw is at (S .less k kK .cannot (ap (bit (A .less)) ku ∙ q) (ap may is ∙ m))
+
+-- what is done is seen
+pub leave-within : (u seen seen' done done' : ℕ) → ((v : ℕ) → bit seen v ≡ true → bit seen' v ≡ true) → bit seen u ≡ true
+    → ((v : ℕ) → bit done' v ≡ (bit done v || eqb v u)) → ((v : ℕ) → bit done v ≡ true → bit seen v ≡ true)
+    → (v : ℕ) → bit done' v ≡ true → bit seen' v ≡ true
+leave-within u seen seen' done done' wider us one sub v q =
+    wider v (one-of (bit done v) v u (sym (one v) ∙ q) (sub v) (λ e. rw e us))

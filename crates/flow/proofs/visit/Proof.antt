@@ -1,143 +1,86 @@
--- `visit` goes down the list of the arcs at u. Its invariant is the record `Visited`, as far as the list has been gone through.
+-- `visit` takes one row after the other; those in `done` are met.
 use borrow.Author.Needs.{needs}
-use mathlib.Core.Path.{_≡_, refl, _∙_}
-use mathlib.Core.Logic.{⊎-elim}
-use Prim.Native.Nat.{_-_, _<_, _≤_}
+use mathlib.Core.Path.{_≡_, sym, _∙_}
+use mathlib.Core.Bool.{true, false, not, false≢true}
+use Prim.Native.Nat.{ℕ, _<_}
 use native.Mathlib.Omega.{arith}
-use lib.ListN.{length, length-set}
+use lib.ListN.{length}
+use Rattle.numbers.specs.Finite.{count}
 use Rattle.numbers.specs.Lists.{at}
+use Rattle.numbers.specs.Word.{bit}
+use Rattle.numbers.proofs.Word.{bit-zero}
 use Rattle.flow.specs.Network.{places-most}
 use Rattle.flow.specs.Way.{Visited}
-use Rattle.flow.proofs.Network.{put-set}
-use Rattle.flow.proofs.Ways.{bit-one-more, visit-start, visit-skip, visit-mark, visit-end}
+use Rattle.flow.proofs.Words.{bit-one-more, in-first, fewer, one-of}
+use Rattle.flow.proofs.Ways.{visit-start, visit-next}
 use Rattle.flow.proofs.visit.Statement.{statement}
 use Rattle.flow.proofs.visit.Tie as tie
 
 abbrev Inv-loop : tie.InvT-loop
-Inv-loop near far upper lower first next arcs n floor u seen by₀ w all₀ cur₀ by all cur =
-    (length by ≡ places-most) × (cur ≤ arcs) × (0 < cur → at near (cur - 1) ≡ u) × (w ≡ at by₀ u)
-    × Visited arcs n floor cur (at near) (at far) (at upper) (at lower) u seen all (at by₀) (at by)
+Inv-loop far rows way seen by₀ all₀ done₀ by all done =
+    (length by ≡ places-most) × ((i : ℕ) → bit done i ≡ true → bit rows i ≡ true)
+    × Visited 64 (bit done) (at far) way seen all (at by₀) (at by)
 
 abbrev μ-loop : tie.MeasureT-loop
-μ-loop near far upper lower first next arcs n floor u seen by₀ w all₀ cur₀ by all cur = cur
+μ-loop far rows way seen by₀ all₀ done₀ by all done = count 64 (λ i. not (bit done i))
 
-abbrev start : tie.In-loop Inv-loop μ-loop → tie.Start Inv-loop μ-loop
-start l = l .before .before .before .before
-
--- the arc that is looked at, and its far end
-arc-in : (l : tie.In-loop Inv-loop μ-loop) → l .before .loop .cur - 1 < start l .args .arcs
-arc-in l = omega (arith, l .before .loop .inv .1, l .loop-test .taken)
-
-far-in : (l : tie.In-loop Inv-loop μ-loop) → at (start l .args .far .now) (l .before .loop .cur - 1) < 64
-far-in l = start l .pre .3 (l .before .loop .cur - 1) (arc-in l)
-
-mul-w : tie.Need-mul-w Inv-loop μ-loop
-mul-w c = search needs
-
-element-copy-out-w : tie.Need-element-copy-out-w Inv-loop μ-loop
-element-copy-out-w c = search needs
-
-element-copy-out-cur : tie.Need-element-copy-out-cur Inv-loop μ-loop
-element-copy-out-cur c = search needs
-
-cast-cur : tie.Need-cast-cur Inv-loop μ-loop
-cast-cur c = let z = c .before .before in omega (arith, z .pre .4 .first-le (z .args .u), z .pre .0)
+-- the row that is taken
+picked : (p : tie.After-pick Inv-loop μ-loop)
+    → (bit (p .before .before .before .args .rows) (p .pick .result) ≡ true)
+    × (bit (p .before .before .loop .done) (p .pick .result) ≡ false)
+picked p = in-first _ _ (p .pick .ensures .1) (p .before .before .loop .inv .1 (p .pick .result))
 
 loop-holds : tie.Need-loop-holds Inv-loop μ-loop
-loop-holds c =
-    let z = c .before .before in
-    let k = z .pre .4 in
-    (z .pre .6, k .first-le (z .args .u), k .first-own (z .args .u), refl, visit-start _ _ _ _ _ _ _ _ _ k _ _ _ (z .pre .5))
+loop-holds c = (c .pre .1, λ i q. absurd (false≢true (sym (bit-zero i) ∙ q)), visit-start (c .args .rows) _ _ _ _)
 
-sub-c : tie.Need-sub-c Inv-loop μ-loop
-sub-c c = search needs
+-- its far end is a place
+near : (p : tie.After-pick Inv-loop μ-loop) → at (p .before .before .before .args .far .now) (p .pick .result) < places-most
+near p = p .before .before .before .pre .0 (p .pick .result) (picked p .0)
 
-element-copy-out-q : tie.Need-element-copy-out-q Inv-loop μ-loop
-element-copy-out-q c = omega (arith, arc-in c, start c .pre .0)
+pick-requires : tie.Need-pick-requires Inv-loop μ-loop
+pick-requires c κs = λ q. c .loop-test .taken (sym q)
 
-cast-q : tie.Need-cast-q Inv-loop μ-loop
-cast-q c = omega (arith, far-in (c .before))
+element-copy-out-p : tie.Need-element-copy-out-p Inv-loop μ-loop
+element-copy-out-p c = omega (arith, c .pick .ensures .0)
 
-mul-fresh : tie.Need-mul-fresh Inv-loop μ-loop
-mul-fresh c = search needs
+cast-p : tie.Need-cast-p Inv-loop μ-loop
+cast-p c = omega (arith, near (c .before))
 
-element-copy-out-fresh : tie.Need-element-copy-out-fresh Inv-loop μ-loop
-element-copy-out-fresh c = omega (arith, arc-in (c .before), start (c .before) .pre .0)
+shl-reach : tie.Need-shl-reach Inv-loop μ-loop
+shl-reach c = omega (arith, c .before .pick .ensures .0)
 
-mul-fresh-2 : tie.Need-mul-fresh-2 Inv-loop μ-loop
-mul-fresh-2 c = search needs
+reach-requires : tie.Need-reach-requires Inv-loop μ-loop
+reach-requires c κs = let p = c .before .before in (near p, p .before .before .loop .inv .0)
 
-element-copy-out-fresh-2 : tie.Need-element-copy-out-fresh-2 Inv-loop μ-loop
-element-copy-out-fresh-2 c = omega (arith, arc-in (c .before .before), start (c .before .before) .pre .0)
-
-fresh-requires : tie.Need-fresh-requires Inv-loop μ-loop
-fresh-requires c κs = far-in (c .before .before .before)
-
-joined-requires : tie.Need-joined-requires Inv-loop μ-loop
-joined-requires c κs = start (c .before .before .before .before .before) .pre .1
-
-mul-by : tie.Need-mul-by Inv-loop μ-loop
-mul-by c = omega (arith, far-in (c .before .before .before .before .before .before))
-
-element-write-by : tie.Need-element-write-by Inv-loop μ-loop
-element-write-by c =
-    let l = c .before .before .before .before .before .before in
-    omega (arith, far-in l, l .before .loop .inv .0)
-
-shl-all : tie.Need-shl-all Inv-loop μ-loop
-shl-all c = omega (arith, far-in (c .before .before .before .before .before .before))
-
-element-copy-out-cur-2 : tie.Need-element-copy-out-cur-2 Inv-loop μ-loop
-element-copy-out-cur-2 c = let l = c .before .before .before .before .before in omega (arith, arc-in l, start l .pre .0)
-
-cast-cur-2 : tie.Need-cast-cur-2 Inv-loop μ-loop
-cast-cur-2 c =
-    let l = c .before .before .before .before .before .before in
-    omega (arith, start l .pre .4 .next-le (l .before .loop .cur - 1) (arc-in l), arc-in l, start l .pre .0)
+shl-done : tie.Need-shl-done Inv-loop μ-loop
+shl-done c = omega (arith, c .before .before .before .pick .ensures .0)
 
 loop-less : tie.Need-loop-less Inv-loop μ-loop
 loop-less c =
-    let l = c .before .before .before .before .before .before in
-    omega (arith, start l .pre .4 .next-le (l .before .loop .cur - 1) (arc-in l), l .loop-test .taken)
+    let p = c .before .before .before in
+    let l = p .pick .ensures .0 in
+    let d = p .before .before .loop .done in
+    fewer d _ (p .pick .result) l (picked p .1) (λ v. bit-one-more d (p .pick .result) v l)
 
 loop-again : tie.Need-loop-again Inv-loop μ-loop
 loop-again c =
-    let l = c .before .before .before .before .before .before in
-    let z = start l in
-    let a = z .args in
-    let u = l .before .loop in
-    let k = z .pre .4 in
-    let pc = arc-in l in
-    let own = u .inv .2 (omega (arith, l .loop-test .taken)) in
-    let top : at (a .next .now) (u .cur - 1) ≤ a .arcs = omega (arith, k .next-le (u .cur - 1) pc, u .inv .1) in
-    let f = c .before .before .fresh .ensures in
-    let g : at (a .far .now) (u .cur - 1) < length (u .by) = omega (arith, far-in l, u .inv .0) in
-    ⊎-elim
-    (λ w.
-    let n = f .new (w .0 .taken) in
-    let p = put-set (u .by) (at (a .far .now) (u .cur - 1)) (w .1 .result) g in
-    rw (w .2, w .3) (
-      simp length-set (u .inv .0),
-      top,
-      λ q. k .next-own (u .cur - 1) pc q ∙ own,
-      u .inv .3,
-      visit-mark _ _ _ _ _ _ _ _ _ k _ _ _ (z .pre .5) _ _ _ (u .inv .4) (l .loop-test .taken) (u .inv .1) own _ _ (w .1 .result) (n .1) (n .0)
-          (λ v. bit-one-more (u .all) (at (a .far .now) (u .cur - 1)) v (far-in l))
-          p (rw (u .inv .3) at (w .1 .ensures)),
-    ))
-    (λ w. rw (w .1, w .2) (
-      u .inv .0,
-      top,
-      λ q. k .next-own (u .cur - 1) pc q ∙ own,
-      u .inv .3,
-      visit-skip _ _ _ _ _ _ _ _ _ k _ _ _ (z .pre .5) _ _ _ (u .inv .4) (l .loop-test .taken) (u .inv .1) own (f .not (w .0 .left)),
-    ))
-    (c .before .if1 .came)
+    let p = c .before .before .before in
+    let u = p .before .before .loop in
+    let a = p .before .before .before .args in
+    let i = p .pick .result in
+    let l = p .pick .ensures .0 in
+    let e = c .reach .ensures in (
+      e .0,
+      λ v q. one-of (bit (u .done) v) v i (sym (bit-one-more (u .done) i v l) ∙ q) (u .inv .1 v) (λ k. rw k (picked p .0)),
+      visit-next (a .rows) _ _ _ _ (u .done) _ i _ _ _ _ _ (u .inv .2) (λ v. bit-one-more (u .done) i v l)
+          (λ v. bit-one-more (a .way) i v l) (e .1),
+    )
 
 returns : tie.Need-returns Inv-loop μ-loop
 returns c =
     let u = c .before .loop in
-    (u .inv .0, visit-end _ _ _ _ _ _ _ _ _ _ _ _ _ (omega (arith, c .loop-test .left)) (u .inv .4))
+    let q : u .done ≡ c .before .before .args .rows = omega arith in
+    (u .inv .0, rw q at (u .inv .2))
 
 pub visit-spec : {M : Type 1} → statement M
 visit-spec =
@@ -145,25 +88,13 @@ visit-spec =
     (tie.spec
     Inv-loop
     μ-loop
-    mul-w
-    element-copy-out-w
-    element-copy-out-cur
-    cast-cur
     loop-holds
-    sub-c
-    element-copy-out-q
-    cast-q
-    mul-fresh
-    element-copy-out-fresh
-    mul-fresh-2
-    element-copy-out-fresh-2
-    fresh-requires
-    joined-requires
-    mul-by
-    element-write-by
-    shl-all
-    element-copy-out-cur-2
-    cast-cur-2
+    pick-requires
+    element-copy-out-p
+    cast-p
+    shl-reach
+    reach-requires
+    shl-done
     loop-less
     loop-again
     returns)
