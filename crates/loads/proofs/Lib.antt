@@ -1,5 +1,6 @@
 pub mod Line
-pub mod Filling
 pub mod Choice
-pub mod Taking
-pub mod Whole
+pub mod Settling
+pub mod Comparing
+pub mod Turning
+pub mod States

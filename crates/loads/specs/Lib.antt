@@ -1,4 +1,3 @@
 pub mod Loads
-pub mod Laid
-pub mod Taken
-pub mod Whole
+pub mod Line
+pub mod State

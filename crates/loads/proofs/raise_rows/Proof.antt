@@ -1,93 +1,139 @@
--- `raise_rows` puts the lags on the arcs, raises the rows' arcs within the bounds, and divides by h.
+-- `raise_rows` raises one row after the other: those passed are settled.
 use borrow.Author.Needs.{needs}
-use mathlib.Core.Path.{refl}
-use Prim.Native.Nat.{_+_}
+use mathlib.Core.Path.{_≡_, refl, sym, ap, _∙_}
+use mathlib.Core.Bool.{Bool, _&&_}
+use mathlib.Core.Logic.{⊎-elim}
+use Prim.Native.Nat.{ℕ, _+_, _-_, _≤_, _<_}
 use native.Mathlib.Omega.{arith}
-use Rattle.flow.specs.Network.{places-most, Net, net}
-use Rattle.loads.proofs.Filling.{lines-ends, lagging-most, summed-most}
-use Rattle.loads.proofs.Choice.{lags-circ, lags-within, loads-greatest}
+use lib.Dec.{leb}
+use borrow.Author.Tests.{le-leb}
+use Rattle.numbers.specs.Lists.{at}
+use Rattle.numbers.specs.Word.{bit}
+use Rattle.flow.specs.Raised.{Settled}
+use Rattle.flow.proofs.Raising.{settle-start}
+use Rattle.loads.specs.Loads.{last, digit}
+use Rattle.loads.specs.Line.{carried, line}
+use Rattle.loads.specs.State.{Asked, State, Mended, Turn}
+use Rattle.loads.proofs.Settling.{carried-circ, settled-greatest}
+use Rattle.loads.proofs.States.{sums-most, after-next, after-step, raised-next, raised-same}
 use Rattle.loads.proofs.raise_rows.Statement.{statement}
 use Rattle.loads.proofs.raise_rows.Tie as tie
 
-abbrev start : tie.After-bound-arcs → tie.Start
-start b = b .before .before .before .before .before .before .before .before
+abbrev Inv-loop : tie.InvT-loop
+Inv-loop tail head out into words sums size s₀ later₀ i₀ s later i =
+    (i ≤ size .rows) × ((j : ℕ) → j < size .rows → bit later j ≡ (leb i j && bit (s .parted) j))
+    × ((f : ℕ → ℕ) → Asked (size .rows) (size .sets) (size .hyper) tail head out into words sums f
+    → Mended (size .rows) (size .sets) (size .hyper) tail head f s₀
+    → State (size .rows) (size .sets) (size .hyper) tail head f s
+    × Settled i (line (size .rows) (size .sets) (at tail) (last head) (size .hyper) f)
+    (carried (size .rows) (at tail) (last head) (digit (s .top))))
 
--- the network with its bounds
-abbrev graph : tie.After-bound-arcs → Net
-graph b =
-    let a = start b .args in
-    net (a .rows + a .sets) (a .tail .now) (a .head .now) (b .bound-arcs .last .1 .1 .1 .0) (b .bound-arcs .last .1 .1 .1 .1 .0)
+abbrev μ-loop : tie.MeasureT-loop
+μ-loop tail head out into words sums size s₀ later₀ i₀ s later i = size .rows - i
 
-set-lags-requires : tie.Need-set-lags-requires
-set-lags-requires c κs = let p = c .before .pre in (p .0 .few-rows, p .0 .few-sets, p .2, p .3 .x-size)
+abbrev entry : tie.Then1 Inv-loop μ-loop → tie.Start Inv-loop μ-loop
+entry t = t .before .before .before
 
-add-rows-requires : tie.Need-add-rows-requires
-add-rows-requires c κs =
-    let p = c .before .before .before .pre in
-    let y = c .before .set-lags .ensures in
-    (p .0, y .0, lagging-most _ _ _ _ _ _ (p .2) (y .1), y .1 .sets)
+abbrev state : tie.Then1 Inv-loop μ-loop → tie.At-loop Inv-loop μ-loop
+state t = t .before .before
 
-add-arcs : tie.Need-add-arcs
-add-arcs c = search needs
+low-row : (t : tie.Then1 Inv-loop μ-loop) → state t .loop .i < 64
+low-row t = omega (arith, t .if1 .taken, entry t .pre .1 .laid .ends .spans .few-rows)
 
-bound-arcs-requires : tie.Need-bound-arcs-requires
-bound-arcs-requires c κs =
-    let p = c .before .before .before .before .before .before .before .pre in
-    let y = c .before .before .before .before .before .set-lags .ensures .1 in
-    let s = c .before .before .before .add-rows .ensures .1 in (
-      omega (arith, p .0 .few-rows, p .0 .few-sets),
-      p .2 .some,
-      p .2 .fits,
-      summed-most _ _ _ _ _ _ _ s (p .0 .few-rows) (lagging-most _ _ _ _ _ _ (p .2) y) (omega arith),
-      p .3 .low-size,
-      p .3 .high-size,
-    )
+loop-holds : tie.Need-loop-holds Inv-loop μ-loop
+loop-holds c = (
+  omega arith,
+  λ j l. sym (ap (λ (b : Bool). b && bit (c .args .start .parted) j) (le-leb 0 j (omega arith))),
+  λ f A M. (M .state, settle-start _ _ (carried-circ _ _ _ _ _ f (A .laid .ends .spans) (A .parts) (digit (c .args .start .top))) (M .within)),
+)
 
-settle-requires : tie.Need-settle-requires
-settle-requires c κs =
-    let b = c .before .before .before in
-    let p = start b .pre in
-    let y = b .before .before .before .before .before .before .set-lags .ensures .1 in
-    let s = b .before .before .before .before .add-rows .ensures in
-    let d = b .bound-arcs .ensures .2 in (
-      record {
-        few = omega (arith, p .0 .few-rows, p .0 .few-sets);
-        ends = lines-ends _ _ places-most _ _ _ _ (p .0) (omega (arith, p .0 .few-sets)) (p .1 .lines);
-        by-tail = p .1 .by-tail;
-        by-head = p .1 .by-head;
-      },
-      omega arith,
-      lags-within _ _ _ _ _ _ _ _ (graph b) _ (p .0) (p .2) y (s .1) refl (p .1 .lines) d,
-      lags-circ _ _ _ _ _ _ _ _ (graph b) _ (p .0) (p .2) y (s .1) refl (p .1 .lines) d,
-      s .0,
-    )
+without-requires : tie.Need-without-requires Inv-loop μ-loop
+without-requires c κs = low-row c
 
-divide-requires : tie.Need-divide-requires
-divide-requires c κs =
-    let p = start (c .before .before .before .before .before .before) .pre in
-    (p .0 .few-rows, p .2 .some, p .3 .loads-size)
+-- the row's turn
+turn : (w : tie.After-without Inv-loop μ-loop) (f : ℕ → ℕ)
+    → Asked (entry (w .before) .args .size .rows) (entry (w .before) .args .size .sets) (entry (w .before) .args .size .hyper)
+    (entry (w .before) .args .tail .now) (entry (w .before) .args .head .now) (entry (w .before) .args .out .now)
+    (entry (w .before) .args .into .now) (entry (w .before) .args .words .now) (entry (w .before) .args .sum .now) f
+    → Mended (entry (w .before) .args .size .rows) (entry (w .before) .args .size .sets) (entry (w .before) .args .size .hyper)
+    (entry (w .before) .args .tail .now) (entry (w .before) .args .head .now) f (entry (w .before) .args .start)
+    → Turn (entry (w .before) .args .size .rows) (entry (w .before) .args .size .sets) (entry (w .before) .args .size .hyper)
+    (entry (w .before) .args .tail .now) (entry (w .before) .args .head .now) (entry (w .before) .args .out .now)
+    (entry (w .before) .args .into .now) f (state (w .before) .loop .s) (w .without .result) (state (w .before) .loop .i)
+turn w f A M =
+    let u = state (w .before) .loop in
+    let r = u .inv .2 f A M in record {
+      ends = A .laid .ends;
+      parts = A .parts;
+      mended = record { state = r .0; within = r .1 .within };
+      row = w .before .if1 .taken;
+      after = after-next _ (u .i) (u .later) (w .without .result) (bit (u .s .parted)) (u .inv .1) (w .without .ensures);
+    }
 
-returns : tie.Need-returns
-returns c =
-    let b = c .before .before .before .before .before .before .before in
-    let p = start b .pre in
-    let y = b .before .before .before .before .before .before .set-lags .ensures .1 in
-    let s = b .before .before .before .before .add-rows .ensures in
-    let d = b .bound-arcs .ensures in
-    let x = c .before .before .before .settle .ensures in
-    let l = c .divide .ensures in (
-      record { x-size = x .0; low-size = d .0; high-size = d .1; loads-size = l .0 },
-      loads-greatest _ _ _ _ _ _ _ _ (graph b) _ (p .0) (p .2) y (s .1) refl (p .1 .lines) (d .2) _ _ (x .1) (l .1),
-    )
+seek-requires : tie.Need-seek-requires Inv-loop μ-loop
+seek-requires c κs = let q = entry (c .before) .pre in (q .0, turn c (q .0) (q .1) (q .2))
+
+compare-requires : tie.Need-compare-requires Inv-loop μ-loop
+compare-requires c κs =
+    let q = entry (c .before .before .before .before) .pre in
+    (q .1 .laid .ends .spans .few-sets, q .1 .parts .fits, sums-most (q .1))
+
+-- the rows that are left
+rest : (w : tie.After-without Inv-loop μ-loop) (j : ℕ) → j < entry (w .before) .args .size .rows
+    → bit (w .without .result) j ≡ (leb (state (w .before) .loop .i + 1) j && bit (state (w .before) .loop .s .parted) j)
+rest w =
+    let u = state (w .before) .loop in
+    after-step _ (u .i) (w .without .result) (bit (u .s .parted))
+    (after-next _ (u .i) (u .later) (w .without .result) (bit (u .s .parted)) (u .inv .1) (w .without .ensures))
+
+add-i : tie.Need-add-i Inv-loop μ-loop
+add-i c = omega (arith, low-row (c .before .before .before))
+
+loop-less : tie.Need-loop-less Inv-loop μ-loop
+loop-less c = omega (arith, c .before .before .before .if1 .taken)
+
+loop-again : tie.Need-loop-again Inv-loop μ-loop
+loop-again c =
+    let k = c .before in
+    let w = k .before in
+    let t = w .before in
+    let u = state t .loop in
+    ⊎-elim
+    (λ z. rw (z .3) (
+      omega (arith, t .if1 .taken),
+      λ j l. rest w j l ∙ ap (λ (b : ℕ). leb (u .i + 1) j && bit b j) (sym (z .2 .ensures .0)),
+      λ f A M.
+          let r = u .inv .2 f A M in
+          raised-next A (u .s) (k .seek .result) (u .i) (r .0) (r .1) (k .seek .ensures f (turn w f A M)) (z .2 .result)
+          (z .2 .ensures .0) (z .2 .ensures .1) (z .2 .ensures .2),
+    ))
+    (λ z. rw (z .1) (
+      omega (arith, t .if1 .taken),
+      rest w,
+      λ f A M.
+          let r = u .inv .2 f A M in
+          raised-same A (u .s) (k .seek .result) (u .i) (r .0) (r .1) (k .seek .ensures f (turn w f A M)) (omega (arith, z .0 .left)),
+    ))
+    (c .if2 .came)
+
+returns : tie.Need-returns Inv-loop μ-loop
+returns c f A M =
+    let u = c .before .before .loop in
+    let r = u .inv .2 f A M in
+    let e : u .i ≡ c .before .before .before .args .size .rows = omega (arith, c .if1 .left, u .inv .0) in
+    settled-greatest _ _ _ _ _ f (A .laid .ends .spans) (A .parts) (digit (u .s .top)) (rw e at (r .1))
 
 pub raise-rows-spec : {M : Type 1} → statement M
 raise-rows-spec =
     tie.close
     (tie.spec
-    set-lags-requires
-    add-rows-requires
-    add-arcs
-    bound-arcs-requires
-    settle-requires
-    divide-requires
+    Inv-loop
+    μ-loop
+    loop-holds
+    without-requires
+    seek-requires
+    compare-requires
+    add-i
+    loop-less
+    loop-again
     returns)
