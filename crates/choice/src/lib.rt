@@ -78,8 +78,8 @@ fn lift(sum: &mut [u64; SETS], from: usize, to: usize, v: u64)
 
 // Adds each row's part to the sums of its sets, which are 0.
 fn add_parts(tail: &[u8; ROWS], head: &[u8; ROWS], part: &[u64; ROWS], size: Size, sum: &mut [u64; SETS])
-    requires { ⌜ Spans (size .rows) (size .sets) (at (now tail)) (last (now head)) × Parts (size .rows) (size .hyper) (at (now part))
-        × ((k : ℕ) → at (now sum) k ≡ 0) × (length (now sum) ≡ max-elements) ⌝ }
+    requires { ⌜ Spans (size .rows) (size .sets) (at (now tail)) (last (now head)) × ((i : ℕ) → i < size .rows → 0 < at (now head) i)
+        × Parts (size .rows) (size .hyper) (at (now part)) × ((k : ℕ) → at (now sum) k ≡ 0) × (length (now sum) ≡ max-elements) ⌝ }
     ensures { λ r. ⌜ (length (now (sum .exit)) ≡ max-elements)
         × Summed (size .rows) (size .sets) (at (now (tail .entry))) (last (now (head .entry))) (at (now (part .entry)))
         (at (now (sum .exit))) ⌝ }
@@ -135,7 +135,8 @@ fn lower(left: &mut [u64; SETS], from: usize, to: usize, h: u64)
 
 // Rounds up one row after the other, where its sets have room. `left` holds the sets' sums, and then what is left of them.
 fn take_rows(tail: &[u8; ROWS], head: &[u8; ROWS], part: &[u64; ROWS], size: Size, left: &mut [u64; SETS]) -> u64
-    requires { ⌜ Spans (size .rows) (size .sets) (at (now tail)) (last (now head)) × Parts (size .rows) (size .hyper) (at (now part))
+    requires { ⌜ Spans (size .rows) (size .sets) (at (now tail)) (last (now head)) × ((i : ℕ) → i < size .rows → 0 < at (now head) i)
+        × Parts (size .rows) (size .hyper) (at (now part))
         × Summed (size .rows) (size .sets) (at (now tail)) (last (now head)) (at (now part)) (at (now left))
         × (length (now left) ≡ max-elements) ⌝ }
     ensures { λ r. ⌜ (length (now (left .exit)) ≡ max-elements)
@@ -175,17 +176,17 @@ fn all_less(left: &[u64; SETS], sets: usize, h: u64) -> bool
 }
 
 // The rows that are not whole.
-fn open_rows(part: &[u64; ROWS], rows: usize) -> u64
+fn parted_rows(part: &[u64; ROWS], rows: usize) -> u64
     requires { ⌜ rows ≤ max-rows ⌝ }
     ensures { λ r. ⌜ ((i : ℕ) → bit r i ≡ (ltb i rows && ltb 0 (at (now (part .entry)) i))) ⌝ }
 {
-    let mut open: u64 = 0;
+    let mut parted: u64 = 0;
     let mut i: usize = 0;
     while i < rows {
-        open = loads::mark(open, i, 0 < part[i]);
+        parted = loads::mark(parted, i, 0 < part[i]);
         i += 1;
     }
-    open
+    parted
 }
 
 // ---- the choice
@@ -212,8 +213,8 @@ pub fn choose(
     if all_less(&left, size.sets, size.hyper) {
         return top;
     }
-    let open = open_rows(part, size.rows);
-    let start = loads::compare(words, &sum, size, open, top);
+    let parted = parted_rows(part, size.rows);
+    let start = loads::compare(words, &sum, size, parted, top);
     let mended = loads::mend(tail, head, out, into, words, &sum, size, start);
     loads::raise_rows(tail, head, out, into, words, &sum, size, mended)
 }

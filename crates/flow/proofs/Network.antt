@@ -23,6 +23,10 @@ put-is f k v = (rw (eq-eqb k k refl), λ w ne. rw (ne-eqb w k ne))
 pub put-set : (l : List ℕ) (k v : ℕ) → k < length l → Put (at l) k v (at (set l k v))
 put-set l k v h = (getD-set-same l k v 0 h, λ w ne. getD-set-other l k w v 0 ne)
 
+-- the same where the value is known by an equation
+pub put-set-is : (l : List ℕ) (k v u : ℕ) → k < length l → v ≡ u → Put (at l) k u (at (set l k v))
+put-set-is l k v u h e = (getD-set-same l k v 0 h ∙ e, λ w ne. getD-set-other l k w v 0 ne)
+
 pub sum-put : (n : ℕ) (D : ℕ → Bool) (x x' : ℕ → ℕ) (c v : ℕ) → c < n → Put x c v x'
     → sumIn n D x' + only (D c) (x c) ≡ sumIn n D x + only (D c) v
 sum-put n D x x' c v l p =
