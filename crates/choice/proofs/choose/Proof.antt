@@ -1,51 +1,96 @@
+-- `choose` is done where the rows in turn leave no set too low, or settles them.
 use borrow.Author.Needs.{needs}
+use mathlib.Core.Path.{_≡_, refl, ap, _∙_}
+use mathlib.Core.Bool.{Bool, _&&_}
+use Prim.Native.Nat.{ℕ, _<_}
+use lib.Dec.{ltb}
+use borrow.Author.Tests.{lt-ltb}
+use Rattle.numbers.specs.Lists.{at}
+use Rattle.numbers.specs.Word.{bit}
+use Rattle.numbers.proofs.Lists.{zeros-at}
+use Rattle.rules.specs.Bounds.{max-elements}
+use Rattle.loads.proofs.States.{sums-most, state-of}
+use Rattle.loads.specs.State.{Asked, State}
+use Rattle.choice.proofs.Taking.{taken-greatest, taken-upper}
 use Rattle.choice.proofs.choose.Statement.{statement}
 use Rattle.choice.proofs.choose.Tie as tie
-use Rattle.choice.proofs.choose.Reads as reads
-use Rattle.choice.proofs.choose.Lts as lts
-use Rattle.choice.proofs.add_parts.Reads as add-parts-reads
-use Rattle.choice.proofs.all_less.Reads as all-less-reads
-use Rattle.choice.proofs.parted_rows.Reads as parted-rows-reads
-use Rattle.choice.proofs.take_rows.Reads as take-rows-reads
-use Rattle.loads.proofs.compare.Reads as compare-reads
-use Rattle.loads.proofs.mend.Reads as mend-reads
-use Rattle.loads.proofs.raise_rows.Reads as raise-rows-reads
 
--- src/lib.rt:210:5
 add-parts-requires : tie.Need-add-parts-requires
-add-parts-requires c κs = ?
+add-parts-requires c κs =
+    let p = c .before .pre in
+    (p .0 .ends .spans, p .0 .ends .heads, p .1, zeros-at max-elements, refl)
 
--- src/lib.rt:212:9
 take-rows-requires : tie.Need-take-rows-requires
 take-rows-requires c κs = search needs
 
--- src/lib.rt:213:8
 all-less-requires : tie.Need-all-less-requires
 all-less-requires c κs = search needs
 
--- src/lib.rt:214:9
-returns : tie.Need-returns
-returns c = ?
+abbrev entry : tie.After-all-less → tie.Start
+entry d = d .before .before .before .before .before .before
 
--- src/lib.rt:216:9
+returns : tie.Need-returns
+returns c =
+    let d = c .before in
+    let p = entry d .pre in
+    taken-greatest _ _ _ _ _ _ (p .0 .ends .spans) (p .1) _ _ (d .before .before .take-rows .ensures .1) (d .all-less .ensures (c .if1 .taken))
+
 parted-rows-requires : tie.Need-parted-rows-requires
 parted-rows-requires c κs = search needs
 
--- src/lib.rt:217:9
+abbrev summing : tie.After-parted-rows → tie.After-add-parts
+summing w = w .before .before .before .before .before .before
+
+-- what is asked
+abbrev Given : tie.After-parted-rows → Type 0
+Given w =
+    let a = entry (w .before .before) .args in
+    Asked (a .size .rows) (a .size .sets) (a .size .hyper) (a .tail .now) (a .head .now) (a .out .now) (a .into .now) (a .words .now)
+    (summing w .add-parts .last .1 .1 .1 .1 .0) (at (a .part .now))
+
+given : (w : tie.After-parted-rows) → Given w
+given w = let p = entry (w .before .before) .pre in record { laid = p .0; parts = p .1; summed = summing w .add-parts .ensures .1 }
+
+-- where the settling starts
+started : (k : tie.After-compare)
+    → State (entry (k .before .before .before .before) .args .size .rows) (entry (k .before .before .before .before) .args .size .sets)
+    (entry (k .before .before .before .before) .args .size .hyper) (entry (k .before .before .before .before) .args .tail .now)
+    (entry (k .before .before .before .before) .args .head .now) (at (entry (k .before .before .before .before) .args .part .now))
+    (k .compare .result)
+started k =
+    let w = k .before .before in
+    let d = w .before .before in
+    let p = entry d .pre in
+    let e = k .compare .ensures in
+    state-of (given w) (k .compare .result) (w .parted-rows .result) (d .before .before .take-rows .result)
+    (λ i l. w .parted-rows .ensures i ∙ ap (λ (b : Bool). b && ltb 0 (at (entry d .args .part .now) i)) (lt-ltb i (entry d .args .size .rows) l))
+    (taken-upper _ _ _ _ _ _ (p .0 .ends .spans) (p .1) _ _ (d .before .before .take-rows .ensures .1)) (e .0) (e .1) (e .2)
+
 compare-requires : tie.Need-compare-requires
-compare-requires c κs = ?
+compare-requires c κs =
+    let w = c .before in
+    let p = entry (w .before .before) .pre in
+    (p .0 .ends .spans .few-sets, p .1 .fits, sums-most (given w))
 
--- src/lib.rt:218:9
 mend-requires : tie.Need-mend-requires
-mend-requires c κs = ?
+mend-requires c κs =
+    let k = c .before in
+    let w = k .before .before in
+    (at (entry (w .before .before) .args .part .now), given w, started k)
 
--- src/lib.rt:219:5
 raise-rows-requires : tie.Need-raise-rows-requires
-raise-rows-requires c κs = ?
+raise-rows-requires c κs =
+    let m = c .before in
+    let k = m .before .before in
+    let w = k .before .before in
+    (at (entry (w .before .before) .args .part .now), given w, m .mend .ensures _ (given w) (started k))
 
--- src/lib.rt:195:1
 returns-2 : tie.Need-returns-2
-returns-2 c = ?
+returns-2 c =
+    let m = c .before .before in
+    let k = m .before .before in
+    let w = k .before .before in
+    c .raise-rows .ensures _ (given w) (m .mend .ensures _ (given w) (started k))
 
 pub choose-spec : {M : Type 1} → statement M
 choose-spec =
