@@ -3,21 +3,21 @@
 use mathlib.Core.Path.{_≡_, refl, sym, ap₂, _∙_, subst}
 use mathlib.Core.Logic.{_⊎_, _↔_, inl, inr, ⊎-elim}
 use mathlib.Core.List.{List, [], _∷_, _++_}
-use Prim.Native.Nat.{ℕ}
-use lib.Dec.{lit<}
+use Prim.Native.Nat.{ℕ, _<_}
+use lib.Dec.{lit<, lit≤}
 use Rattle.numbers.specs.Finite.{any, every, lowest, highest, only, sum, largest}
 use Rattle.numbers.specs.Word.{bit}
 use Rattle.numbers.specs.Divisors.{gcd, lcm, product}
 use Rattle.numbers.specs.Rounding.{Rounded}
 use Rattle.numbers.specs.Lists.{each}
-use Rattle.rules.specs.Bus.{steps, uses, through, overlap}
+use Rattle.rules.specs.Bus.{Table, steps, uses, through, overlap}
 use Rattle.rules.specs.TableFile.{bytes}
 use Rattle.rules.specs.Line.{clear, cut, onLine, lineFirst, lineSecond, Sets}
 use Rattle.rules.specs.Loads.{hyperperiod, shortest, start, end, intervals, rate, equalPeriods, light, over, reported}
 use Rattle.rules.specs.Interval.{before, hinders, free}
-use Rattle.rules.specs.Planner.{none, more, standing, WholePlan}
+use Rattle.rules.specs.Planner.{none, more, Off, standing, WholePlan}
 use Rattle.rules.specs.Refusals.{header-checks, row-checks, file-checks, line-checks, bound-checks, verdict-checks}
-use Rattle.rules.specs.Cases.{case-A, case-B, case-B-with, equal-with, round, Cases}
+use Rattle.rules.specs.Cases.{case-A, case-B, case-B-with, equal-with, round, thirds, Cases}
 use Rattle.rules.proofs.Sets.{sets-only, sets-by}
 use Rattle.rules.proofs.Verdict.{verdict-by}
 use Rattle.rules.proofs.Steps.{Outcome, Outcomes, moved-on, outcomes-by, step-is, step-of, run-more, run-first, standing-at}
@@ -39,6 +39,14 @@ sets-A = sets-by case-A (3 ∷ 6 ∷ []) tt
 sets-B : (cost : ℕ) → Sets (case-B-with cost) (3 ∷ [])
 unfolding computing
 sets-B cost = sets-by (case-B-with cost) (3 ∷ []) tt
+
+sets-thirds : Sets thirds (1 ∷ [])
+unfolding computing
+sets-thirds = sets-by thirds (1 ∷ []) tt
+
+-- a list of sets that is there is the only one
+listed : (t : Table) (ws vs : List ℕ) → 0 < t .rows → Sets t vs → Sets t ws ↔ (ws ≡ vs)
+listed t ws vs some S = ((λ A. sets-only some A S), (λ e. subst (Sets t) (sym e) S))
 
 -- ---- the outcomes of each step: loads, and words
 
@@ -102,17 +110,22 @@ unfolding computing
 cases = record {
   p1-bytes = refl;
   p1-cut = refl;
-  p1-sets = λ ws. ((λ A. sets-only (lit< tt) A sets-A), (λ e. subst (Sets case-A) (sym e) sets-A));
+  p1-end = refl;
+  p1-sets = λ ws. listed case-A ws (3 ∷ 6 ∷ []) (lit< tt) sets-A;
   p1-words = plan-A;
   p2-interval = refl;
   p2-hyper = refl;
-  p2-load = λ ws A. rw (sets-only (lit< tt) A (sets-B 3));
+  p2-sets = λ ws. listed case-B ws (3 ∷ []) (lit< tt) (sets-B 3);
+  p2-load = refl;
   p2-plans = plans-B;
   p3 = λ ws q s. ⊎-elim
-      (λ a. inl (standing-at case-B (a .1) 1 (lit< tt)))
-      (λ r. ⊎-elim (λ a. inr (standing-at case-B (a .1) 1 (lit< tt))) absurd r)
+      (λ a. inl (a .0, standing-at case-B (a .1) 1 (lit< tt)))
+      (λ r. ⊎-elim (λ a. inr (a .0, standing-at case-B (a .1) 1 (lit< tt))) absurd r)
       (step-is step-B (refl, λ i l. refl) s);
-  p4-load = λ ws A. rw (sets-only (lit< tt) A (sets-B 4));
+  p3-behind = (_, step-of (step-B .each .0));
+  p3-ahead = (_, step-of (step-B .each .1 .0));
+  p4-sets = λ ws. listed (case-B-with 4) ws (3 ∷ []) (lit< tt) (sets-B 4);
+  p4-load = refl;
   p4 = verdict-by (bytes (case-B-with 4)) (3 ∷ []) 0 0 tt tt refl;
   p5 = verdict-by (bytes (case-B-with 5)) (3 ∷ []) 14 0 tt tt refl;
   p6 = verdict-by (bytes (case-B-with 1)) (3 ∷ []) 13 1 tt tt refl;
@@ -120,4 +133,7 @@ cases = record {
   p8 = verdict-by (bytes (equal-with 1)) (3 ∷ []) 0 0 tt tt refl;
   p9 = verdict-by (bytes (equal-with 2)) (3 ∷ []) 14 0 tt tt refl;
   p10 = verdict-by (bytes round) (7 ∷ []) 10 0 tt tt refl;
+  two-thirds-sets = λ ws. listed thirds ws (1 ∷ []) (lit< tt) sets-thirds;
+  two-thirds = refl;
+  late = Off.late 2 refl (lit≤ tt);
 }

@@ -9,9 +9,9 @@ use Rattle.numbers.specs.Lists.{at}
 use Rattle.numbers.specs.Word.{bit}
 use Rattle.rules.specs.Bus.{Table}
 use Rattle.rules.specs.TableFile.{memoryTable, bytes}
-use Rattle.rules.specs.Line.{cut, Sets}
+use Rattle.rules.specs.Line.{cut, lineSecond, Sets}
 use Rattle.rules.specs.Loads.{hyperperiod, shortest, load, reported}
-use Rattle.rules.specs.Planner.{Planner, fresh, standing, Step, WholePlan}
+use Rattle.rules.specs.Planner.{due, Planner, fresh, Off, standing, Step, WholePlan}
 use Rattle.rules.specs.Refusals.{Answers, verdict-checks}
 
 -- M 4, rows (2,4,1,3), (1,4,2,4), (2,4,3,1)
@@ -33,6 +33,10 @@ equal-with cost = memoryTable 2 2 (3 ∷ 4 ∷ 1 ∷ 2 ∷ cost ∷ 4 ∷ 1 ∷ 
 abbrev pub round : Table
 round = memoryTable 3 3 (1 ∷ 4 ∷ 1 ∷ 3 ∷ 1 ∷ 4 ∷ 2 ∷ 1 ∷ 1 ∷ 4 ∷ 3 ∷ 2 ∷ [])
 
+-- M 2, row (2,3,1,2): its load is 2/3
+abbrev pub thirds : Table
+thirds = memoryTable 2 1 (2 ∷ 3 ∷ 1 ∷ 2 ∷ [])
+
 -- the verdict on a table's file gives this number and place
 abbrev Verdict : Table → ℕ → ℕ → Type 0
 Verdict t number place = Answers (verdict-checks (bytes t)) number place
@@ -43,18 +47,26 @@ pub record Cases : Type 0 where
       ≡ 0x52 ∷ 0x42 ∷ 0x54 ∷ 0x01 ∷ 0x00 ∷ 0x04 ∷ 0x03 ∷ 0x02 ∷ 0x00 ∷ 0x04 ∷ 0x00 ∷ 0x01 ∷ 0x03 ∷ 0x01 ∷ 0x00 ∷ 0x04 ∷ 0x00 ∷ 0x02 ∷ 0x04
       ∷ 0x02 ∷ 0x00 ∷ 0x04 ∷ 0x00 ∷ 0x03 ∷ 0x01 ∷ []
   pub p1-cut : cut case-A ≡ 1
+  -- row 2 ends at the cut: its second end on the line is M + 1
+  pub p1-end : lineSecond case-A 2 ≡ 5
   pub p1-sets : (ws : List ℕ) → Sets case-A ws ↔ (ws ≡ 3 ∷ 6 ∷ [])
   pub p1-words : (ws : List ℕ) → WholePlan case-A ws ↔ (ws ≡ 5 ∷ 5 ∷ 2 ∷ 0 ∷ [])
   -- P2: case B: L 4, h 8, load 625, and exactly two plans qualify
   pub p2-interval : shortest case-B ≡ 4
   pub p2-hyper : hyperperiod case-B ≡ 8
-  pub p2-load : (ws : List ℕ) → Sets case-B ws → reported case-B ws ≡ 625
+  pub p2-sets : (ws : List ℕ) → Sets case-B ws ↔ (ws ≡ 3 ∷ [])
+  pub p2-load : reported case-B (3 ∷ []) ≡ 625
   pub p2-plans : (ws : List ℕ) → WholePlan case-B ws
       ↔ ((ws ≡ 1 ∷ 2 ∷ 0 ∷ 0 ∷ 1 ∷ 2 ∷ 2 ∷ 0 ∷ []) ⊎ (ws ≡ 1 ∷ 2 ∷ 2 ∷ 0 ∷ 1 ∷ 2 ∷ 0 ∷ 0 ∷ []))
-  -- P3: in B, after interval 0, row 1 stands at −4 or 4
-  pub p3 : (ws : List ℕ) (q : Planner) → Step case-B fresh q ws → (standing case-B q 1 ≡ negℤ (pos 4)) ⊎ (standing case-B q 1 ≡ pos 4)
+  -- P3: in B, after interval 0, row 1 stands at −4 or 4: at −4 after the first plan's words, at 4 after the second's, and there are both
+  pub p3 : (ws : List ℕ) (q : Planner) → Step case-B fresh q ws
+      → ((ws ≡ 1 ∷ 2 ∷ 0 ∷ 0 ∷ []) × (standing case-B q 1 ≡ negℤ (pos 4)))
+      ⊎ ((ws ≡ 1 ∷ 2 ∷ 2 ∷ 0 ∷ []) × (standing case-B q 1 ≡ pos 4))
+  pub p3-behind : (q : Planner) × Step case-B fresh q (1 ∷ 2 ∷ 0 ∷ 0 ∷ [])
+  pub p3-ahead : (q : Planner) × Step case-B fresh q (1 ∷ 2 ∷ 2 ∷ 0 ∷ [])
   -- P4: B with the second cost 4: exactly at 3/4, admitted
-  pub p4-load : (ws : List ℕ) → Sets (case-B-with 4) ws → load (case-B-with 4) (bit (at ws 0)) * 4 ≡ 3 * hyperperiod (case-B-with 4)
+  pub p4-sets : (ws : List ℕ) → Sets (case-B-with 4) ws ↔ (ws ≡ 3 ∷ [])
+  pub p4-load : load (case-B-with 4) (bit 3) * 4 ≡ 3 * hyperperiod (case-B-with 4)
   pub p4 : Verdict (case-B-with 4) 0 0
   -- P5: with cost 5: 14, set 0
   pub p5 : Verdict (case-B-with 5) 14 0
@@ -68,3 +80,8 @@ pub record Cases : Type 0 where
   pub p9 : Verdict (equal-with 2) 14 0
   -- P10: every element has some row through it: 10
   pub p10 : Verdict round 10 0
+  -- Beside the marked cases, from the text: the reported load is rounded up, 2/3 is 667
+  pub two-thirds-sets : (ws : List ℕ) → Sets thirds ws ↔ (ws ≡ 1 ∷ [])
+  pub two-thirds : reported thirds (1 ∷ []) ≡ 667
+  -- and a state is off if its interval number is h/L, even where every total is its share: B has intervals 0 and 1
+  pub late : Off case-B (record { stage = due 2; totals = at (2 ∷ 3 ∷ []) })

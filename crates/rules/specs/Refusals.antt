@@ -10,12 +10,11 @@ use mathlib.Core.List.{List, [], _∷_, _++_}
 use Prim.Native.Nat.{ℕ, _+_, _-_, _*_, _≤_, _<_}
 use lib.Dec.{T}
 use lib.ListN.{length}
-use Rattle.numbers.specs.Word.{bit}
-use Rattle.numbers.specs.Lists.{at, each}
+use Rattle.numbers.specs.Lists.{each}
 use Rattle.rules.specs.Bounds.{max-elements, max-rows, max-slots}
 use Rattle.rules.specs.Bus.{Table, through}
 use Rattle.rules.specs.TableFile.{table-mark, table-version, headerSize, rowSize, rowNumbers, mark, version, fileTable, memoryTable}
-use Rattle.rules.specs.Line.{Sets, Tie}
+use Rattle.rules.specs.Line.{setAt, Sets, Tie}
 use Rattle.rules.specs.Loads.{hyperperiod, start, end, light, over}
 use Rattle.rules.specs.Planner.{Stage, due, finished, Planner, Off}
 
@@ -95,7 +94,7 @@ light-row t i = refuse 13 i (T (light t i))
 
 -- an overlap set is over its bound
 abbrev pub over-bound : Table → ℕ → Check
-over-bound t k = refuse 14 k ((ws : List ℕ) × Sets t ws × (k < length ws) × T (over t (bit (at ws k))))
+over-bound t k = refuse 14 k ((ws : List ℕ) × Sets t ws × (k < length ws) × T (over t (setAt ws k)))
 
 -- planner state is off
 abbrev pub off-state : Table → Planner → Check
