@@ -18,18 +18,19 @@ use Rattle.rules.specs.Bus.{Table, steps, uses, through, overlap}
 use Rattle.rules.specs.TableFile.{bytes}
 use Rattle.rules.specs.Line.{clear, cut, onLine, lineFirst, lineSecond, Sets}
 use Rattle.rules.specs.Loads.{hyperperiod, shortest, start, end, intervals, rate, share, equalPeriods, light, over, reported}
-use Rattle.rules.specs.Interval.{before, hinders, free}
+use Rattle.rules.specs.Interval.{lag, before, hinders, free}
 use Rattle.rules.specs.Planner.{Stage, due, finished, none, more, reached, Off, standing, WholePlan}
 use Rattle.rules.specs.Refusals.{header-checks, row-checks, file-checks, line-checks, bound-checks, verdict-checks}
 use Rattle.rules.specs.Cases.{case-A, case-B, case-B-with, equal-with, round, thirds, halves, none-had, B-at, Cases}
 use Rattle.rules.proofs.Sets.{set-in, sets-only, sets-by}
 use Rattle.rules.proofs.Verdict.{verdict-by}
-use Rattle.rules.proofs.Steps.{Outcome, Outcomes, rounded-test, qualify-test, moved-on, outcomes-by, step-is, step-of, run-more, run-first, standing-at}
+use Rattle.rules.proofs.Steps.{Outcome, Outcomes, rounded-test, qualify-test, moved-on, outcomes-by}
+use Rattle.rules.proofs.Steps.{step-is, step-of, run-more, run-first, standing-at}
 
 -- All that computes below: an `unfolding` line that names it opens all that its own line names.
 computing : Unit {0}
 unfolding any every lowest highest only sum bit gcd lcm product Rounded each steps uses through overlap bytes clear cut onLine lineFirst
-    lineSecond hyperperiod shortest start end intervals rate equalPeriods light over largest reported before hinders free standing
+    lineSecond hyperperiod shortest start end intervals rate equalPeriods light over largest reported lag before hinders free standing
     header-checks row-checks file-checks line-checks bound-checks verdict-checks
 computing = tt
 
@@ -168,6 +169,7 @@ cases = record {
   p10 = verdict-by (bytes round) (7 ∷ []) 10 0 tt tt refl;
   two-thirds-sets = λ ws. listed thirds ws (1 ∷ []) (lit< tt) sets-thirds;
   two-thirds = refl;
+  light-lag = (refl, refl, refl);
   sum-met = qualify-test halves 0 (3 ∷ 6 ∷ []) sets-halves none-had (at (2 ∷ 1 ∷ 1 ∷ [])) .is tt;
   sum-over = qualify-test halves 0 (3 ∷ 6 ∷ []) sets-halves none-had (at (2 ∷ 2 ∷ 1 ∷ [])) .of;
   late = Off.late 2 refl (lit≤ tt);
