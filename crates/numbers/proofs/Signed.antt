@@ -115,6 +115,7 @@ sum-diff zero D f g = refl
 sum-diff (suc n) D f g =
     ap (λ (z : ℤ). z +ℤ cond (D n) (pos (f n) -ℤ pos (g n)) (pos 0)) (sum-diff n D f g) ∙ go (sumIn n D f) (sumIn n D g) (D n)
   where
-    go : (p q : ℕ) (b : Bool) → (pos p -ℤ pos q) +ℤ cond b (pos (f n) -ℤ pos (g n)) (pos 0) ≡ pos (p + only b (f n)) -ℤ pos (q + only b (g n))
+    go : (p q : ℕ) (b : Bool)
+        → (pos p -ℤ pos q) +ℤ cond b (pos (f n) -ℤ pos (g n)) (pos 0) ≡ pos (p + only b (f n)) -ℤ pos (q + only b (g n))
     go p q true = diff-add p q (f n) (g n)
     go p q false = +ℤ-idr (pos p -ℤ pos q) ∙ ap₂ (λ (a b : ℕ). pos a -ℤ pos b) (sym (add-zero p)) (sym (add-zero q))

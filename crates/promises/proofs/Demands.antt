@@ -14,7 +14,7 @@ use Rattle.rules.specs.Planner.{finished, WholePlan}
 use Rattle.lags.specs.Lags.{Admissible}
 use Rattle.lags.proofs.Intervals.{hyperperiod-positive, periods-whole, start-last, multiple-starts}
 use Rattle.lags.proofs.Lags.{row-whole}
-use Rattle.promises.specs.Demands.{endless, moved, Demand-3}
+use Rattle.promises.specs.Demands.{endless, moved, Plan-carries}
 use Rattle.promises.proofs.Counts.{stretch-of}
 use Rattle.promises.proofs.Plans.{Ran, ran}
 use Rattle.promises.proofs.Steps.{ran-shares}
@@ -58,8 +58,8 @@ module _ {t : Table} (A : Admissible t) {ws : List ℕ} (W : WholePlan t ws) whe
         plan-whole i (b + 1) l (omega arith),
       )
 
-pub demand-3 : Demand-3
-demand-3 t ws A W = record {
+pub plan-carries : Plan-carries
+plan-carries t ws A W = record {
   size = plan-size A W;
   rows = whole-ran A W .rows;
   apart = whole-ran A W .apart;

@@ -11,7 +11,8 @@ use Rattle.rules.specs.Bus.{Table}
 use Rattle.rules.specs.TableFile.{memoryTable, bytes}
 use Rattle.rules.specs.Line.{cut, lineSecond, Sets}
 use Rattle.rules.specs.Loads.{hyperperiod, shortest, load, reported}
-use Rattle.rules.specs.Planner.{due, Planner, fresh, Off, standing, Step, WholePlan}
+use Rattle.rules.specs.Interval.{lag, Qualify}
+use Rattle.rules.specs.Planner.{Stage, due, finished, Planner, fresh, Off, standing, Step, WholePlan}
 use Rattle.rules.specs.Refusals.{Answers, verdict-checks}
 
 -- M 4, rows (2,4,1,3), (1,4,2,4), (2,4,3,1)
@@ -36,6 +37,22 @@ round = memoryTable 3 3 (1 ∷ 4 ∷ 1 ∷ 3 ∷ 1 ∷ 4 ∷ 2 ∷ 1 ∷ 1 ∷ 4
 -- M 2, row (2,3,1,2): its load is 2/3
 abbrev pub thirds : Table
 thirds = memoryTable 2 1 (2 ∷ 3 ∷ 1 ∷ 2 ∷ [])
+
+-- M 3, rows (3,8,1,2), (3,8,1,3), (1,4,2,3): row 0 and row 1 each have a share of 1 1/2 at slot 4, and 3 together
+abbrev pub halves : Table
+halves = memoryTable 3 3 (3 ∷ 8 ∷ 1 ∷ 2 ∷ 3 ∷ 8 ∷ 1 ∷ 3 ∷ 1 ∷ 4 ∷ 2 ∷ 3 ∷ [])
+
+-- M 3, rows (1,50,1,2), (1,10,2,3): row 0 is light
+abbrev pub fifty : Table
+fifty = memoryTable 3 2 (1 ∷ 50 ∷ 1 ∷ 2 ∷ 1 ∷ 10 ∷ 2 ∷ 3 ∷ [])
+
+-- at first the rows have had no slots
+abbrev pub none-had : ℕ → ℕ
+none-had i = 0
+
+-- case B's planner at a stage, with these totals
+abbrev pub B-at : Stage → List ℕ → Planner
+B-at s totals = record { stage = s; totals = at totals }
 
 -- the verdict on a table's file gives this number and place
 abbrev Verdict : Table → ℕ → ℕ → Type 0
@@ -83,5 +100,15 @@ pub record Cases : Type 0 where
   -- Beside the marked cases, from the text: the reported load is rounded up, 2/3 is 667
   pub two-thirds-sets : (ws : List ℕ) → Sets thirds ws ↔ (ws ≡ 1 ∷ [])
   pub two-thirds : reported thirds (1 ∷ []) ≡ 667
-  -- and a state is off if its interval number is h/L, even where every total is its share: B has intervals 0 and 1
-  pub late : Off case-B (record { stage = due 2; totals = at (2 ∷ 3 ∷ []) })
+  -- the lag of a light row can be below zero: with cost 1, period 50 and L 10 it is 20/50 − 1 in interval 1 after a slot in interval 0
+  pub light-lag : (shortest fifty ≡ 10) × (hyperperiod fifty ≡ 50) × (lag fifty 1 (λ i. 1) 0 ≡ negℤ (pos 30))
+  -- the sums over sets: 2 and 2 are each a lag rounded up, but come to more than the summed lag; 2 and 1 qualify
+  pub sum-met : Qualify halves 0 none-had (at (2 ∷ 1 ∷ 1 ∷ []))
+  pub sum-over : ¬ Qualify halves 0 none-had (at (2 ∷ 2 ∷ 1 ∷ []))
+  -- a state is off if its interval number is h/L, even where every total is its share: B has intervals 0 and 1; finished counts as slot h
+  pub late : Off case-B (B-at (due 2) (2 ∷ 3 ∷ []))
+  pub all-done : ¬ Off case-B (B-at finished (2 ∷ 3 ∷ []))
+  -- or if a total is not the share rounded down or up, here 1 and 1 1/2, or one past the last row is not 0
+  pub on-time : ¬ Off case-B (B-at (due 1) (1 ∷ 2 ∷ []))
+  pub ahead : Off case-B (B-at (due 1) (2 ∷ 1 ∷ []))
+  pub spare : Off case-B (B-at (due 1) (1 ∷ 2 ∷ 1 ∷ []))

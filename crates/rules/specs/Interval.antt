@@ -1,8 +1,8 @@
 -- Document 01, "Loads of one interval, and its slots".
 --
---   Qualify t k had x    x are loads that qualify for interval k, for rows that have had `had` slots already
---   lag t k had i        row i's lag for interval k, in units of 1 / h; it can be below zero
---   ByLags t k had x     the same as Qualify, said of lags
+--   lag t k had i        row i's lag for interval k, where it has had `had i` slots already, in units of 1 / h; it can be below zero
+--   ByLags t k had x     x are loads that qualify for interval k, said of lags
+--   Qualify t k had x    x are loads that qualify for interval k, said of slots had and shares
 --   before f j i         row j is taken before row i: by ascending first end on the line, equal ones by row number
 --   hinders o f j i      row j is taken before row i and overlaps it
 --   free n o f P i s     slot s is free for row i: no earlier row that overlaps it has s
@@ -29,14 +29,6 @@ use Rattle.rules.specs.Bus.{Table, overlap}
 use Rattle.rules.specs.Line.{OverlapSet}
 use Rattle.rules.specs.Loads.{hyperperiod, start, end, share}
 
--- A load is the lag rounded down or up. As the slots already had are whole, this is so just when slots had and load come to the share at
--- the interval's end rounded down or up; and so for the summed lag of a set. `Qualify-by-lags` below says that it is the same.
-pub record Qualify (t : Table) (k : ℕ) (had x : ℕ → ℕ) : Type 0 where
-  pub rows : (i : ℕ) → i < t .rows → Rounded (had i + x i) (share t i (end t k)) (hyperperiod t)
-  pub sets : (D : ℕ → Bool) → OverlapSet (t .rows) (overlap t) D
-      → Rounded (sumIn (t .rows) D had + sumIn (t .rows) D x) (sumIn (t .rows) D (λ i. share t i (end t k))) (hyperperiod t)
-  pub fits : (D : ℕ → Bool) → OverlapSet (t .rows) (overlap t) D → sumIn (t .rows) D x ≤ end t k - start t k
-
 -- The lag of a row is its share at the interval's end less the slots it has already had.
 unfoldable pub lag : Table → ℕ → (had : ℕ → ℕ) → ℕ → ℤ
 lag t k had i = pos (share t i (end t k)) -ℤ pos (had i * hyperperiod t)
@@ -48,7 +40,15 @@ pub record ByLags (t : Table) (k : ℕ) (had x : ℕ → ℕ) : Type 0 where
       → Roundedℤ (sumIn (t .rows) D x) (sumInℤ (t .rows) D (lag t k had)) (hyperperiod t)
   pub fits : (D : ℕ → Bool) → OverlapSet (t .rows) (overlap t) D → sumIn (t .rows) D x ≤ end t k - start t k
 
--- proved in proofs/Lags.antt
+-- As the slots already had are whole, a load is the lag rounded down or up just when slots had and load come to the share at the interval's
+-- end rounded down or up; and so for the summed lag of a set. So nothing is subtracted here, and it is proved to be the same.
+pub record Qualify (t : Table) (k : ℕ) (had x : ℕ → ℕ) : Type 0 where
+  pub rows : (i : ℕ) → i < t .rows → Rounded (had i + x i) (share t i (end t k)) (hyperperiod t)
+  pub sets : (D : ℕ → Bool) → OverlapSet (t .rows) (overlap t) D
+      → Rounded (sumIn (t .rows) D had + sumIn (t .rows) D x) (sumIn (t .rows) D (λ i. share t i (end t k))) (hyperperiod t)
+  pub fits : (D : ℕ → Bool) → OverlapSet (t .rows) (overlap t) D → sumIn (t .rows) D x ≤ end t k - start t k
+
+-- Both are the same (proofs/Lags.antt).
 abbrev pub Qualify-by-lags : Type 0
 Qualify-by-lags = (t : Table) (k : ℕ) (had x : ℕ → ℕ) → 0 < hyperperiod t → Qualify t k had x ↔ ByLags t k had x
 

@@ -232,11 +232,11 @@ unfolding writer-checks None
 writer-none M n xs room a l =
     none-join (memory-checks M n xs) _ a (λ (h : room < headerSize + rowSize * n). let z : ⊥ = omega arith in z, tt)
 
-read-none : (f : List ℕ) (room : ℕ) → None (reader-checks f room) → None (file-checks f)
+pub read-none : (f : List ℕ) (room : ℕ) → None (reader-checks f room) → None (file-checks f)
 unfolding reader-checks
 read-none f room a = none-left (file-checks f) _ a
 
-written-none : (M n : ℕ) (xs : List ℕ) (room : ℕ) → None (writer-checks M n xs room) → None (memory-checks M n xs)
+pub written-none : (M n : ℕ) (xs : List ℕ) (room : ℕ) → None (writer-checks M n xs room) → None (memory-checks M n xs)
 unfolding writer-checks
 written-none M n xs room a = none-left (memory-checks M n xs) _ a
 
