@@ -1,4 +1,4 @@
-/* Plain C under the library's names, so that it can be put in its place. */
+/* Plain C under the names of the library's verdict and plan, so that it can be put in its place. Values and sets come from the library alone. */
 #include "plain.h"
 #include "ringplan.h"
 

@@ -12,6 +12,25 @@
 #include <string.h>
 #include <time.h>
 
+#if defined __x86_64__
+#include <cpuid.h>
+
+/* The emulator gives its name where a hypervisor would. */
+static int emulated(void) {
+    unsigned a, b, c, d;
+    char name[13] = {0};
+    __cpuid(0x40000000, a, b, c, d);
+    memcpy(name, &b, 4);
+    memcpy(name + 4, &c, 4);
+    memcpy(name + 8, &d, 4);
+    return !strcmp(name, "TCGTCGTCGTCG");
+}
+#else
+static int emulated(void) {
+    return 0;
+}
+#endif
+
 enum { ROUNDS = 15, TABLES = 12 };
 
 static uint64_t state = 0x9e3779b97f4a7c15u;
@@ -100,6 +119,10 @@ int main(int argc, char **argv) {
     int check = argc > 1 && !strcmp(argv[1], "--check");
     if (argc > 1 && !check) {
         fprintf(stderr, "usage: bench [--check]\n");
+        return 2;
+    }
+    if (!check && emulated()) {
+        fprintf(stderr, "bench: a time under an emulator says nothing; bench/run builds for the processor at hand\n");
         return 2;
     }
     if (!check) printf("rows    L  intervals   ring_plan us  plain C us  ratio   us an interval   ring_verdict us  plain C us  ratio\n");

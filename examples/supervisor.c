@@ -9,25 +9,13 @@
 #include <stdlib.h>
 
 /* Where the rows stand in a table file. */
-enum { HEADER_BYTES = 7, ROW_BYTES = 6, FIRST_AT = 4, SECOND_AT = 5, PERIOD_AT = 2, ELEMENTS_AT = 5, ROWS_AT = 6 };
+enum { HEADER_BYTES = 7, ROW_BYTES = 6, FIRST_AT = 4, SECOND_AT = 5, ELEMENTS_AT = 5, ROWS_AT = 6 };
 
 /* Says so where an answer is a refusal; ringplan.h has the meaning of each number. */
 static int refused(uint32_t answer) {
     if (RING_NUMBER(answer) == RING_DONE) return 0;
     fprintf(stderr, "supervisor: refused with %u, place %u\n", RING_NUMBER(answer), RING_PLACE(answer));
     return 1;
-}
-
-/* The plan of a table repeats after the least common multiple of its periods. */
-static unsigned hyperperiod(const uint8_t *file) {
-    unsigned h = 1;
-    for (unsigned i = 0; i < file[ROWS_AT]; i++) {
-        const uint8_t *row = file + HEADER_BYTES + ROW_BYTES * i;
-        unsigned period = row[PERIOD_AT] + 256u * row[PERIOD_AT + 1], m = h;
-        while (m % period) m += h;
-        h = m;
-    }
-    return h;
 }
 
 /* What the slot handler of an element does in one slot. It moves data at most once each way: rows that share a slot share no segment. */
@@ -48,6 +36,7 @@ int main(int argc, char **argv) {
     /* one byte more than the longest table, so that a longer file is refused and not cut short */
     static uint8_t file[RING_FILE_BYTES + 1];
     static uint64_t plan[RING_PLAN_SLOTS];
+    uint32_t values[RING_VALUES];
     FILE *in = fopen(argv[1], "rb");
     if (!in) {
         fprintf(stderr, "supervisor: cannot open %s\n", argv[1]);
@@ -56,14 +45,14 @@ int main(int argc, char **argv) {
     size_t bytes = fread(file, 1, sizeof file, in);
     fclose(in);
 
-    if (refused(ring_verdict(file, bytes))) return 1;
+    if (refused(ring_values(file, bytes, values, RING_VALUES))) return 1;
     unsigned long element = strtoul(argv[2], NULL, 10);
     if (element < 1 || element > file[ELEMENTS_AT]) {
         fprintf(stderr, "supervisor: the ring has elements 1 to %u\n", file[ELEMENTS_AT]);
         return 2;
     }
     if (refused(ring_plan(file, bytes, plan, RING_PLAN_SLOTS))) return 1;
-    unsigned slots = hyperperiod(file);
+    unsigned slots = values[RING_HYPERPERIOD];
     printf("the plan has %u slots and then repeats\n", slots);
     for (unsigned slot = 0; slot < slots; slot++) handle(file, (unsigned)element, slot, plan[slot]);
     return 0;

@@ -1,55 +1,78 @@
-/* Collarspoke's two functions for C.
+/* Collarspoke's functions for C.
  *
- * Both take the bytes of a table file and check everything themselves: any bytes of any length may be handed in, also none.
- * They need no heap, no C library and no initialisation, keep nothing between calls, and may be called from several threads at once
- * as long as no two calls share a plan. docs/SPEED.md says how much stack they take.
+ * All take the bytes of a table file and check everything themselves: any bytes of any length may be handed in, also none. A pointer may be
+ * NULL where its length is 0. The file and the memory lent for an answer must not overlap. The functions need no heap, no C library but
+ * memcpy, memset and memmove, and no initialisation, keep nothing between calls, and may be called from several threads at once as long as no
+ * two calls share lent memory. None calls itself; each takes at most RING_STACK_BYTES bytes of stack.
  *
- * Both answer 256 × number + place. Number 0 says admitted, or done. Any other is a refusal, numbered below; its place is the row or the
- * set concerned, counted from 0, or 0 where the refusal has no place of its own. A refusal leaves the plan as it was. */
+ * All answer 256 × number + place. Number 0 says admitted, or done. Any other is a refusal, numbered below; its place is the row or the
+ * set concerned, counted from 0, or 0 where the refusal has no place of its own. A refusal leaves lent memory as it was, and memory past the
+ * part that an answer fills is left alone too. */
 #ifndef RINGPLAN_H
 #define RINGPLAN_H
 
 #include <stddef.h>
 #include <stdint.h>
 
+/* The version of these functions. The second number grows where something is added, the first where something changes. */
+#define RINGPLAN_VERSION_MAJOR 1
+#define RINGPLAN_VERSION_MINOR 1
+
 #ifdef __cplusplus
 extern "C" {
 #endif
 
 enum {
-    RING_DONE = 0,             /* admitted, or done */
-    RING_SHORT_FILE = 1,       /* the file has under 7 bytes */
-    RING_WRONG_MARK = 2,       /* it does not begin with "RBT" */
-    RING_WRONG_VERSION = 3,    /* its version is not 1 */
-    RING_WRONG_ELEMENTS = 4,   /* the ring has not 2 to 32 elements */
-    RING_WRONG_ROWS = 5,       /* the table has not 1 to 64 rows */
-    RING_WRONG_LENGTH = 6,     /* the file's length is not 7 + 6 × rows */
-    RING_WRONG_ENDS = 7,       /* an end is no element of the ring, or both are equal; place: the row */
-    RING_WRONG_PERIOD = 8,     /* the period is not 1 to 4096 slots; place: the row */
-    RING_WRONG_COST = 9,       /* the cost is 0 or above the period; place: the row */
-    RING_NO_CUT = 10,          /* every element has some row through it */
+    RING_DONE = 0,              /* admitted, or done */
+    RING_SHORT_FILE = 1,        /* the file has under 7 bytes */
+    RING_WRONG_MARK = 2,        /* it does not begin with "RBT" */
+    RING_WRONG_VERSION = 3,     /* its version is not 1 */
+    RING_WRONG_ELEMENTS = 4,    /* the ring has not 2 to 32 elements */
+    RING_WRONG_ROWS = 5,        /* the table has not 1 to 64 rows */
+    RING_WRONG_LENGTH = 6,      /* the file's length is not 7 + 6 × rows */
+    RING_WRONG_ENDS = 7,        /* an end is no element of the ring, or both are equal; place: the row */
+    RING_WRONG_PERIOD = 8,      /* the period is not 1 to 4096 slots; place: the row */
+    RING_WRONG_COST = 9,        /* the cost is 0 or above the period; place: the row */
+    RING_NO_CUT = 10,           /* every element has some row through it */
     RING_LONG_HYPERPERIOD = 11, /* the least common multiple of the periods is above 4096 slots */
-    RING_TIED_SETS = 12,       /* two overlap sets end alike; proved never to be given */
-    RING_LIGHT_ROW = 13,       /* periods differ, and the row's cost is too small for it; place: the row */
-    RING_OVER_BOUND = 14,      /* an overlap set asks for more than the bus can carry; place: the set */
-    RING_OFF_STATE = 15,       /* not given by these two functions */
-    RING_HAS_FINISHED = 16,    /* not given by these two functions */
-    RING_SHORT_OUTPUT = 17,    /* the plan has fewer words than the hyperperiod has slots */
+    RING_TIED_SETS = 12,        /* two overlap sets end alike; proved never to be given */
+    RING_LIGHT_ROW = 13,        /* periods differ, and the row's cost is too small for it; place: the row */
+    RING_OVER_BOUND = 14,       /* an overlap set asks for more than the bus can carry; place: the set */
+    RING_OFF_STATE = 15,        /* not given by these functions */
+    RING_HAS_FINISHED = 16,     /* not given by these functions */
+    RING_SHORT_OUTPUT = 17      /* the memory lent for the answer is too short */
 };
 
 /* number and place of an answer */
 #define RING_NUMBER(answer) ((unsigned)((answer) / 256))
 #define RING_PLACE(answer) ((unsigned)((answer) % 256))
 
-/* the longest table file, and the longest plan */
-enum { RING_FILE_BYTES = 391, RING_PLAN_SLOTS = 4096 };
+/* the longest table file, the longest plan, the most sets, and the most stack in bytes */
+enum { RING_FILE_BYTES = 391, RING_PLAN_SLOTS = 4096, RING_MOST_SETS = 64, RING_STACK_BYTES = 17408 };
 
 /* Whether the bus can carry the table. Gives 0 to 14. */
 uint32_t ring_verdict(const uint8_t *file, size_t file_bytes);
 
+/* What the verdict finds of an admitted table, by place in `values`. */
+enum {
+    RING_CUT = 0,         /* the element at which the ring is cut to a line */
+    RING_SECOND_CUT = 1,  /* 0: a table of one ring has no second cut */
+    RING_INTERVAL = 2,    /* slots of a planning interval, L */
+    RING_HYPERPERIOD = 3, /* slots of the plan, h; then it repeats */
+    RING_LOAD = 4,        /* load of the most loaded overlap set in thousandths, rounded up */
+    RING_SETS = 5,        /* number of overlap sets */
+    RING_VALUES = 6       /* how many values there are */
+};
+
+/* Fills in the six values of an admitted table. Gives 0 to 14, and 17 where `room` is under 6. */
+uint32_t ring_values(const uint8_t *file, size_t file_bytes, uint32_t *values, size_t room);
+
+/* The overlap sets of a table, one word a set: bit i is set if row i belongs to it. It fills as many words as there are sets; 64 are always
+ * enough. A table that is refused with 13 or 14 has its list too, which shows what set 14 speaks of. Gives 0 to 12, and 17. */
+uint32_t ring_sets(const uint8_t *file, size_t file_bytes, uint64_t *sets, size_t room);
+
 /* The whole plan of an admitted table: word s of `plan` has bit i set if row i moves in slot s. It fills as many words as the hyperperiod
- * has slots and leaves those past them alone; 4096 words are always enough. Repeated from slot 0 on, it serves for ever.
- * Gives 0 to 14, and 17. */
+ * has slots; 4096 words are always enough. Repeated from slot 0 on, it serves for ever. Gives 0 to 14, and 17. */
 uint32_t ring_plan(const uint8_t *file, size_t file_bytes, uint64_t *plan, size_t plan_words);
 
 #ifdef __cplusplus

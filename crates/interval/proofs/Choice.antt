@@ -21,6 +21,7 @@ use Rattle.rules.proofs.Sets.{set-in}
 use Rattle.lags.specs.Lags.{Admissible, Steady}
 use Rattle.lags.proofs.Intervals.{hyperperiod-positive, rate-le, end-le}
 use Rattle.lags.proofs.Lags.{row-lag, qualify-of}
+use Rattle.promises.proofs.Words.{words-placed}
 use Rattle.loads.specs.Loads.{inSet, Lags, Qualified, Greatest}
 use Rattle.interval.specs.Ranges.{lowestSet, highestSet}
 use Rattle.interval.specs.Interval.{Moved}
@@ -103,6 +104,7 @@ module _ {t : Table} (A : Admissible t) {k : ℕ} (in-range : k < intervals t) w
           qualify = chosen-qualify;
           greatest = λ z Q. G .greatest z (qualified-of z Q);
           words = W;
+          placed = words-placed A chosen-qualify W;
           moved = m;
           spare = p;
         }

@@ -67,6 +67,7 @@ step-of-moved {k = k} e f M = record {
   loads = M .loads;
   qualify = M .qualify;
   words = M .words;
+  placed = M .placed;
   moved = M .moved;
   spare = M .spare;
   after = f;

@@ -8,10 +8,11 @@
 use mathlib.Core.Path.{_≡_}
 use mathlib.Core.List.{List}
 use Prim.Native.Nat.{ℕ, _+_, _-_, _≤_, _<_}
+use Rattle.numbers.specs.Finite.{count}
 use Rattle.rules.specs.Bus.{Table, overlap}
 use Rattle.rules.specs.Line.{lineFirst}
 use Rattle.rules.specs.Loads.{start, end}
-use Rattle.rules.specs.Interval.{Qualify, SlotWords}
+use Rattle.rules.specs.Interval.{Qualify, moves, SlotWords}
 
 -- Row 0's load is the greatest that any qualifying loads have, among those row 1's, and so on.
 pub record Moved (t : Table) (k : ℕ) (had now : ℕ → ℕ) (ws : List ℕ) : Type 0 where
@@ -19,6 +20,7 @@ pub record Moved (t : Table) (k : ℕ) (had now : ℕ → ℕ) (ws : List ℕ) :
   pub qualify : Qualify t k had loads
   pub greatest : (z : ℕ → ℕ) → Qualify t k had z → (i : ℕ) → i < t .rows → ((j : ℕ) → j < i → z j ≡ loads j) → z i ≤ loads i
   pub words : SlotWords (t .rows) (overlap t) (lineFirst t) loads (end t k - start t k) ws
+  pub placed : (i : ℕ) → i < t .rows → count (end t k - start t k) (moves ws i) ≡ loads i
   pub moved : (i : ℕ) → i < t .rows → now i ≡ had i + loads i
   pub spare : (i : ℕ) → t .rows ≤ i → now i ≡ had i
 

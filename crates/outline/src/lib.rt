@@ -132,11 +132,13 @@ pub fn outline_of(columns: Columns) -> Outline
 fn outline_file(file: &[u8]) -> Outline
     ensures { λ r. ⌜ Outlined (outline-checks (now (file .entry))) (fileTable (now (file .entry))) r ⌝ }
 {
-    let answer = table::check(file);
+    let found = table::decode(file);
+    let answer = found.answer;
     if answer.number != Answer::DONE {
         return refuse(answer.number, answer.place);
     }
-    outline_of(table::columns_of(file))
+    let columns = found.columns;
+    outline_of(columns)
 }
 
 // What the list of sets answers: a refusal number and its place, or the length of the list.

@@ -14,7 +14,7 @@ use Rattle.rules.specs.Calls.{lent}
 use Rattle.rules.proofs.Answers.{None, none-of, answers-only}
 use Rattle.lags.specs.Lags.{Admissible, NotOff}
 use Rattle.lags.proofs.States.{not-off, not-off-fresh, not-off-next, standing-below, standing-above}
-use Rattle.promises.proofs.Demands.{demand-3, plan-finished}
+use Rattle.promises.proofs.Demands.{plan-carries, plan-finished}
 use Rattle.verdict.proofs.Bound.{verdict-numbered, admissible-of}
 use Rattle.planner.specs.declared.Stage.the-variants.{Finished}
 use Rattle.planner.specs.declared.Planner.{Planner}
@@ -91,7 +91,7 @@ pub carried : Carried
 carried f r was now A a room =
     let e = answers-only (plan-checks f (length was)) _ 0 _ 0 (A .planned .answers) (plan-done f (admitted-none f a) (length was) room) in
     let w = A .planned .done (e .0) in
-    (e .0, e .1, (w .0, demand-3 (fileTable f) (w .0) (admitted-table f a) (w .1), w .2))
+    (e .0, e .1, (w .0, plan-carries (fileTable f) (w .0) (admitted-table f a) (w .1), w .2))
 
 -- ---- standings
 

@@ -6,18 +6,18 @@ use native.Mathlib.Nat.{le-refl, mod-lt, mul-le-mul-right, lt-of-mul-lt-mul-righ
 use native.Mathlib.Omega.{arith}
 use lib.ListN.{length}
 use Rattle.numbers.specs.Finite.{count}
-use Rattle.numbers.specs.Rounding.{Rounded}
 use Rattle.numbers.proofs.Finite.{count-eq, count-split}
 use Rattle.rules.specs.Bus.{Table}
-use Rattle.rules.specs.Loads.{hyperperiod, end, intervals}
+use Rattle.rules.specs.Loads.{hyperperiod, intervals}
 use Rattle.rules.specs.Interval.{moves}
 use Rattle.rules.specs.Planner.{finished, WholePlan}
-use Rattle.lags.specs.Lags.{Admissible, Steady, NotOff}
-use Rattle.lags.proofs.Intervals.{hyperperiod-positive, periods-whole, end-next, start-last, multiple-starts}
-use Rattle.lags.proofs.Lags.{rounded-share, row-whole}
-use Rattle.promises.specs.Demands.{endless, moved, Demand-3}
+use Rattle.lags.specs.Lags.{Admissible}
+use Rattle.lags.proofs.Intervals.{hyperperiod-positive, periods-whole, start-last, multiple-starts}
+use Rattle.lags.proofs.Lags.{row-whole}
+use Rattle.promises.specs.Demands.{endless, moved, Plan-carries}
 use Rattle.promises.proofs.Counts.{stretch-of}
 use Rattle.promises.proofs.Plans.{Ran, ran}
+use Rattle.promises.proofs.Steps.{ran-shares}
 
 module _ {t : Table} (A : Admissible t) {ws : List ℕ} (W : WholePlan t ws) where
   whole-ran : Ran t (intervals t) (W .0) ws
@@ -26,20 +26,9 @@ module _ {t : Table} (A : Admissible t) {ws : List ℕ} (W : WholePlan t ws) whe
   pub plan-size : length ws ≡ hyperperiod t
   plan-size = whole-ran .size ∙ start-last (A .sound)
 
-  -- it takes the planner to its end, in a state that is not off
+  -- it takes the planner to its end
   pub plan-finished : W .0 .stage ≡ finished
   plan-finished = whole-ran .done refl
-
-  pub plan-not-off : NotOff t (W .0)
-  plan-not-off = whole-ran .not-off
-
-  -- at the end of every interval each row, and each overlap set, has had its share rounded down or up
-  pub plan-steady : (k : ℕ) → k < intervals t → Steady t (end t k) (λ i. count (end t k) (moves ws i))
-  plan-steady k l = rw (end-next (A .sound) k) (whole-ran .steady (k + 1) (omega arith))
-
-  -- a row's share in the document's own words
-  pub plan-shares : (i k : ℕ) → i < t .rows → k < intervals t → Rounded (count (end t k) (moves ws i)) (t .cost i * end t k) (t .period i)
-  plan-shares i k l h = rounded-share (A .sound) (count (end t k) (moves ws i)) i (end t k) l .0 (plan-steady k h .rows i l)
 
   -- after m of its periods a row has moved in m times its cost slots
   pub plan-whole : (i m : ℕ) → i < t .rows → m * t .period i ≤ hyperperiod t → count (m * t .period i) (moves ws i) ≡ t .cost i * m
@@ -69,11 +58,11 @@ module _ {t : Table} (A : Admissible t) {ws : List ℕ} (W : WholePlan t ws) whe
         plan-whole i (b + 1) l (omega arith),
       )
 
-pub demand-3 : Demand-3
-demand-3 t ws A W = record {
+pub plan-carries : Plan-carries
+plan-carries t ws A W = record {
   size = plan-size A W;
   rows = whole-ran A W .rows;
   apart = whole-ran A W .apart;
-  shares = plan-shares A W;
+  shares = ran-shares A (le-refl (intervals t)) (whole-ran A W);
   jobs = plan-jobs A W;
 }

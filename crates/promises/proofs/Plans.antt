@@ -22,7 +22,7 @@ use Rattle.lags.proofs.Intervals.{intervals-positive, start-first, end-next, en
 use Rattle.lags.proofs.Lags.{steady-eq, steady-fresh, steady-next}
 use Rattle.lags.proofs.States.{next-due, next-finished, not-off-fresh, not-off-next}
 use Rattle.promises.proofs.Counts.{moves-left, moves-right, count-left, count-joined}
-use Rattle.promises.proofs.Words.{words-apart, words-placed}
+use Rattle.promises.proofs.Words.{words-apart}
 
 -- ws are the words of k steps, which hand back q
 pub record Ran (t : Table) (k : ℕ) (q : Planner) (ws : List ℕ) : Type 0 where
@@ -105,7 +105,7 @@ module _ {t : Table} (A : Admissible t) where
           let e : end t n ≡ length vs + (end t n - start t n) = omega (arith, r .size, starts, long) in
           ap (λ (m : ℕ). count m (moves (vs ++ ws) i)) e
           ∙ count-joined vs ws i (end t n - start t n)
-          ∙ ap₂ _+_ (ap (λ (m : ℕ). count m (moves vs i)) (r .size) ∙ r .totals i h) (words-placed A (s .qualify) (s .words) i h)
+          ∙ ap₂ _+_ (ap (λ (m : ℕ). count m (moves vs i)) (r .size) ∙ r .totals i h) (s .placed i h)
 
       totals : (i : ℕ) → i < t .rows → count (start t (suc k)) (moves (vs ++ ws) i) ≡ q .totals i
       totals i h = ap (λ (m : ℕ). count m (moves (vs ++ ws) i)) (sym ends) ∙ counted i h ∙ sym (s .moved i h)

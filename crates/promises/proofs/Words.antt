@@ -1,42 +1,23 @@
 -- The words of one interval, on the ring: what the slots promise on the line holds of the rows' routes.
 use mathlib.Core.Path.{_≡_, refl}
 use mathlib.Core.List.{List}
-use mathlib.Core.Bool.{Bool}
-use Prim.Native.Nat.{ℕ, _-_, _≤_, _<_}
-use lib.Dec.{T, eqb, eqb→eq, eqb-refl}
+use Prim.Native.Nat.{ℕ, _-_, _<_}
+use lib.Dec.{T}
 use Rattle.numbers.specs.Finite.{count}
 use Rattle.numbers.proofs.Truth.{along}
 use Rattle.rules.specs.Bus.{Table, overlap}
-use Rattle.rules.specs.Line.{lineFirst, lineSecond, meet, OverlapSet}
+use Rattle.rules.specs.Line.{lineFirst, lineSecond, meet}
 use Rattle.rules.specs.Loads.{start, end}
 use Rattle.rules.specs.Interval.{Qualify, moves, SlotWords}
 use Rattle.rules.proofs.Interval.{words-as}
 use Rattle.ring.proofs.OnLine.{line-ordered, overlap-meet}
-use Rattle.sets.proofs.Overlap.{meet-of, inside}
 use Rattle.sets.proofs.Transfer.{Agree, agree-sym, set-agree}
 use Rattle.slots.proofs.Placed.{placed, never-together}
 use Rattle.lags.specs.Lags.{Admissible}
-use Rattle.lags.proofs.Lags.{load-le}
 
 module _ {t : Table} (A : Admissible t) where
   pub overlap-agrees : Agree (t .rows) (overlap t) (meet (lineFirst t) (lineSecond t))
   overlap-agrees = overlap-meet t (A .sound) (A .clear)
-
-  -- every row is in some overlap set
-  pub row-set : (i : ℕ) → i < t .rows → (D : ℕ → Bool) × OverlapSet (t .rows) (overlap t) D × T (D i)
-  row-set i l =
-      let r = inside (t .rows) (lineFirst t) (lineSecond t) (line-ordered t (A .sound) (A .clear)) (λ j. eqb j i)
-      (λ j e. rw (eqb→eq j i e) l)
-      (λ j k e f. rw (eqb→eq j i e, eqb→eq k i f) itself)
-      i (eqb-refl i) in
-      (r .0, set-agree (agree-sym overlap-agrees) (r .1), r .2 i (eqb-refl i))
-    where
-      itself : T (meet (lineFirst t) (lineSecond t) i i)
-      itself = let m = line-ordered t (A .sound) (A .clear) i l in meet-of (lineFirst t) (lineSecond t) i i m m
-
-  -- so no row's load is above the interval's length
-  pub load-fits : {k : ℕ} {had x : ℕ → ℕ} → Qualify t k had x → (i : ℕ) → i < t .rows → x i ≤ end t k - start t k
-  load-fits Q i l = let r = row-set i l in load-le Q (r .0) (r .1) i (r .2)
 
   module _ {x : ℕ → ℕ} {l : ℕ} {ws : List ℕ} (W : SlotWords (t .rows) (overlap t) (lineFirst t) x l ws) where
     on-line : SlotWords (t .rows) (meet (lineFirst t) (lineSecond t)) (lineFirst t) x l ws

@@ -1,31 +1,36 @@
 -- Document 01's cases P1 to P10, proved. The definitions compute on the tables' numerals: numbers go by `refl`, relations by the tests of
 -- Sets, Verdict and Steps, which `tt` shows to hold.
-use mathlib.Core.Path.{_≡_, refl, sym, ap₂, _∙_, subst}
+use mathlib.Core.Path.{_≡_, refl, sym, ap, ap₂, _∙_, subst}
 use mathlib.Core.Logic.{_⊎_, _↔_, inl, inr, ⊎-elim}
 use mathlib.Core.List.{List, [], _∷_, _++_}
-use Prim.Native.Nat.{ℕ}
-use lib.Dec.{lit<}
-use Rattle.numbers.specs.Finite.{any, every, lowest, highest, only, sum, largest}
+use mathlib.Core.Bool.{Bool}
+use Prim.Native.Nat.{ℕ, _≤_, _<_}
+use native.Mathlib.Omega.{arith}
+use lib.Dec.{T, lit<, lit≤}
+use lib.ListN.{length, List·getD-eq-default}
+use Rattle.numbers.specs.Finite.{any, every, lowest, highest, only, sum, sumIn, largest}
 use Rattle.numbers.specs.Word.{bit}
 use Rattle.numbers.specs.Divisors.{gcd, lcm, product}
 use Rattle.numbers.specs.Rounding.{Rounded}
-use Rattle.numbers.specs.Lists.{each}
-use Rattle.rules.specs.Bus.{steps, uses, through, overlap}
+use Rattle.numbers.specs.Lists.{at, each}
+use Rattle.numbers.proofs.Tests.{Test, and-test, every-test}
+use Rattle.rules.specs.Bus.{Table, steps, uses, through, overlap}
 use Rattle.rules.specs.TableFile.{bytes}
 use Rattle.rules.specs.Line.{clear, cut, onLine, lineFirst, lineSecond, Sets}
-use Rattle.rules.specs.Loads.{hyperperiod, shortest, start, end, intervals, rate, equalPeriods, light, over, reported}
-use Rattle.rules.specs.Interval.{before, hinders, free}
-use Rattle.rules.specs.Planner.{none, more, standing, WholePlan}
+use Rattle.rules.specs.Loads.{hyperperiod, shortest, start, end, intervals, rate, share, equalPeriods, light, over, reported}
+use Rattle.rules.specs.Interval.{lag, before, hinders, free}
+use Rattle.rules.specs.Planner.{Stage, due, finished, none, more, reached, Off, standing, WholePlan}
 use Rattle.rules.specs.Refusals.{header-checks, row-checks, file-checks, line-checks, bound-checks, verdict-checks}
-use Rattle.rules.specs.Cases.{case-A, case-B, case-B-with, equal-with, round, Cases}
-use Rattle.rules.proofs.Sets.{sets-only, sets-by}
+use Rattle.rules.specs.Cases.{case-A, case-B, case-B-with, equal-with, round, thirds, halves, none-had, B-at, Cases}
+use Rattle.rules.proofs.Sets.{set-in, sets-only, sets-by}
 use Rattle.rules.proofs.Verdict.{verdict-by}
-use Rattle.rules.proofs.Steps.{Outcome, Outcomes, moved-on, outcomes-by, step-is, step-of, run-more, run-first, standing-at}
+use Rattle.rules.proofs.Steps.{Outcome, Outcomes, rounded-test, qualify-test, moved-on, outcomes-by}
+use Rattle.rules.proofs.Steps.{step-is, step-of, run-more, run-first, standing-at}
 
 -- All that computes below: an `unfolding` line that names it opens all that its own line names.
 computing : Unit {0}
 unfolding any every lowest highest only sum bit gcd lcm product Rounded each steps uses through overlap bytes clear cut onLine lineFirst
-    lineSecond hyperperiod shortest start end intervals rate equalPeriods light over largest reported before hinders free standing
+    lineSecond hyperperiod shortest start end intervals rate equalPeriods light over largest reported lag before hinders free standing
     header-checks row-checks file-checks line-checks bound-checks verdict-checks
 computing = tt
 
@@ -40,11 +45,19 @@ sets-B : (cost : ℕ) → Sets (case-B-with cost) (3 ∷ [])
 unfolding computing
 sets-B cost = sets-by (case-B-with cost) (3 ∷ []) tt
 
--- ---- the outcomes of each step: loads, and words
+sets-thirds : Sets thirds (1 ∷ [])
+unfolding computing
+sets-thirds = sets-by thirds (1 ∷ []) tt
 
--- at first the rows have had no slots
-abbrev none-had : ℕ → ℕ
-none-had i = 0
+sets-halves : Sets halves (3 ∷ 6 ∷ [])
+unfolding computing
+sets-halves = sets-by halves (3 ∷ 6 ∷ []) tt
+
+-- a list of sets that is there is the only one
+listed : (t : Table) (ws vs : List ℕ) → 0 < t .rows → Sets t vs → Sets t ws ↔ (ws ≡ vs)
+listed t ws vs some S = ((λ A. sets-only some A S), (λ e. subst (Sets t) (sym e) S))
+
+-- ---- the outcomes of each step: loads, and words
 
 -- case A has one interval
 abbrev whole : Outcome
@@ -72,6 +85,35 @@ after-one = outcomes-by case-B (3 ∷ []) (sets-B 3) 1 (moved-on none-had (one .
 after-two : Outcomes case-B 1 (moved-on none-had (two .0)) (one ∷ [])
 unfolding computing
 after-two = outcomes-by case-B (3 ∷ []) (sets-B 3) 1 (moved-on none-had (two .0)) (one ∷ []) tt
+
+-- ---- states of B
+
+-- what rows and sets of B have had at slot s
+abbrev kept-test : (s : ℕ) (totals : List ℕ) → Test (
+    ((i : ℕ) → i < 2 → Rounded (at totals i) (share case-B i s) (hyperperiod case-B))
+    × Rounded (sumIn 2 (bit 3) (at totals)) (sumIn 2 (bit 3) (λ i. share case-B i s)) (hyperperiod case-B)
+    )
+kept-test s totals =
+    and-test (every-test 2 (λ i. rounded-test (at totals i) (share case-B i s) (hyperperiod case-B)))
+    (rounded-test (sumIn 2 (bit 3) (at totals)) (sumIn 2 (bit 3) (λ i. share case-B i s)) (hyperperiod case-B))
+
+B-not-off : (s : Stage) (totals : List ℕ) → ((k : ℕ) → s ≡ due k → k < 2) → length totals ≤ 2
+    → T (kept-test (reached case-B s) totals .test) → ¬ Off case-B (B-at s totals)
+unfolding computing
+B-not-off s totals number few h = go
+  where
+    go : Off case-B (B-at s totals) → ⊥
+    go (Off.late k e l) = let z = number k e in omega arith
+    go (Off.spare i l m ne) = ne (List·getD-eq-default totals 0 (omega arith))
+    go (Off.row i l ne) = ne (kept-test (reached case-B s) totals .is h .0 i l)
+    go (Off.set D o ne) =
+        let r = set-in (sets-B 3) o in
+        let first : r .0 ≡ 0 = omega (arith, r .1) in
+        let e : bit 3 ≡ D = ap (λ (k : ℕ). bit (at (3 ∷ []) k)) (sym first) ∙ r .2 in
+        ne (subst
+        (λ (C : ℕ → Bool).
+        Rounded (sumIn 2 C (at totals)) (sumIn 2 C (λ i. share case-B i (reached case-B s))) (hyperperiod case-B))
+        e (kept-test (reached case-B s) totals .is h .1))
 
 -- ---- whole plans
 
@@ -102,17 +144,22 @@ unfolding computing
 cases = record {
   p1-bytes = refl;
   p1-cut = refl;
-  p1-sets = λ ws. ((λ A. sets-only (lit< tt) A sets-A), (λ e. subst (Sets case-A) (sym e) sets-A));
+  p1-end = refl;
+  p1-sets = λ ws. listed case-A ws (3 ∷ 6 ∷ []) (lit< tt) sets-A;
   p1-words = plan-A;
   p2-interval = refl;
   p2-hyper = refl;
-  p2-load = λ ws A. rw (sets-only (lit< tt) A (sets-B 3));
+  p2-sets = λ ws. listed case-B ws (3 ∷ []) (lit< tt) (sets-B 3);
+  p2-load = refl;
   p2-plans = plans-B;
   p3 = λ ws q s. ⊎-elim
-      (λ a. inl (standing-at case-B (a .1) 1 (lit< tt)))
-      (λ r. ⊎-elim (λ a. inr (standing-at case-B (a .1) 1 (lit< tt))) absurd r)
+      (λ a. inl (a .0, standing-at case-B (a .1) 1 (lit< tt)))
+      (λ r. ⊎-elim (λ a. inr (a .0, standing-at case-B (a .1) 1 (lit< tt))) absurd r)
       (step-is step-B (refl, λ i l. refl) s);
-  p4-load = λ ws A. rw (sets-only (lit< tt) A (sets-B 4));
+  p3-behind = (_, step-of (step-B .each .0));
+  p3-ahead = (_, step-of (step-B .each .1 .0));
+  p4-sets = λ ws. listed (case-B-with 4) ws (3 ∷ []) (lit< tt) (sets-B 4);
+  p4-load = refl;
   p4 = verdict-by (bytes (case-B-with 4)) (3 ∷ []) 0 0 tt tt refl;
   p5 = verdict-by (bytes (case-B-with 5)) (3 ∷ []) 14 0 tt tt refl;
   p6 = verdict-by (bytes (case-B-with 1)) (3 ∷ []) 13 1 tt tt refl;
@@ -120,4 +167,14 @@ cases = record {
   p8 = verdict-by (bytes (equal-with 1)) (3 ∷ []) 0 0 tt tt refl;
   p9 = verdict-by (bytes (equal-with 2)) (3 ∷ []) 14 0 tt tt refl;
   p10 = verdict-by (bytes round) (7 ∷ []) 10 0 tt tt refl;
+  two-thirds-sets = λ ws. listed thirds ws (1 ∷ []) (lit< tt) sets-thirds;
+  two-thirds = refl;
+  light-lag = (refl, refl, refl);
+  sum-met = qualify-test halves 0 (3 ∷ 6 ∷ []) sets-halves none-had (at (2 ∷ 1 ∷ 1 ∷ [])) .is tt;
+  sum-over = qualify-test halves 0 (3 ∷ 6 ∷ []) sets-halves none-had (at (2 ∷ 2 ∷ 1 ∷ [])) .of;
+  late = Off.late 2 refl (lit≤ tt);
+  all-done = B-not-off finished (2 ∷ 3 ∷ []) (λ k e. let z : _≡_ {A = ℕ} 0 1 = cc in omega arith) (lit≤ tt) tt;
+  on-time = B-not-off (due 1) (1 ∷ 2 ∷ []) (λ k e. let z : 1 ≡ k = cc in omega arith) (lit≤ tt) tt;
+  ahead = Off.row 0 (lit< tt) (rounded-test 2 (share case-B 0 4) (hyperperiod case-B) .of);
+  spare = Off.spare 2 (lit≤ tt) (lit< tt) (λ e. let z : _≡_ {A = ℕ} 1 0 = e in omega arith);
 }

@@ -2,6 +2,7 @@ pub mod Answers
 pub mod Calls
 pub mod Small
 pub mod Interval
+pub mod Lags
 pub mod Sets
 pub mod Verdict
 pub mod Steps

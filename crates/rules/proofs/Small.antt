@@ -1,7 +1,7 @@
 -- Every answer of the verdict and of the whole plan has a small number and a small place, so that both fit one number for C.
 use mathlib.Core.Logic.{⊎-elim}
 use mathlib.Core.List.{List, [], _∷_, _++_, append-assoc}
-use Prim.Native.Nat.{ℕ, _≤_, _<_}
+use Prim.Native.Nat.{ℕ, _-_, _≤_, _<_}
 use native.Mathlib.Omega.{arith}
 use lib.Dec.{lit≤}
 use Rattle.numbers.proofs.Truth.{le-or-lt}
@@ -10,21 +10,25 @@ use Rattle.rules.specs.Bounds.{max-rows}
 use Rattle.rules.specs.Bus.{Table}
 use Rattle.rules.specs.TableFile.{fileTable}
 use Rattle.rules.specs.Loads.{hyperperiod}
-use Rattle.rules.specs.Refusals.{Check, Answers, wrong-ends, wrong-period, wrong-cost, light-row, over-bound, short-output}
+use Rattle.rules.specs.Refusals.{Check, Answers, last-number, faults, light-row, over-bound, short-output}
 use Rattle.rules.specs.Refusals.{header-checks, row-checks, file-checks, line-checks, bound-checks, verdict-checks, plan-checks}
 use Rattle.rules.proofs.Answers.{None, Fit, answers-split, answers-fit, fit-join, fit-each}
 
--- A header that passes has at most 64 rows, so a place past it is below 64.
-small-by : (f : List ℕ) (cs : List Check) (n p : ℕ) → (fileTable f .rows ≤ max-rows → Fit 17 63 cs) → Answers (header-checks f ++ cs) n p
-    → (n ≤ 17) × (p ≤ 63)
+-- places are rows, or sets, of which there are no more than rows
+abbrev pub last-place : ℕ
+last-place = max-rows - 1
+
+-- A header that passes has no more rows than a table may have, so a place past it is one of theirs.
+small-by : (f : List ℕ) (cs : List Check) (n p : ℕ) → (fileTable f .rows ≤ max-rows → Fit last-number last-place cs) → Answers (header-checks f ++ cs) n p
+    → (n ≤ last-number) × (p ≤ last-place)
 unfolding header-checks None Fit
 small-by f cs n p fit r =
     ⊎-elim
-    (λ a. answers-fit 17 63 (header-checks f) n p header a)
-    (λ a. answers-fit 17 63 cs n p (fit (few (a .0 .1 .1 .1 .1 .0))) (a .1))
+    (λ a. answers-fit last-number last-place (header-checks f) n p header a)
+    (λ a. answers-fit last-number last-place cs n p (fit (few (a .0 .1 .1 .1 .1 .0))) (a .1))
     (answers-split (header-checks f) cs n p r)
   where
-    header : Fit 17 63 (header-checks f)
+    header : Fit last-number last-place (header-checks f)
     header =
         (lit≤ tt, lit≤ tt, (lit≤ tt, lit≤ tt, (lit≤ tt, lit≤ tt, (lit≤ tt, lit≤ tt, (lit≤ tt, lit≤ tt, (lit≤ tt, lit≤ tt, tt))))))
 
@@ -32,18 +36,18 @@ small-by f cs n p fit r =
     few h = ⊎-elim (λ l. l) (λ l. absurd (h (λ w. let z : ⊥ = omega arith in z))) (le-or-lt (fileTable f .rows) max-rows)
 
 -- the checks past the header
-table-fit : (t : Table) → t .rows ≤ max-rows → Fit 17 63 (row-checks t ++ (line-checks t ++ bound-checks t))
+table-fit : (t : Table) → t .rows ≤ max-rows → Fit last-number last-place (row-checks t ++ (line-checks t ++ bound-checks t))
 unfolding row-checks line-checks bound-checks Fit
 table-fit t few =
-    let rows = fit-each 17 63 (λ i. wrong-ends t i ∷ wrong-period t i ∷ wrong-cost t i ∷ []) (t .rows)
+    let rows = fit-each last-number last-place (faults t) (t .rows)
     (λ i l. (lit≤ tt, omega arith, (lit≤ tt, omega arith, (lit≤ tt, omega arith, tt)))) in
-    let light = fit-each 17 63 (λ i. light-row t i ∷ []) (t .rows) (λ i l. (lit≤ tt, omega arith, tt)) in
-    let over = fit-each 17 63 (λ k. over-bound t k ∷ []) (t .rows) (λ k l. (lit≤ tt, omega arith, tt)) in
-    fit-join 17 63 (row-checks t) (line-checks t ++ bound-checks t) rows
-    (fit-join 17 63 (line-checks t) (bound-checks t) (lit≤ tt, lit≤ tt, (lit≤ tt, lit≤ tt, (lit≤ tt, lit≤ tt, tt)))
-    (fit-join 17 63 (each (t .rows) (λ i. light-row t i ∷ [])) (each (t .rows) (λ k. over-bound t k ∷ [])) light over))
+    let light = fit-each last-number last-place (λ i. light-row t i ∷ []) (t .rows) (λ i l. (lit≤ tt, omega arith, tt)) in
+    let over = fit-each last-number last-place (λ k. over-bound t k ∷ []) (t .rows) (λ k l. (lit≤ tt, omega arith, tt)) in
+    fit-join last-number last-place (row-checks t) (line-checks t ++ bound-checks t) rows
+    (fit-join last-number last-place (line-checks t) (bound-checks t) (lit≤ tt, lit≤ tt, (lit≤ tt, lit≤ tt, (lit≤ tt, lit≤ tt, tt)))
+    (fit-join last-number last-place (each (t .rows) (λ i. light-row t i ∷ [])) (each (t .rows) (λ k. over-bound t k ∷ [])) light over))
 
-pub verdict-small : (f : List ℕ) (n p : ℕ) → Answers (verdict-checks f) n p → (n ≤ 17) × (p ≤ 63)
+pub verdict-small : (f : List ℕ) (n p : ℕ) → Answers (verdict-checks f) n p → (n ≤ last-number) × (p ≤ last-place)
 unfolding verdict-checks file-checks
 verdict-small f n p r =
     small-by f (row-checks (fileTable f) ++ (line-checks (fileTable f) ++ bound-checks (fileTable f))) n p (table-fit (fileTable f))
@@ -52,9 +56,9 @@ verdict-small f n p r =
 abbrev room-check : List ℕ → ℕ → List Check
 room-check f room = short-output (room < hyperperiod (fileTable f)) ∷ []
 
-pub plan-small : (f : List ℕ) (room n p : ℕ) → Answers (plan-checks f room) n p → (n ≤ 17) × (p ≤ 63)
+pub plan-small : (f : List ℕ) (room n p : ℕ) → Answers (plan-checks f room) n p → (n ≤ last-number) × (p ≤ last-place)
 unfolding plan-checks Fit
 plan-small f room n p r =
     ⊎-elim (λ a. verdict-small f n p a)
-    (λ a. answers-fit 17 63 (room-check f room) n p (lit≤ tt, lit≤ tt, tt) (a .1))
+    (λ a. answers-fit last-number last-place (room-check f room) n p (lit≤ tt, lit≤ tt, tt) (a .1))
     (answers-split (verdict-checks f) (room-check f room) n p r)

@@ -157,6 +157,7 @@ pub record Fits (t : Table) (k : ℕ) (had : ℕ → ℕ) (o : Outcome) : Type 0
   pub rows : length (o .0) ≤ t .rows
   pub qualify : Qualify t k had (at (o .0))
   pub words : SlotWords (t .rows) (overlap t) (lineFirst t) (at (o .0)) (end t k - start t k) (o .1)
+  pub placed : (i : ℕ) → i < t .rows → count (end t k - start t k) (moves (o .1) i) ≡ at (o .0) i
 
 pub record Outcomes (t : Table) (k : ℕ) (had : ℕ → ℕ) (outs : List Outcome) : Type 0 where
   pub only : (x : ℕ → ℕ) → Qualify t k had x → OneOf outs (λ o. Same (t .rows) x (at (o .0)))
@@ -168,9 +169,11 @@ module _ (t : Table) (ws : List ℕ) (A : Sets t ws) (k : ℕ) (had : ℕ → �
       as-test (three-test
       (le-test (length (o .0)) (t .rows))
       (qualify-test t k ws A had (at (o .0)))
-      (words-test (t .rows) (overlap t) (lineFirst t) (at (o .0)) (end t k - start t k) (o .1)))
-      (λ h. record { rows = h .0; qualify = h .1; words = h .2 })
-      (λ F. (F .rows, F .qualify, F .words))
+      (and-test
+      (words-test (t .rows) (overlap t) (lineFirst t) (at (o .0)) (end t k - start t k) (o .1))
+      (every-test (t .rows) (λ i. eq-test (count (end t k - start t k) (moves (o .1) i)) (at (o .0) i)))))
+      (λ h. record { rows = h .0; qualify = h .1; words = h .2 .0; placed = h .2 .1 })
+      (λ F. (F .rows, F .qualify, (F .words, F .placed)))
 
   -- the loads to try are among the outcomes if they qualify, and each outcome is one
   abbrev pub outcomes-test : Test (
@@ -231,6 +234,7 @@ module _ {t : Table} {k : ℕ} {had : ℕ → ℕ} where
     loads = at (o .0);
     qualify = F .qualify;
     words = F .words;
+    placed = F .placed;
     moved = λ i l. refl;
     spare = λ i l. let h : length (o .0) ≤ i = omega (arith, F .rows) in omega (arith, List·getD-eq-default (o .0) 0 h);
     after = refl;

@@ -9,9 +9,10 @@ use Rattle.numbers.specs.Lists.{at}
 use Rattle.numbers.specs.Word.{bit}
 use Rattle.rules.specs.Bus.{Table}
 use Rattle.rules.specs.TableFile.{memoryTable, bytes}
-use Rattle.rules.specs.Line.{cut, Sets}
+use Rattle.rules.specs.Line.{cut, lineSecond, Sets}
 use Rattle.rules.specs.Loads.{hyperperiod, shortest, load, reported}
-use Rattle.rules.specs.Planner.{Planner, fresh, standing, Step, WholePlan}
+use Rattle.rules.specs.Interval.{lag, Qualify}
+use Rattle.rules.specs.Planner.{Stage, due, finished, Planner, fresh, Off, standing, Step, WholePlan}
 use Rattle.rules.specs.Refusals.{Answers, verdict-checks}
 
 -- M 4, rows (2,4,1,3), (1,4,2,4), (2,4,3,1)
@@ -33,6 +34,26 @@ equal-with cost = memoryTable 2 2 (3 ∷ 4 ∷ 1 ∷ 2 ∷ cost ∷ 4 ∷ 1 ∷ 
 abbrev pub round : Table
 round = memoryTable 3 3 (1 ∷ 4 ∷ 1 ∷ 3 ∷ 1 ∷ 4 ∷ 2 ∷ 1 ∷ 1 ∷ 4 ∷ 3 ∷ 2 ∷ [])
 
+-- M 2, row (2,3,1,2): its load is 2/3
+abbrev pub thirds : Table
+thirds = memoryTable 2 1 (2 ∷ 3 ∷ 1 ∷ 2 ∷ [])
+
+-- M 3, rows (3,8,1,2), (3,8,1,3), (1,4,2,3): row 0 and row 1 each have a share of 1 1/2 at slot 4, and 3 together
+abbrev pub halves : Table
+halves = memoryTable 3 3 (3 ∷ 8 ∷ 1 ∷ 2 ∷ 3 ∷ 8 ∷ 1 ∷ 3 ∷ 1 ∷ 4 ∷ 2 ∷ 3 ∷ [])
+
+-- M 3, rows (1,50,1,2), (1,10,2,3): row 0 is light
+abbrev pub fifty : Table
+fifty = memoryTable 3 2 (1 ∷ 50 ∷ 1 ∷ 2 ∷ 1 ∷ 10 ∷ 2 ∷ 3 ∷ [])
+
+-- at first the rows have had no slots
+abbrev pub none-had : ℕ → ℕ
+none-had i = 0
+
+-- case B's planner at a stage, with these totals
+abbrev pub B-at : Stage → List ℕ → Planner
+B-at s totals = record { stage = s; totals = at totals }
+
 -- the verdict on a table's file gives this number and place
 abbrev Verdict : Table → ℕ → ℕ → Type 0
 Verdict t number place = Answers (verdict-checks (bytes t)) number place
@@ -43,18 +64,26 @@ pub record Cases : Type 0 where
       ≡ 0x52 ∷ 0x42 ∷ 0x54 ∷ 0x01 ∷ 0x00 ∷ 0x04 ∷ 0x03 ∷ 0x02 ∷ 0x00 ∷ 0x04 ∷ 0x00 ∷ 0x01 ∷ 0x03 ∷ 0x01 ∷ 0x00 ∷ 0x04 ∷ 0x00 ∷ 0x02 ∷ 0x04
       ∷ 0x02 ∷ 0x00 ∷ 0x04 ∷ 0x00 ∷ 0x03 ∷ 0x01 ∷ []
   pub p1-cut : cut case-A ≡ 1
+  -- row 2 ends at the cut: its second end on the line is M + 1
+  pub p1-end : lineSecond case-A 2 ≡ 5
   pub p1-sets : (ws : List ℕ) → Sets case-A ws ↔ (ws ≡ 3 ∷ 6 ∷ [])
   pub p1-words : (ws : List ℕ) → WholePlan case-A ws ↔ (ws ≡ 5 ∷ 5 ∷ 2 ∷ 0 ∷ [])
   -- P2: case B: L 4, h 8, load 625, and exactly two plans qualify
   pub p2-interval : shortest case-B ≡ 4
   pub p2-hyper : hyperperiod case-B ≡ 8
-  pub p2-load : (ws : List ℕ) → Sets case-B ws → reported case-B ws ≡ 625
+  pub p2-sets : (ws : List ℕ) → Sets case-B ws ↔ (ws ≡ 3 ∷ [])
+  pub p2-load : reported case-B (3 ∷ []) ≡ 625
   pub p2-plans : (ws : List ℕ) → WholePlan case-B ws
       ↔ ((ws ≡ 1 ∷ 2 ∷ 0 ∷ 0 ∷ 1 ∷ 2 ∷ 2 ∷ 0 ∷ []) ⊎ (ws ≡ 1 ∷ 2 ∷ 2 ∷ 0 ∷ 1 ∷ 2 ∷ 0 ∷ 0 ∷ []))
-  -- P3: in B, after interval 0, row 1 stands at −4 or 4
-  pub p3 : (ws : List ℕ) (q : Planner) → Step case-B fresh q ws → (standing case-B q 1 ≡ negℤ (pos 4)) ⊎ (standing case-B q 1 ≡ pos 4)
+  -- P3: in B, after interval 0, row 1 stands at −4 or 4: at −4 after the first plan's words, at 4 after the second's, and there are both
+  pub p3 : (ws : List ℕ) (q : Planner) → Step case-B fresh q ws
+      → ((ws ≡ 1 ∷ 2 ∷ 0 ∷ 0 ∷ []) × (standing case-B q 1 ≡ negℤ (pos 4)))
+      ⊎ ((ws ≡ 1 ∷ 2 ∷ 2 ∷ 0 ∷ []) × (standing case-B q 1 ≡ pos 4))
+  pub p3-behind : (q : Planner) × Step case-B fresh q (1 ∷ 2 ∷ 0 ∷ 0 ∷ [])
+  pub p3-ahead : (q : Planner) × Step case-B fresh q (1 ∷ 2 ∷ 2 ∷ 0 ∷ [])
   -- P4: B with the second cost 4: exactly at 3/4, admitted
-  pub p4-load : (ws : List ℕ) → Sets (case-B-with 4) ws → load (case-B-with 4) (bit (at ws 0)) * 4 ≡ 3 * hyperperiod (case-B-with 4)
+  pub p4-sets : (ws : List ℕ) → Sets (case-B-with 4) ws ↔ (ws ≡ 3 ∷ [])
+  pub p4-load : load (case-B-with 4) (bit 3) * 4 ≡ 3 * hyperperiod (case-B-with 4)
   pub p4 : Verdict (case-B-with 4) 0 0
   -- P5: with cost 5: 14, set 0
   pub p5 : Verdict (case-B-with 5) 14 0
@@ -68,3 +97,18 @@ pub record Cases : Type 0 where
   pub p9 : Verdict (equal-with 2) 14 0
   -- P10: every element has some row through it: 10
   pub p10 : Verdict round 10 0
+  -- Beside the marked cases, from the text: the reported load is rounded up, 2/3 is 667
+  pub two-thirds-sets : (ws : List ℕ) → Sets thirds ws ↔ (ws ≡ 1 ∷ [])
+  pub two-thirds : reported thirds (1 ∷ []) ≡ 667
+  -- the lag of a light row can be below zero: with cost 1, period 50 and L 10 it is 20/50 − 1 in interval 1 after a slot in interval 0
+  pub light-lag : (shortest fifty ≡ 10) × (hyperperiod fifty ≡ 50) × (lag fifty 1 (λ i. 1) 0 ≡ negℤ (pos 30))
+  -- the sums over sets: 2 and 2 are each a lag rounded up, but come to more than the summed lag; 2 and 1 qualify
+  pub sum-met : Qualify halves 0 none-had (at (2 ∷ 1 ∷ 1 ∷ []))
+  pub sum-over : ¬ Qualify halves 0 none-had (at (2 ∷ 2 ∷ 1 ∷ []))
+  -- a state is off if its interval number is h/L, even where every total is its share: B has intervals 0 and 1; finished counts as slot h
+  pub late : Off case-B (B-at (due 2) (2 ∷ 3 ∷ []))
+  pub all-done : ¬ Off case-B (B-at finished (2 ∷ 3 ∷ []))
+  -- or if a total is not the share rounded down or up, here 1 and 1 1/2, or one past the last row is not 0
+  pub on-time : ¬ Off case-B (B-at (due 1) (1 ∷ 2 ∷ []))
+  pub ahead : Off case-B (B-at (due 1) (2 ∷ 1 ∷ []))
+  pub spare : Off case-B (B-at (due 1) (1 ∷ 2 ∷ 1 ∷ []))

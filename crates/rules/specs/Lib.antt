@@ -1,3 +1,4 @@
+-- The rules of the bus as definitions, in the order of document 01. docs/LEGEND.md says how to read them.
 pub mod Bounds
 pub mod Bus
 pub mod TableFile

@@ -8,6 +8,7 @@
 --   meet f s i j             the line's rule: the first end of each is below the second end of the other
 --   OverlapSet n o D         D is a largest possible set of rows that all overlap one another
 --   Least g D e              e is the least of g over D
+--   setAt ws k               set number k of the list ws
 --   SetList n o s ws         ws are the words of the overlap sets, listed by ascending least second end
 --   Sets t ws                ws is the table's list of overlap sets
 --   Tie t                    two overlap sets have the same least second end
@@ -55,11 +56,15 @@ pub record Least (g : ℕ → ℕ) (D : ℕ → Bool) (e : ℕ) : Type 0 where
   pub reached : (j : ℕ) × T (D j) × (g j ≡ e)
   pub under : (i : ℕ) → T (D i) → e ≤ g i
 
+abbrev pub setAt : List ℕ → ℕ → ℕ → Bool
+setAt ws k = bit (at ws k)
+
 -- Each is an overlap set, all of them are there, and their least second ends ascend.
 pub record SetList (n : ℕ) (o : ℕ → ℕ → Bool) (second : ℕ → ℕ) (ws : List ℕ) : Type 0 where
-  pub each : (k : ℕ) → k < length ws → OverlapSet n o (bit (at ws k))
+  pub each : (k : ℕ) → k < length ws → OverlapSet n o (setAt ws k)
   pub all : (w : ℕ) → OverlapSet n o (bit w) → (k : ℕ) × (k < length ws) × (at ws k ≡ w)
-  pub order : (k l d e : ℕ) → k < l → l < length ws → Least second (bit (at ws k)) d → Least second (bit (at ws l)) e → d < e
+  pub order : (k l d e : ℕ) → k < l → l < length ws
+      → Least second (setAt ws k) d → Least second (setAt ws l) e → d < e
 
 abbrev pub Sets : Table → List ℕ → Type 0
 Sets t ws = SetList (t .rows) (overlap t) (lineSecond t) ws

@@ -9,6 +9,8 @@
 --   load t D           the load of a set, in units of 1 / h
 --   equalPeriods t     all periods are equal
 --   light t i          periods differ, and row i's cost × L is below its period
+--   overOne t D        the set's load is over 1
+--   overLess t D       the set's load is over (L − 1) / L
 --   over t D           the set's load is over its bound
 --   reported t ws      the largest set's load in thousandths, rounded up
 --
@@ -19,11 +21,10 @@ use Prim.Native.Nat.{ℕ, _+_, _-_, _*_, _/_}
 use lib.Dec.{ltb, eqb}
 use lib.ListN.{length}
 use Rattle.numbers.specs.Finite.{every, sumIn, largest}
-use Rattle.numbers.specs.Word.{bit}
-use Rattle.numbers.specs.Lists.{at}
 use Rattle.numbers.specs.Divisors.{gcd, lcm}
 use Rattle.numbers.specs.Rounding.{up}
 use Rattle.rules.specs.Bus.{Table}
+use Rattle.rules.specs.Line.{setAt}
 
 unfoldable pub hyperperiod : Table → ℕ
 hyperperiod t = lcm (t .rows) (t .period)
@@ -56,10 +57,16 @@ equalPeriods t = every (t .rows) (λ i. eqb (t .period i) (t .period 0))
 unfoldable pub light : Table → ℕ → Bool
 light t i = not (equalPeriods t) && ltb (t .cost i * shortest t) (t .period i)
 
+abbrev pub overOne : Table → (ℕ → Bool) → Bool
+overOne t D = ltb (hyperperiod t) (load t D)
+
+abbrev pub overLess : Table → (ℕ → Bool) → Bool
+overLess t D = ltb ((shortest t - 1) * hyperperiod t) (load t D * shortest t)
+
 -- All periods equal: the bound is 1. Periods differ: the bound is (L − 1) / L.
 unfoldable pub over : Table → (ℕ → Bool) → Bool
-over t D = cond (equalPeriods t) (ltb (hyperperiod t) (load t D)) (ltb ((shortest t - 1) * hyperperiod t) (load t D * shortest t))
+over t D = cond (equalPeriods t) (overOne t D) (overLess t D)
 
 -- The verdict never uses it.
 unfoldable pub reported : Table → List ℕ → ℕ
-reported t ws = up (1000 * largest (length ws) (λ k. load t (bit (at ws k)))) (hyperperiod t)
+reported t ws = up (1000 * largest (length ws) (λ k. load t (setAt ws k))) (hyperperiod t)

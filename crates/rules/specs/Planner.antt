@@ -16,13 +16,13 @@ use mathlib.Core.Bool.{Bool, cond}
 use Prim.Native.Nat.{ℕ, zero, suc, _+_, _-_, _*_, _≤_, _<_}
 use lib.Dec.{eqb}
 use lib.IntN.{ℤ, pos, _-ℤ_}
-use Rattle.numbers.specs.Finite.{sumIn}
+use Rattle.numbers.specs.Finite.{sumIn, count}
 use Rattle.numbers.specs.Rounding.{Rounded}
 use Rattle.rules.specs.Bounds.{max-rows}
 use Rattle.rules.specs.Bus.{Table, overlap}
 use Rattle.rules.specs.Line.{OverlapSet, lineFirst}
 use Rattle.rules.specs.Loads.{hyperperiod, start, end, intervals, share}
-use Rattle.rules.specs.Interval.{Qualify, SlotWords}
+use Rattle.rules.specs.Interval.{Qualify, moves, SlotWords}
 
 pub data Stage : Type 0 where
   due : ℕ → Stage
@@ -60,6 +60,8 @@ pub record Step (t : Table) (p q : Planner) (ws : List ℕ) : Type 0 where
   pub loads : ℕ → ℕ
   pub qualify : Qualify t interval (p .totals) loads
   pub words : SlotWords (t .rows) (overlap t) (lineFirst t) loads (end t interval - start t interval) ws
+  -- Every load is placed whole, so totals are slots really moved in.
+  pub placed : (i : ℕ) → i < t .rows → count (end t interval - start t interval) (moves ws i) ≡ loads i
   pub moved : (i : ℕ) → i < t .rows → q .totals i ≡ p .totals i + loads i
   pub spare : (i : ℕ) → t .rows ≤ i → q .totals i ≡ p .totals i
   pub after : q .stage ≡ next t interval

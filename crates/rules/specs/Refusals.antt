@@ -10,12 +10,11 @@ use mathlib.Core.List.{List, [], _∷_, _++_}
 use Prim.Native.Nat.{ℕ, _+_, _-_, _*_, _≤_, _<_}
 use lib.Dec.{T}
 use lib.ListN.{length}
-use Rattle.numbers.specs.Word.{bit}
-use Rattle.numbers.specs.Lists.{at, each}
+use Rattle.numbers.specs.Lists.{each}
 use Rattle.rules.specs.Bounds.{max-elements, max-rows, max-slots}
 use Rattle.rules.specs.Bus.{Table, through}
 use Rattle.rules.specs.TableFile.{table-mark, table-version, headerSize, rowSize, rowNumbers, mark, version, fileTable, memoryTable}
-use Rattle.rules.specs.Line.{Sets, Tie}
+use Rattle.rules.specs.Line.{setAt, Sets, Tie}
 use Rattle.rules.specs.Loads.{hyperperiod, start, end, light, over}
 use Rattle.rules.specs.Planner.{Stage, due, finished, Planner, Off}
 
@@ -30,6 +29,10 @@ refuse n p A = record { number = n; place = p; applies = A }
 unfoldable pub Answers : List Check → ℕ → ℕ → Type 0
 Answers [] n p = (n ≡ 0) × (p ≡ 0)
 Answers (c ∷ cs) n p = (c .applies × (n ≡ c .number) × (p ≡ c .place)) ⊎ ((c .applies → ⊥) × Answers cs n p)
+
+-- the highest number of the table below
+abbrev pub last-number : ℕ
+last-number = 17
 
 -- x is one of a, a + 1, .., b
 abbrev In : ℕ → ℕ → ℕ → Type 0
@@ -91,7 +94,7 @@ light-row t i = refuse 13 i (T (light t i))
 
 -- an overlap set is over its bound
 abbrev pub over-bound : Table → ℕ → Check
-over-bound t k = refuse 14 k ((ws : List ℕ) × Sets t ws × (k < length ws) × T (over t (bit (at ws k))))
+over-bound t k = refuse 14 k ((ws : List ℕ) × Sets t ws × (k < length ws) × T (over t (setAt ws k)))
 
 -- planner state is off
 abbrev pub off-state : Table → Planner → Check
@@ -107,14 +110,21 @@ short-output A = refuse 17 0 A
 
 -- ---- the orders of checking: rows are taken in ascending order, within a row 7, 8, 9, and the lowest row or set is the place
 
-unfoldable pub row-checks : Table → List Check
-row-checks t = each (t .rows) (λ i. wrong-ends t i ∷ wrong-period t i ∷ wrong-cost t i ∷ [])
+-- 4 to 6, of a table whose file or slice has `has` places and is to have `wants`
+abbrev pub size-checks : Table → (has wants : ℕ) → List Check
+size-checks t has wants = wrong-elements t ∷ wrong-rows t ∷ wrong-length has wants ∷ []
 
 -- 1 to 6
 unfoldable pub header-checks : List ℕ → List Check
 header-checks f =
-    short-file f ∷ wrong-mark f ∷ wrong-version f ∷ wrong-elements (fileTable f) ∷ wrong-rows (fileTable f)
-    ∷ wrong-length (length f) (headerSize + rowSize * fileTable f .rows) ∷ []
+    short-file f ∷ wrong-mark f ∷ wrong-version f ∷ size-checks (fileTable f) (length f) (headerSize + rowSize * fileTable f .rows)
+
+-- 7 to 9 of row i
+abbrev pub faults : Table → ℕ → List Check
+faults t i = wrong-ends t i ∷ wrong-period t i ∷ wrong-cost t i ∷ []
+
+unfoldable pub row-checks : Table → List Check
+row-checks t = each (t .rows) (faults t)
 
 -- 1 to 9
 unfoldable pub file-checks : List ℕ → List Check
@@ -132,11 +142,13 @@ bound-checks t = each (t .rows) (λ i. light-row t i ∷ []) ++ each (t .rows) (
 unfoldable pub reader-checks : List ℕ → ℕ → List Check
 reader-checks f room = file-checks f ++ (short-output (room < rowNumbers * fileTable f .rows) ∷ [])
 
+-- 4 to 9, of a slice of numbers
+unfoldable pub memory-checks : ℕ → ℕ → List ℕ → List Check
+memory-checks M n xs = size-checks (memoryTable M n xs) (length xs) (rowNumbers * n) ++ row-checks (memoryTable M n xs)
+
 -- the writer 4 to 9, then 17
 unfoldable pub writer-checks : ℕ → ℕ → List ℕ → ℕ → List Check
-writer-checks M n xs room =
-    (wrong-elements (memoryTable M n xs) ∷ wrong-rows (memoryTable M n xs) ∷ wrong-length (length xs) (rowNumbers * n) ∷ [])
-    ++ row-checks (memoryTable M n xs) ++ (short-output (room < headerSize + rowSize * n) ∷ [])
+writer-checks M n xs room = memory-checks M n xs ++ (short-output (room < headerSize + rowSize * n) ∷ [])
 
 -- the verdict 1 to 14
 unfoldable pub verdict-checks : List ℕ → List Check

@@ -8,7 +8,10 @@
 --   fileTable f          the table that the file holds
 --   rowNumbers           numbers a row, in memory
 --   memoryTable M n xs   the table of M elements and n rows that a slice of numbers holds
+--   memoryRow t i        the numbers of row i, in memory
 --   numbers t            the numbers of all rows, in memory
+--   fileHeader M n       the bytes before the first row
+--   fileRow t i          the bytes of row i
 --   bytes t              the file of a table
 use mathlib.Core.List.{List, [], _∷_, _++_}
 use Prim.Native.Nat.{ℕ, _+_, _*_, _/_, _%_}
@@ -66,10 +69,17 @@ memoryTable M n xs = record {
   second = λ i. at xs (rowNumbers * i + 3);
 }
 
+abbrev pub memoryRow : Table → ℕ → List ℕ
+memoryRow t i = t .cost i ∷ t .period i ∷ t .first i ∷ t .second i ∷ []
+
 unfoldable pub numbers : Table → List ℕ
-numbers t = each (t .rows) (λ i. t .cost i ∷ t .period i ∷ t .first i ∷ t .second i ∷ [])
+numbers t = each (t .rows) (memoryRow t)
+
+abbrev pub fileHeader : ℕ → ℕ → List ℕ
+fileHeader M n = table-mark ++ write16 table-version ++ (M ∷ n ∷ [])
+
+abbrev pub fileRow : Table → ℕ → List ℕ
+fileRow t i = write16 (t .cost i) ++ write16 (t .period i) ++ (t .first i ∷ t .second i ∷ [])
 
 unfoldable pub bytes : Table → List ℕ
-bytes t =
-    table-mark ++ write16 table-version ++ (t .elements ∷ t .rows ∷ [])
-    ++ each (t .rows) (λ i. write16 (t .cost i) ++ write16 (t .period i) ++ (t .first i ∷ t .second i ∷ []))
+bytes t = fileHeader (t .elements) (t .rows) ++ each (t .rows) (fileRow t)

@@ -1,1 +1,4 @@
+pub mod Small
+pub mod Values
 pub mod Only
+pub mod Boundary

@@ -1,1 +1,2 @@
 pub mod ToC
+pub mod Boundary

@@ -1,12 +1,18 @@
--- What the two functions answer to C: the verdict's and the whole plan's number and place, as one number.
+-- What the functions for C answer: number and place of the verdict, its values, the list of sets and the whole plan, as one number.
 --
---   VerdictToC f r          r is the verdict on file f
---   PlanToC f was now r     r is the whole plan's answer to file f, and a plan that held `was` now holds `now`
+--   VerdictToC f r            r is the verdict on file f
+--   values c i h l s          the values of an admitted table in the order in which C gets them
+--   values-checks f room      the checks of the values: the verdict's, then 17
+--   ValuesToC f was now r     r answers for the values of file f's table, and a slice that held `was` now holds `now`
+--   SetsToC f was now r       r answers for the list of its sets
+--   PlanToC f was now r       r answers for its whole plan
 use mathlib.Core.Path.{_≡_}
-use mathlib.Core.List.{List}
-use Prim.Native.Nat.{ℕ}
-use Rattle.rules.specs.Refusals.{Answers, verdict-checks}
-use Rattle.rules.specs.Calls.{c-answer}
+use mathlib.Core.List.{List, [], _∷_, _++_}
+use Prim.Native.Nat.{ℕ, _<_}
+use lib.ListN.{length}
+use Rattle.rules.specs.TableFile.{fileTable}
+use Rattle.rules.specs.Refusals.{Check, Answers, short-output, verdict-checks}
+use Rattle.rules.specs.Calls.{Call, lent, Admitted, Listed, c-answer}
 use Rattle.table.specs.declared.Answer.{Answer}
 use Rattle.planner.specs.Answers.{PlanAnswer}
 
@@ -14,6 +20,43 @@ pub record VerdictToC (f : List ℕ) (r : ℕ) : Type 0 where
   pub number : ℕ
   pub place : ℕ
   pub answers : Answers (verdict-checks f) number place
+  pub as-one : r ≡ c-answer number place
+
+-- ---- the values of an admitted table
+
+-- cut, second cut (0: a table of one ring has none), L, h, reported load, number of sets
+abbrev pub values : ℕ → ℕ → ℕ → ℕ → ℕ → List ℕ
+values cut interval hyper load sets = cut ∷ 0 ∷ interval ∷ hyper ∷ load ∷ sets ∷ []
+
+abbrev pub value-count : ℕ
+value-count = 6
+
+-- 1 to 14, then 17
+unfoldable pub values-checks : List ℕ → ℕ → List Check
+values-checks f room = verdict-checks f ++ (short-output (room < value-count) ∷ [])
+
+pub record Valued (f was now : List ℕ) : Type 0 where
+  pub cut : ℕ
+  pub interval : ℕ
+  pub hyper : ℕ
+  pub load : ℕ
+  pub sets : ℕ
+  pub admitted : Admitted (fileTable f) cut interval hyper load sets
+  pub written : now ≡ lent (values cut interval hyper load sets) was
+
+pub record ValuesToC (f was now : List ℕ) (r : ℕ) : Type 0 where
+  pub number : ℕ
+  pub place : ℕ
+  pub called : Call (values-checks f (length was)) number place (Valued f was now) (now ≡ was)
+  pub as-one : r ≡ c-answer number place
+
+-- ---- lists and plans
+
+pub record SetsToC (f was now : List ℕ) (r : ℕ) : Type 0 where
+  pub number : ℕ
+  pub place : ℕ
+  pub sets : ℕ
+  pub listed : Listed f was now number place sets
   pub as-one : r ≡ c-answer number place
 
 pub record PlanToC (f was now : List ℕ) (r : ℕ) : Type 0 where

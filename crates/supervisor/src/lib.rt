@@ -1,8 +1,12 @@
-// The two functions for the supervisor, a C program: verdict and whole plan, each answering 256 × number + place (include/ringplan.h).
+// The functions for the supervisor, a C program: verdict, its values, list of sets and whole plan, each answering 256 × number + place
+// (include/ringplan.h).
+use table::Answer;
+use verdict::Verdict;
 ghost use mathlib.Core.Path.{_≡_};
 ghost use Prim.Native.Nat.{_≤_};
-ghost use Rattle.rules.specs.Calls.{c-answer};
-ghost use Rattle.supervisor.specs.ToC.{VerdictToC, PlanToC};
+ghost use lib.ListN.{length};
+ghost use Rattle.rules.specs.Calls.{lent, c-answer};
+ghost use Rattle.supervisor.specs.ToC.{VerdictToC, values, value-count, ValuesToC, SetsToC, PlanToC};
 
 // Number and place as one number.
 fn joined(number: u32, place: u32) -> u32
@@ -19,6 +23,58 @@ pub extern "C" fn ring_verdict(file: &[u8]) -> u32
 {
     let answer = verdict::judge(file);
     joined(answer.number(), answer.place())
+}
+
+// ---- the values of an admitted table
+
+// How many values there are.
+const VALUES: usize = 6;
+
+// The values, written to the front of `out` in the order in which C gets them. A table of one ring has no second cut.
+fn write_values(out: &mut [u32], cut: u32, interval: u32, hyper: u32, load: u32, sets: u32)
+    requires { ⌜ value-count ≤ length (now out) ⌝ }
+    ensures { λ _. ⌜ now (out .exit) ≡ lent (values cut interval hyper load sets) (now (out .entry)) ⌝ }
+{
+    out[0] = cut;
+    out[1] = 0;
+    out[2] = interval;
+    out[3] = hyper;
+    out[4] = load;
+    out[5] = sets;
+}
+
+// Fills in what the verdict returns of an admitted table.
+#[no_mangle]
+pub extern "C" fn ring_values(file: &[u8], out: &mut [u32]) -> u32
+    ensures { λ r. ⌜ ValuesToC (now (file .entry)) (now (out .entry)) (now (out .exit)) r ⌝ }
+{
+    let answer = verdict::judge(file);
+    let Verdict::Admitted {
+        cut,
+        interval,
+        hyper,
+        load,
+        sets,
+    } = answer
+    else {
+        return joined(answer.number(), answer.place());
+    };
+    if out.len() < VALUES {
+        return joined(Answer::SHORT_OUTPUT, 0);
+    }
+    write_values(out, cut, interval, hyper, load, sets);
+    joined(Answer::DONE, 0)
+}
+
+// ---- lists and plans
+
+// Fills in the list of the overlap sets of a table.
+#[no_mangle]
+pub extern "C" fn ring_sets(file: &[u8], sets: &mut [u64]) -> u32
+    ensures { λ r. ⌜ SetsToC (now (file .entry)) (now (sets .entry)) (now (sets .exit)) r ⌝ }
+{
+    let listing = outline::list_of_sets(file, sets);
+    joined(listing.number, listing.place)
 }
 
 // Fills the whole plan of an admitted table.

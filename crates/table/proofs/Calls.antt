@@ -5,10 +5,9 @@ use mathlib.Core.List.{List}
 use Prim.Native.Nat.{ℕ, _+_, _*_, _<_}
 use lib.ListN.{length}
 use Rattle.rules.specs.TableFile.{headerSize, rowSize, rowNumbers, fileTable, memoryTable, numbers, bytes}
-use Rattle.rules.specs.Refusals.{Answers, file-checks, reader-checks, writer-checks}
+use Rattle.rules.specs.Refusals.{Answers, file-checks, reader-checks, memory-checks, writer-checks}
 use Rattle.rules.specs.Calls.{Read, Written, lent}
 use Rattle.rules.proofs.Answers.{None}
-use Rattle.table.specs.Sizes.{memory-checks}
 use Rattle.rules.proofs.Calls.{call-refused, call-short, call-done, call-only}
 use Rattle.table.proofs.Faults.{file-numbered, memory-numbered}
 
@@ -38,16 +37,16 @@ module _ (M n : ℕ) (xs was : List ℕ) where
   cramped = length was < headerSize + rowSize * n
 
   pub written-refused : (m p : ℕ) → Answers (memory-checks M n xs) m p → m ≢ 0 → Written M n xs was was m p
-  unfolding writer-checks memory-checks
+  unfolding writer-checks
   written-refused m p a h = call-refused (memory-checks M n xs) cramped a h refl
 
   pub written-short : None (memory-checks M n xs) → cramped → Written M n xs was was 17 0
-  unfolding writer-checks memory-checks
+  unfolding writer-checks
   written-short a h = call-short (memory-checks M n xs) cramped a h refl
 
   pub written-done : (now : List ℕ) (m p : ℕ) → Answers (memory-checks M n xs) m p → m ≡ 0 → (cramped → ⊥)
       → now ≡ lent (bytes (memoryTable M n xs)) was → Written M n xs was now m p
-  unfolding writer-checks memory-checks
+  unfolding writer-checks
   written-done now m p a e h k = call-done (memory-checks M n xs) cramped (memory-numbered M n xs) a e h k
 
 -- ---- only one answer fits

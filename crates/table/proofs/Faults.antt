@@ -13,16 +13,14 @@ use Rattle.numbers.proofs.Truth.{le-or-lt}
 use Rattle.rules.specs.Bounds.{max-elements, max-rows, max-slots}
 use Rattle.rules.specs.Bus.{Table}
 use Rattle.rules.specs.TableFile.{table-mark, table-version, headerSize, rowSize, rowNumbers, mark, version, fileTable, memoryTable}
-use Rattle.rules.specs.Refusals.{Check, Answers, wrong-ends, row-checks, header-checks, file-checks}
+use Rattle.rules.specs.Refusals.{Check, Answers, wrong-ends, size-checks, header-checks, faults, row-checks, file-checks, memory-checks}
 use Rattle.rules.proofs.Answers.{None, none-of, none-join, none-left, none-right, none-each, none-at, none-next}
 use Rattle.rules.proofs.Answers.{Numbered, numbered-join, numbered-each, passed, answered, stopped, stopped-at, joined}
 use Rattle.table.specs.declared.Row.{Row}
 use Rattle.table.specs.Sound.{SoundRow, Sound, Passed}
-use Rattle.table.specs.Rows.{IsRow, single, faults, EndsFit}
-use Rattle.table.specs.Sizes.{size-checks, memory-checks}
+use Rattle.table.specs.Rows.{IsRow, single, EndsFit}
+use Rattle.table.specs.Columns.{Whole}
 use Rattle.numbers.proofs.Truth.{limits, equals}
-
--- ---- tests
 
 -- ---- no refusal has the number 0
 
@@ -38,9 +36,9 @@ pub header-numbered : (f : List ℕ) → Numbered (header-checks f)
 unfolding header-checks Numbered
 header-numbered f = omega arith
 
-pub sizes-numbered : (M n has wants : ℕ) → Numbered (size-checks M n has wants)
+pub sizes-numbered : (t : Table) (has wants : ℕ) → Numbered (size-checks t has wants)
 unfolding Numbered
-sizes-numbered M n has wants = omega arith
+sizes-numbered t has wants = omega arith
 
 pub file-numbered : (f : List ℕ) → Numbered (file-checks f)
 unfolding file-checks
@@ -112,20 +110,20 @@ pub rows-none : (t : Table) → ((i : ℕ) → i < t .rows → SoundRow t i) →
 unfolding row-checks
 rows-none t h = none-each (faults t) (t .rows) (λ i l. row-none t i (h i l))
 
-pub sizes-right : (M n has wants : ℕ) → None (size-checks M n has wants)
-    → (2 ≤ M) × (M ≤ max-elements) × (1 ≤ n) × (n ≤ max-rows) × (has ≡ wants)
+pub sizes-right : (t : Table) (has wants : ℕ) → None (size-checks t has wants)
+    → (2 ≤ t .elements) × (t .elements ≤ max-elements) × (1 ≤ t .rows) × (t .rows ≤ max-rows) × (has ≡ wants)
 unfolding None
-sizes-right M n has wants a =
-    let m = limits M 2 max-elements (a .0) in
-    let r = limits n 1 max-rows (a .1 .0) in
+sizes-right t has wants a =
+    let m = limits (t .elements) 2 max-elements (a .0) in
+    let r = limits (t .rows) 1 max-rows (a .1 .0) in
     (m .0, m .1, r .0, r .1, equals has wants (a .1 .1 .0))
 
-pub table-sound : (t : Table) (has wants : ℕ) → None (size-checks (t .elements) (t .rows) has wants) → None (row-checks t) → Sound t
+pub table-sound : (t : Table) (has wants : ℕ) → None (size-checks t has wants) → None (row-checks t) → Sound t
 table-sound t has wants a b =
-    let s = sizes-right (t .elements) (t .rows) has wants a in
+    let s = sizes-right t has wants a in
     record { elements-low = s .0; elements-high = s .1; rows-low = s .2; rows-high = s .3; row = rows-sound t b }
 
-pub table-none : (t : Table) (has wants : ℕ) → Sound t → has ≡ wants → None (size-checks (t .elements) (t .rows) has wants)
+pub table-none : (t : Table) (has wants : ℕ) → Sound t → has ≡ wants → None (size-checks t has wants)
 unfolding None
 table-none t has wants s e =
     (λ h. h (s .elements-low, s .elements-high), (λ h. h (s .rows-low, s .rows-high), (λ n. n e, tt)))
@@ -153,7 +151,7 @@ mark-right f l h =
 -- what passing checks 1 to 6 says, with checks 4 to 6 by themselves
 pub header-split : (f : List ℕ) → None (header-checks f)
     → (headerSize ≤ length f) × (mark f ≡ table-mark) × (version f ≡ table-version)
-    × None (size-checks (fileTable f .elements) (fileTable f .rows) (length f) (headerSize + rowSize * fileTable f .rows))
+    × None (size-checks (fileTable f) (length f) (headerSize + rowSize * fileTable f .rows))
 unfolding header-checks None
 header-split f a =
     let l : headerSize ≤ length f = ⊎-elim (λ h. h) (λ h. absurd (a .0 h)) (le-or-lt headerSize (length f)) in
@@ -161,21 +159,21 @@ header-split f a =
 
 -- past checks 1 to 3 the size decides
 pub header-rest : (f : List ℕ) (n : ℕ) → headerSize ≤ length f → mark f ≡ table-mark → version f ≡ table-version
-    → Answers (size-checks (fileTable f .elements) (fileTable f .rows) (length f) (headerSize + rowSize * fileTable f .rows)) n 0
+    → Answers (size-checks (fileTable f) (length f) (headerSize + rowSize * fileTable f .rows)) n 0
     → Answers (header-checks f) n 0
 unfolding header-checks
 header-rest f n l m v a =
     passed _ _ n 0 (λ (h : length f < headerSize). let z : ⊥ = omega arith in z) (passed _ _ n 0 (λ h. h m) (passed _ _ n 0 (λ h. h v) a))
 
-pub header-size : (f : List ℕ) → None (header-checks f) → length f ≡ headerSize + rowSize * fileTable f .rows
-header-size f a = sizes-right _ _ _ _ (header-split f a .3) .4
+pub header-whole : (f : List ℕ) → None (header-checks f) → Whole f
+header-whole f a = let s = sizes-right (fileTable f) _ _ (header-split f a .3) in record { size = s .4; few = s .3 }
 
 pub passed-none : (f : List ℕ) → None (file-checks f) → Passed f
 unfolding file-checks
 passed-none f a =
     let h = none-left (header-checks f) (row-checks (fileTable f)) a in
     record {
-      size = header-size f h;
+      size = header-whole f h .size;
       sound = table-sound (fileTable f) _ _ (header-split f h .3) (none-right (header-checks f) (row-checks (fileTable f)) a);
     }
 
@@ -226,7 +224,7 @@ module _ (M n : ℕ) (xs : List ℕ) where
   t = memoryTable M n xs
 
   abbrev sizes : List Check
-  sizes = size-checks M n (length xs) (rowNumbers * n)
+  sizes = size-checks (memoryTable M n xs) (length xs) (rowNumbers * n)
 
   pub memory-stopped : (m : ℕ) → m ≢ 0 → Answers sizes m 0 → Answers (memory-checks M n xs) m 0
   unfolding memory-checks
@@ -238,13 +236,13 @@ module _ (M n : ℕ) (xs : List ℕ) where
 
   pub memory-numbered : Numbered (memory-checks M n xs)
   unfolding memory-checks
-  memory-numbered = numbered-join sizes (row-checks t) (sizes-numbered M n (length xs) (rowNumbers * n)) (rows-numbered t)
+  memory-numbered = numbered-join sizes (row-checks t) (sizes-numbered t (length xs) (rowNumbers * n)) (rows-numbered t)
 
   pub memory-sound : None (memory-checks M n xs) → Sound t × (length xs ≡ rowNumbers * n)
   unfolding memory-checks
   memory-sound a =
       let s = none-left sizes (row-checks t) a in
-      (table-sound t (length xs) (rowNumbers * n) s (none-right sizes (row-checks t) a), sizes-right M n (length xs) (rowNumbers * n) s .4)
+      (table-sound t (length xs) (rowNumbers * n) s (none-right sizes (row-checks t) a), sizes-right t (length xs) (rowNumbers * n) s .4)
 
   pub memory-none : Sound t → length xs ≡ rowNumbers * n → None (memory-checks M n xs)
   unfolding memory-checks

@@ -8,9 +8,10 @@ use lib.Seq.{sets, drop-drop}
 use Rattle.numbers.specs.Lists.{each}
 use Rattle.numbers.proofs.Lists.{Filled, filled-start, filled-take, filled-drop, each-none, each-next}
 use Rattle.rules.specs.Bus.{Table}
+use Rattle.rules.specs.TableFile.{memoryRow, fileRow}
 use Rattle.rules.specs.Calls.{lent}
 use Rattle.table.specs.declared.Row.{Row}
-use Rattle.table.specs.Rows.{IsRow, memoryRow, fileRow, inMemory, inFile}
+use Rattle.table.specs.Rows.{IsRow, inMemory, inFile}
 use Rattle.numbers.proofs.Lists.{filled-sets}
 
 -- no row, after p

@@ -22,15 +22,16 @@ use Rattle.rules.specs.TableFile.{
   version,
   fileTable,
   memoryTable,
+  memoryRow,
   numbers,
+  fileHeader,
+  fileRow,
   bytes,
 }
-use Rattle.rules.specs.Refusals.{header-checks, file-checks, reader-checks, writer-checks}
+use Rattle.rules.specs.Refusals.{header-checks, file-checks, reader-checks, memory-checks, writer-checks}
 use Rattle.rules.specs.Calls.{lent, Read, Written}
 use Rattle.rules.proofs.Answers.{None, Numbered, none-join, none-left, numbered-join}
 use Rattle.table.specs.Sound.{Sound}
-use Rattle.table.specs.Rows.{memoryRow, fileRow, fileHeader}
-use Rattle.table.specs.Sizes.{memory-checks}
 use Rattle.table.proofs.Faults.{mark-at, header-split, passed-none, none-passed, file-numbered}
 use Rattle.table.proofs.Faults.{memory-sound, memory-none, memory-numbered}
 use Rattle.rules.proofs.Calls.{lent-take, call-none, call-must}
@@ -218,7 +219,7 @@ unfolding reader-checks Numbered
 reader-numbered f room = numbered-join (file-checks f) _ (file-numbered f) (omega arith)
 
 writer-numbered : (M n : ℕ) (xs : List ℕ) (room : ℕ) → Numbered (writer-checks M n xs room)
-unfolding writer-checks memory-checks Numbered
+unfolding writer-checks Numbered
 writer-numbered M n xs room = numbered-join (memory-checks M n xs) _ (memory-numbered M n xs) (omega arith)
 
 reader-none : (f : List ℕ) (room : ℕ) → None (file-checks f) → rowNumbers * fileTable f .rows ≤ room → None (reader-checks f room)
@@ -227,16 +228,16 @@ reader-none f room a l = none-join (file-checks f) _ a (λ (h : room < rowNumber
 
 writer-none : (M n : ℕ) (xs : List ℕ) (room : ℕ) → None (memory-checks M n xs) → headerSize + rowSize * n ≤ room
     → None (writer-checks M n xs room)
-unfolding writer-checks memory-checks None
+unfolding writer-checks None
 writer-none M n xs room a l =
     none-join (memory-checks M n xs) _ a (λ (h : room < headerSize + rowSize * n). let z : ⊥ = omega arith in z, tt)
 
-read-none : (f : List ℕ) (room : ℕ) → None (reader-checks f room) → None (file-checks f)
+pub read-none : (f : List ℕ) (room : ℕ) → None (reader-checks f room) → None (file-checks f)
 unfolding reader-checks
 read-none f room a = none-left (file-checks f) _ a
 
-written-none : (M n : ℕ) (xs : List ℕ) (room : ℕ) → None (writer-checks M n xs room) → None (memory-checks M n xs)
-unfolding writer-checks memory-checks
+pub written-none : (M n : ℕ) (xs : List ℕ) (room : ℕ) → None (writer-checks M n xs room) → None (memory-checks M n xs)
+unfolding writer-checks
 written-none M n xs room a = none-left (memory-checks M n xs) _ a
 
 -- what was read, the writer writes as it stood in the file

@@ -1,4 +1,4 @@
 pub mod Sound
 pub mod Rows
-pub mod Sizes
 pub mod Columns
+pub mod Decoded

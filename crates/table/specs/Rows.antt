@@ -3,19 +3,15 @@
 --   IsHead f r         r is what file f says of its table
 --   IsRow t i r        r is row i of table t
 --   single M r         the table of M elements that has r as its only row
---   faults t i         the checks of row i, in their order
---   memoryRow t i      the numbers of row i in memory
---   fileRow t i        the bytes of row i in a file
+--   sized M n          a table of which only the elements and the number of rows are told
 --   inMemory r         the numbers of r in memory
 --   inFile r           the bytes of r in a file
---   fileHeader M n     the bytes before the first row
 --   EndsFit t          every end fits a byte
 use mathlib.Core.Path.{_≡_}
-use mathlib.Core.List.{List, [], _∷_, _++_}
+use mathlib.Core.List.{List, []}
 use Prim.Native.Nat.{ℕ, _<_}
 use Rattle.rules.specs.Bus.{Table}
-use Rattle.rules.specs.TableFile.{table-mark, table-version, write16, fileTable}
-use Rattle.rules.specs.Refusals.{Check, wrong-ends, wrong-period, wrong-cost}
+use Rattle.rules.specs.TableFile.{fileTable, memoryTable, memoryRow, fileRow}
 use Rattle.table.specs.declared.Table.{Table as Head}
 use Rattle.table.specs.declared.Row.{Row}
 
@@ -41,23 +37,14 @@ single M r = record {
   second = λ i. r .second;
 }
 
-abbrev pub faults : Table → ℕ → List Check
-faults t i = wrong-ends t i ∷ wrong-period t i ∷ wrong-cost t i ∷ []
-
-abbrev pub memoryRow : Table → ℕ → List ℕ
-memoryRow t i = t .cost i ∷ t .period i ∷ t .first i ∷ t .second i ∷ []
-
-abbrev pub fileRow : Table → ℕ → List ℕ
-fileRow t i = write16 (t .cost i) ++ write16 (t .period i) ++ (t .first i ∷ t .second i ∷ [])
+abbrev pub sized : ℕ → ℕ → Table
+sized M n = memoryTable M n []
 
 abbrev pub inMemory : Row → List ℕ
 inMemory r = memoryRow (single 0 r) 0
 
 abbrev pub inFile : Row → List ℕ
 inFile r = fileRow (single 0 r) 0
-
-abbrev pub fileHeader : ℕ → ℕ → List ℕ
-fileHeader M n = table-mark ++ write16 table-version ++ (M ∷ n ∷ [])
 
 pub record EndsFit (t : Table) : Type 0 where
   pub first : (i : ℕ) → i < t .rows → t .first i < 256

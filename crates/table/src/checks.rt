@@ -4,9 +4,8 @@ use crate::Row;
 use crate::Table;
 ghost use Prim.Native.Nat.{_+_, _*_, _≤_};
 ghost use Rattle.rules.specs.TableFile.{headerSize, rowSize};
-ghost use Rattle.rules.specs.Refusals.{Answers};
-ghost use Rattle.table.specs.Rows.{single, faults};
-ghost use Rattle.table.specs.Sizes.{size-checks};
+ghost use Rattle.rules.specs.Refusals.{Answers, size-checks, faults};
+ghost use Rattle.table.specs.Rows.{single, sized};
 ghost use Rattle.numbers.specs.Decides.{Decides};
 
 pub(crate) fn within(x: usize, low: usize, high: usize) -> bool
@@ -27,7 +26,7 @@ pub(crate) fn size_fault(
     each: usize,
 ) -> u32
     requires { ⌜ (front ≤ headerSize) × (each ≤ rowSize) ⌝ }
-    ensures { λ r. ⌜ Answers (size-checks elements rows size (front + each * rows)) r 0 ⌝ }
+    ensures { λ r. ⌜ Answers (size-checks (sized elements rows) size (front + each * rows)) r 0 ⌝ }
 {
     if !within(elements, 2, Table::ELEMENTS) {
         return Answer::WRONG_ELEMENTS;

@@ -1,13 +1,15 @@
 // A table in memory: a column for each of its rows' numbers. Below this crate a table is its columns, whatever file it came from.
+use crate::Row;
 use crate::Table;
-use crate::row_at;
+use crate::read16;
+use crate::wide;
 ghost use mathlib.Core.Path.{_≡_};
-ghost use Prim.Native.Nat.{_<_};
+ghost use Prim.Native.Nat.{ℕ, _<_};
 ghost use Rattle.numbers.specs.Lists.{at};
 ghost use Rattle.rules.specs.Bounds.{max-rows};
 ghost use Rattle.rules.specs.TableFile.{fileTable};
-ghost use Rattle.table.specs.Sound.{Passed};
-ghost use Rattle.table.specs.Columns.{tableOf};
+ghost use Rattle.table.specs.Rows.{IsRow};
+ghost use Rattle.table.specs.Columns.{Whole, columnTable, noColumns, Holds};
 
 // Every column has 0 past the last row.
 pub struct Columns {
@@ -19,10 +21,24 @@ pub struct Columns {
     pub second: [u8; Table::ROWS],
 }
 
-// The columns of the table in a file that passed checks 1 to 9.
-pub fn columns_of(file: &[u8]) -> Columns
-    requires { ⌜ Passed (now file) ⌝ }
-    ensures { λ r. ⌜ tableOf r ≡ fileTable (now (file .entry)) ⌝ }
+// The columns of no table: what stands beside a refusal.
+pub(crate) fn no_columns() -> Columns
+    ensures { λ r. ⌜ r ≡ noColumns ⌝ }
+{
+    Columns {
+        elements: 0,
+        rows: 0,
+        cost: [0; Table::ROWS],
+        period: [0; Table::ROWS],
+        first: [0; Table::ROWS],
+        second: [0; Table::ROWS],
+    }
+}
+
+// The columns of the table in a file that is as long as it says.
+pub(crate) fn columns_of(file: &[u8]) -> Columns
+    requires { ⌜ Whole (now file) ⌝ }
+    ensures { λ r. ⌜ Holds (fileTable (now (file .entry))) r ⌝ }
 {
     let table = Table::of(file);
     let mut cost = [0u16; Table::ROWS];
@@ -31,11 +47,11 @@ pub fn columns_of(file: &[u8]) -> Columns
     let mut second = [0u8; Table::ROWS];
     let mut i: usize = 0;
     while i < table.rows {
-        let row = row_at(file, i);
-        cost[i] = row.cost;
-        period[i] = row.period;
-        first[i] = row.first as u8;
-        second[i] = row.second as u8;
+        let at = Table::HEADER + Table::ROW_BYTES * i;
+        cost[i] = read16(file, at);
+        period[i] = read16(file, at + 2);
+        first[i] = file[at + 4];
+        second[i] = file[at + 5];
         i += 1;
     }
     Columns {
@@ -45,6 +61,26 @@ pub fn columns_of(file: &[u8]) -> Columns
         period: period,
         first: first,
         second: second,
+    }
+}
+
+// Row `i` of a table in columns.
+pub(crate) fn row_at<'a>(
+    cost: &'a [u16; Table::ROWS],
+    period: &'a [u16; Table::ROWS],
+    first: &'a [u8; Table::ROWS],
+    second: &'a [u8; Table::ROWS],
+    i: usize,
+) -> Row
+    requires { ⌜ i < max-rows ⌝ }
+    ensures { λ r. ⌜ ((M n : ℕ)
+        → IsRow (columnTable M n (now (cost .entry)) (now (period .entry)) (now (first .entry)) (now (second .entry))) i r) ⌝ }
+{
+    Row {
+        cost: cost[i],
+        period: period[i],
+        first: wide(first[i]),
+        second: wide(second[i]),
     }
 }
 

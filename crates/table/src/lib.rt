@@ -5,18 +5,19 @@ mod reader;
 mod writer;
 
 pub use columns::Columns;
-pub use columns::columns_of;
 pub use columns::end_at;
 pub use columns::slots_at;
-pub use reader::check;
+pub use reader::Decoded;
+pub use reader::Reading;
+pub use reader::decode;
 pub use reader::read;
 pub use writer::write;
 ghost use mathlib.Core.Path.{_≡_};
 ghost use Prim.Native.Nat.{_+_, _*_, _<_, _≤_};
 ghost use lib.ListN.{length};
 ghost use Rattle.rules.specs.Bounds.{max-elements, max-rows, max-slots};
-ghost use Rattle.rules.specs.TableFile.{headerSize, rowSize, rowNumbers, fileTable};
-ghost use Rattle.table.specs.Rows.{IsHead, IsRow};
+ghost use Rattle.rules.specs.TableFile.{headerSize, rowSize, rowNumbers};
+ghost use Rattle.table.specs.Rows.{IsHead};
 
 // A table: how many elements the ring has, and how many rows.
 pub struct Table {
@@ -147,7 +148,16 @@ impl Answer {
 
     pub const SHORT_OUTPUT: u32 = 17;
 
-    // A refusal for row or set `place`.
+    pub fn done() -> Answer
+        ensures { λ r. ⌜ (r .number ≡ 0) × (r .place ≡ 0) ⌝ }
+    {
+        Answer {
+            number: Answer::DONE,
+            place: 0,
+        }
+    }
+
+    // A refusal for row or set `place`, or for no place, 0.
     pub fn at(number: u32, place: usize) -> Answer
         requires { ⌜ place < max-slots ⌝ }
         ensures { λ r. ⌜ (r .number ≡ number) × (r .place ≡ place) ⌝ }
@@ -159,36 +169,16 @@ impl Answer {
     }
 }
 
-// What the reader returns beside the numbers that it fills in.
-pub struct Reading {
-    pub answer: Answer,
-    pub table: Table,
-}
-
-fn wide(x: u8) -> u16
+pub(crate) fn wide(x: u8) -> u16
     ensures { λ r. ⌜ (r ≡ x) × (r < 256) ⌝ }
 {
     x as u16
 }
 
 // The 16 bits at byte `at`, low byte first.
-fn read16(file: &[u8], at: usize) -> u16
+pub(crate) fn read16(file: &[u8], at: usize) -> u16
     requires { ⌜ at + 1 < length (now file) ⌝ }
     ensures { λ r. ⌜ r ≡ Rattle.rules.specs.TableFile.read16 (now (file .entry)) at ⌝ }
 {
     wide(file[at]) + 256 * wide(file[at + 1])
-}
-
-// Row `i` of a file that holds it.
-pub(crate) fn row_at(file: &[u8], i: usize) -> Row
-    requires { ⌜ 7 + 6 * (i + 1) ≤ length (now file) ⌝ }
-    ensures { λ r. ⌜ IsRow (fileTable (now (file .entry))) i r ⌝ }
-{
-    let at = Table::HEADER + Table::ROW_BYTES * i;
-    Row {
-        cost: read16(file, at),
-        period: read16(file, at + 2),
-        first: wide(file[at + 4]),
-        second: wide(file[at + 5]),
-    }
 }

@@ -1,21 +1,25 @@
 // The reader: from a file to numbers in memory.
 use crate::Answer;
-use crate::Reading;
+use crate::Columns;
 use crate::Row;
 use crate::Table;
 use crate::checks::row_fault;
 use crate::checks::size_fault;
+use crate::columns::columns_of;
+use crate::columns::no_columns;
+use crate::columns::row_at;
 use crate::read16;
-use crate::row_at;
 ghost use mathlib.Core.Path.{_≡_};
 ghost use Prim.Native.Nat.{_+_, _*_, _≤_};
 ghost use lib.ListN.{length};
 ghost use lib.Seq.{sets};
-ghost use Rattle.numbers.specs.Lists.{each};
-ghost use Rattle.rules.specs.TableFile.{table-mark, headerSize, rowSize, rowNumbers, mark, fileTable};
-ghost use Rattle.rules.specs.Refusals.{Answers, header-checks, row-checks, file-checks};
+ghost use Rattle.rules.specs.Bounds.{max-rows};
+ghost use Rattle.rules.specs.TableFile.{table-mark, rowNumbers, mark, numbers};
+ghost use Rattle.rules.specs.Refusals.{Answers, header-checks, row-checks};
 ghost use Rattle.rules.specs.Calls.{lent, Read};
-ghost use Rattle.table.specs.Rows.{inMemory, memoryRow};
+ghost use Rattle.table.specs.Rows.{inMemory};
+ghost use Rattle.table.specs.Columns.{columnTable};
+ghost use Rattle.table.specs.Decoded.{refusal, Decodes};
 ghost use Rattle.numbers.specs.Decides.{Decides};
 
 fn is_marked(file: &[u8]) -> bool
@@ -54,38 +58,70 @@ fn header_fault(file: &[u8]) -> u32
     )
 }
 
-// Checks 7 to 9, in a file that holds as many rows as it says.
-fn check_rows(file: &[u8]) -> Answer
-    requires { ⌜ headerSize + rowSize * fileTable (now file) .rows ≤ length (now file) ⌝ }
-    ensures { λ r. ⌜ Answers (row-checks (fileTable (now (file .entry)))) (r .number) (r .place) ⌝ }
+// Checks 7 to 9 of a table in columns.
+fn check_rows<'a>(
+    elements: usize,
+    rows: usize,
+    cost: &'a [u16; Table::ROWS],
+    period: &'a [u16; Table::ROWS],
+    first: &'a [u8; Table::ROWS],
+    second: &'a [u8; Table::ROWS],
+) -> Answer
+    requires { ⌜ rows ≤ max-rows ⌝ }
+    ensures { λ r. ⌜ Answers
+        (row-checks (columnTable elements rows (now (cost .entry)) (now (period .entry)) (now (first .entry)) (now (second .entry))))
+        (r .number) (r .place) ⌝ }
 {
-    let table = Table::of(file);
     let mut i: usize = 0;
-    while i < table.rows {
-        let number = row_fault(table.elements, row_at(file, i));
+    while i < rows {
+        let number = row_fault(elements, row_at(cost, period, first, second, i));
         if number != Answer::DONE {
             return Answer::at(number, i);
         }
         i += 1;
     }
-    Answer {
-        number: Answer::DONE,
-        place: 0,
+    Answer::done()
+}
+
+// A file's table, or why it is refused.
+pub struct Decoded {
+    pub answer: Answer,
+    pub columns: Columns,
+}
+
+fn refuse(answer: Answer) -> Decoded
+    ensures { λ r. ⌜ r ≡ refusal answer ⌝ }
+{
+    Decoded {
+        answer: answer,
+        columns: no_columns(),
     }
 }
 
-// Checks 1 to 9.
-pub fn check(file: &[u8]) -> Answer
-    ensures { λ r. ⌜ Answers (file-checks (now (file .entry))) (r .number) (r .place) ⌝ }
+// Checks 1 to 9. The columns are a passed file's; all 0 beside a refusal.
+pub fn decode(file: &[u8]) -> Decoded
+    ensures { λ r. ⌜ Decodes (now (file .entry)) r ⌝ }
 {
     let number = header_fault(file);
     if number != Answer::DONE {
-        return Answer {
-            number: number,
-            place: 0,
-        };
+        return refuse(Answer::at(number, 0));
     }
-    check_rows(file)
+    let columns = columns_of(file);
+    let answer = check_rows(
+        columns.elements,
+        columns.rows,
+        &columns.cost,
+        &columns.period,
+        &columns.first,
+        &columns.second,
+    );
+    if answer.number != Answer::DONE {
+        return refuse(answer);
+    }
+    Decoded {
+        answer: answer,
+        columns: columns,
+    }
 }
 
 // The numbers of a row, from `at` on.
@@ -99,15 +135,46 @@ fn put_numbers(row: Row, at: usize, out: &mut [u16])
     out[at + 3] = row.second;
 }
 
-// The numbers of all rows of a file, at the front of `out`.
-fn put_all_numbers(file: &[u8], rows: usize, out: &mut [u16])
-    requires { ⌜ (headerSize + rowSize * rows ≤ length (now file)) × (rowNumbers * rows ≤ length (now out)) ⌝ }
-    ensures { λ _. ⌜ now (out .exit) ≡ lent (each rows (memoryRow (fileTable (now (file .entry))))) (now (out .entry)) ⌝ }
+// The numbers of all rows of a table in columns, at the front of `out`.
+fn put_all_numbers<'a>(
+    rows: usize,
+    cost: &'a [u16; Table::ROWS],
+    period: &'a [u16; Table::ROWS],
+    first: &'a [u8; Table::ROWS],
+    second: &'a [u8; Table::ROWS],
+    out: &mut [u16],
+)
+    requires { ⌜ (rows ≤ max-rows) × (rowNumbers * rows ≤ length (now out)) ⌝ }
+    ensures { λ _. ⌜ now (out .exit) ≡ lent
+        (numbers (columnTable 0 rows (now (cost .entry)) (now (period .entry)) (now (first .entry)) (now (second .entry))))
+        (now (out .entry)) ⌝ }
 {
     let mut i: usize = 0;
     while i < rows {
-        put_numbers(row_at(file, i), Table::ROW_NUMBERS * i, out);
+        put_numbers(
+            row_at(cost, period, first, second, i),
+            Table::ROW_NUMBERS * i,
+            out,
+        );
         i += 1;
+    }
+}
+
+// What the reader returns beside the numbers that it fills in.
+pub struct Reading {
+    pub answer: Answer,
+    pub table: Table,
+}
+
+fn refuse_read(answer: Answer) -> Reading
+    ensures { λ r. ⌜ (r .answer ≡ answer) × (r .table .elements ≡ 0) × (r .table .rows ≡ 0) ⌝ }
+{
+    Reading {
+        answer: answer,
+        table: Table {
+            elements: 0,
+            rows: 0,
+        },
     }
 }
 
@@ -116,32 +183,28 @@ pub fn read(file: &[u8], out: &mut [u16]) -> Reading
     ensures { λ r. ⌜ Read (now (file .entry)) (now (out .entry)) (now (out .exit))
         (r .answer .number) (r .answer .place) (r .table .elements) (r .table .rows) ⌝ }
 {
-    let answer = check(file);
+    let found = decode(file);
+    let answer = found.answer;
     if answer.number != Answer::DONE {
-        return Reading {
-            answer: answer,
-            table: Table {
-                elements: 0,
-                rows: 0,
-            },
-        };
+        return refuse_read(answer);
     }
-    let table = Table::of(file);
-    if out.len() < Table::ROW_NUMBERS * table.rows {
-        return Reading {
-            answer: Answer {
-                number: Answer::SHORT_OUTPUT,
-                place: 0,
-            },
-            table: Table {
-                elements: 0,
-                rows: 0,
-            },
-        };
+    let columns = found.columns;
+    if out.len() < Table::ROW_NUMBERS * columns.rows {
+        return refuse_read(Answer::at(Answer::SHORT_OUTPUT, 0));
     }
-    put_all_numbers(file, table.rows, out);
+    put_all_numbers(
+        columns.rows,
+        &columns.cost,
+        &columns.period,
+        &columns.first,
+        &columns.second,
+        out,
+    );
     Reading {
         answer: answer,
-        table: table,
+        table: Table {
+            elements: columns.elements,
+            rows: columns.rows,
+        },
     }
 }

@@ -11,11 +11,10 @@ ghost use lib.ListN.{length, take};
 ghost use lib.Seq.{sets};
 ghost use Rattle.numbers.specs.Lists.{each};
 ghost use Rattle.rules.specs.Bounds.{max-rows};
-ghost use Rattle.rules.specs.TableFile.{headerSize, rowSize, rowNumbers, memoryTable};
-ghost use Rattle.rules.specs.Refusals.{Answers, row-checks};
+ghost use Rattle.rules.specs.TableFile.{headerSize, rowSize, rowNumbers, memoryTable, fileRow, fileHeader};
+ghost use Rattle.rules.specs.Refusals.{Answers, row-checks, memory-checks};
 ghost use Rattle.rules.specs.Calls.{lent, Written};
-ghost use Rattle.table.specs.Rows.{IsRow, inFile, fileRow, fileHeader, EndsFit};
-ghost use Rattle.table.specs.Sizes.{memory-checks};
+ghost use Rattle.table.specs.Rows.{IsRow, inFile, EndsFit};
 
 // Row `i` of a slice that holds it.
 fn row_of(numbers: &[u16], i: usize) -> Row
@@ -44,10 +43,7 @@ fn check_row_numbers(elements: usize, rows: usize, numbers: &[u16]) -> Answer
         }
         i += 1;
     }
-    Answer {
-        number: Answer::DONE,
-        place: 0,
-    }
+    Answer::done()
 }
 
 // Checks 4 to 9 of a slice.
@@ -56,10 +52,7 @@ fn check_numbers(elements: usize, rows: usize, numbers: &[u16]) -> Answer
 {
     let number = size_fault(elements, rows, numbers.len(), 0, Table::ROW_NUMBERS);
     if number != Answer::DONE {
-        return Answer {
-            number: number,
-            place: 0,
-        };
+        return Answer::at(number, 0);
     }
     check_row_numbers(elements, rows, numbers)
 }
@@ -118,10 +111,7 @@ pub fn write(elements: u64, rows: u64, numbers: &[u16], out: &mut [u8]) -> Answe
     }
     let count = rows as usize;
     if out.len() < Table::HEADER + Table::ROW_BYTES * count {
-        return Answer {
-            number: Answer::SHORT_OUTPUT,
-            place: 0,
-        };
+        return Answer::at(Answer::SHORT_OUTPUT, 0);
     }
     put_header(elements as u8, rows as u8, out);
     put_all_bytes(numbers, count, out);

@@ -272,11 +272,13 @@ pub fn analysis_of(columns: Columns) -> Analysis
 pub fn analyse(file: &[u8]) -> Analysis
     ensures { λ r. ⌜ Analysed (verdict-checks (now (file .entry))) (fileTable (now (file .entry))) r ⌝ }
 {
-    let answer = table::check(file);
+    let found = table::decode(file);
+    let answer = found.answer;
     if answer.number != Answer::DONE {
         return refuse(answer.number, answer.place);
     }
-    analysis_of(table::columns_of(file))
+    let columns = found.columns;
+    analysis_of(columns)
 }
 
 // ---- the verdict

@@ -45,8 +45,11 @@ loop-again c =
     checked-next _ _ refl (c .before .before .row-of .ensures (a .elements) (a .rows)) (c .before .row-fault .ensures)
     (c .before .before .before .before .loop .inv) (c .before .before .before .loop-test .taken) (c .if1 .left)
 
+done-requires : tie.Need-done-requires Inv-loop μ-loop
+done-requires c κs = search needs
+
 returns-2 : tie.Need-returns-2 Inv-loop μ-loop
-returns-2 c = checked-end (c .before .loop .inv) (omega arith)
+returns-2 c = rw (c .done .ensures .0, c .done .ensures .1) (checked-end (c .before .before .loop .inv) (omega arith))
 
 pub check-row-numbers-spec : {M : Type 1} → statement M
 check-row-numbers-spec =
@@ -62,4 +65,5 @@ check-row-numbers-spec =
     add-i
     loop-less
     loop-again
+    done-requires
     returns-2)

@@ -7,8 +7,7 @@ use lib.ListN.{length, take}
 use borrow.Author.Needs.{needs}
 use Rattle.numbers.specs.Lists.{each}
 use Rattle.numbers.proofs.Lists.{Filled}
-use Rattle.rules.specs.TableFile.{memoryTable}
-use Rattle.table.specs.Rows.{fileRow}
+use Rattle.rules.specs.TableFile.{headerSize, rowSize, memoryTable, fileRow}
 use Rattle.numbers.proofs.Lists.{filled-front}
 use Rattle.rules.proofs.Calls.{filled-lent}
 use Rattle.table.proofs.Fills.{filled-rows, filled-row, file-row}
@@ -17,13 +16,13 @@ use Rattle.table.proofs.writer.put_all_bytes.Tie as tie
 
 abbrev Inv-loop : tie.InvT-loop
 Inv-loop numbers rows out₀ i₀ out i =
-    (i ≤ rows) × Filled out₀ out (7 + 6 * i) (take 7 out₀ ++ each i (fileRow (memoryTable 0 rows numbers)))
+    (i ≤ rows) × Filled out₀ out (headerSize + rowSize * i) (take headerSize out₀ ++ each i (fileRow (memoryTable 0 rows numbers)))
 
 abbrev μ-loop : tie.MeasureT-loop
 μ-loop numbers rows out₀ i₀ out i = rows - i
 
 loop-holds : tie.Need-loop-holds Inv-loop μ-loop
-loop-holds c = (omega arith, filled-rows _ _ (filled-front _ 7 (omega (arith, c .before .before .pre .1))))
+loop-holds c = (omega arith, filled-rows _ _ (filled-front _ headerSize (omega (arith, c .before .before .pre .1))))
 
 row-of-requires : tie.Need-row-of-requires Inv-loop μ-loop
 row-of-requires c κs = omega (arith, c .before .before .before .before .pre)
@@ -57,9 +56,9 @@ loop-again c =
     let u = c .before .before .before .before .before .before .loop in
     let rows = fileRow (memoryTable 0 (a .rows) (a .numbers .now)) in
     let q = file-row (c .before .before .before .before .row-of .ensures 0 (a .rows)) in
-    let room : 7 + 6 * (u .i + 1) ≤ length (a .out .now) = omega (arith, z .pre .1) in
+    let room : headerSize + rowSize * (u .i + 1) ≤ length (a .out .now) = omega (arith, z .pre .1) in
     let e = c .before .before .put-bytes .ensures in
-    (omega arith, filled-row {i = u .i} (take 7 (a .out .now)) rows _ _ (u .inv .1) e q (omega arith) room)
+    (omega arith, filled-row {i = u .i} (take headerSize (a .out .now)) rows _ _ (u .inv .1) e q (omega arith) room)
 
 same-length : tie.Need-same-length Inv-loop μ-loop
 same-length c = c .before .loop .inv .1 .same

@@ -5,10 +5,9 @@ use lib.ListN.{length}
 use lib.Seq.{length-sets}
 use borrow.Author.Needs.{needs}
 use Rattle.numbers.specs.Lists.{each}
-use Rattle.rules.specs.TableFile.{memoryTable, bytes}
+use Rattle.rules.specs.TableFile.{memoryTable, fileHeader, fileRow, bytes}
+use Rattle.rules.specs.Refusals.{memory-checks}
 use Rattle.rules.proofs.Answers.{None, none-of}
-use Rattle.table.specs.Rows.{fileHeader, fileRow}
-use Rattle.table.specs.Sizes.{memory-checks}
 use Rattle.table.proofs.Faults.{memory-numbered, memory-sound, ends-fit}
 use Rattle.table.proofs.Fills.{lent-headed}
 use Rattle.table.proofs.Calls.{written-refused, written-short, written-done}
@@ -32,8 +31,12 @@ mul-if2 c = omega (arith, memory-sound _ _ _ (none c) .0 .rows-high)
 add-if2 : tie.Need-add-if2
 add-if2 c = omega (arith, memory-sound _ _ _ (none c) .0 .rows-high)
 
+at-requires : tie.Need-at-requires
+at-requires c κs = search needs
+
 returns-2 : tie.Need-returns-2
-returns-2 c = written-short _ _ _ _ (none (c .before)) (c .if2 .taken)
+returns-2 c =
+    rw (c .at .ensures .0, c .at .ensures .1) (written-short _ _ _ _ (none (c .before .before)) (c .before .if2 .taken))
 
 cast-put-header : tie.Need-cast-put-header
 cast-put-header c = omega (arith, memory-sound _ _ _ (none (c .before)) .0 .elements-high)
@@ -72,6 +75,7 @@ write-spec =
     returns
     mul-if2
     add-if2
+    at-requires
     returns-2
     cast-put-header
     cast-put-header-2

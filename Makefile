@@ -1,0 +1,19 @@
+# make install PREFIX=FOLDER   the library for C: FOLDER/include/ringplan.h, FOLDER/lib/libringplan.a and a file for pkg-config.
+#
+# The library is proved and built first where it is missing or older than its source. It is code for x86-64.
+PREFIX ?= /usr/local
+library := target/staticlib/libsupervisor.a
+version := $(shell sed -n 's/^.define RINGPLAN_VERSION_[A-Z]* //p' include/ringplan.h | paste -sd .)
+
+all: $(library)
+
+$(library): crates.txt $(shell find crates -type f)
+	rt staticlib supervisor
+
+install: $(library)
+	install -d '$(DESTDIR)$(PREFIX)/include' '$(DESTDIR)$(PREFIX)/lib/pkgconfig'
+	install -m 644 include/ringplan.h '$(DESTDIR)$(PREFIX)/include'
+	install -m 644 $(library) '$(DESTDIR)$(PREFIX)/lib/libringplan.a'
+	sed -e 's|@prefix@|$(PREFIX)|' -e 's|@version@|$(version)|' include/ringplan.pc.in >'$(DESTDIR)$(PREFIX)/lib/pkgconfig/ringplan.pc'
+
+.PHONY: all install

@@ -1,0 +1,157 @@
+-- Every input of every call has a number and a place: each check of its list is decided, the later ones for tables that pass those before.
+use mathlib.Core.Path.{_≡_, refl, subst}
+use mathlib.Core.Logic.{_≢_, ⊎-elim}
+use mathlib.Core.Bool.{true, false}
+use mathlib.Core.List.{List, _++_, append-assoc}
+use Prim.Native.Nat.{ℕ, _+_, _*_, _≤_, _<_}
+use native.Mathlib.Decide.{ℕ-discrete}
+use native.Mathlib.Omega.{arith}
+use lib.ListN.{length}
+use Rattle.numbers.proofs.Truth.{decide}
+use Rattle.numbers.proofs.Tests.{Test, lt-test, eq-test, as-test, not-test}
+use Rattle.rules.specs.Bounds.{max-elements, max-rows}
+use Rattle.rules.specs.Bus.{Table}
+use Rattle.rules.specs.TableFile.{headerSize, rowSize, rowNumbers, fileTable, memoryTable}
+use Rattle.rules.specs.Line.{cut, Sets}
+use Rattle.rules.specs.Loads.{hyperperiod}
+use Rattle.rules.specs.Planner.{Stage, due, finished, Planner, Off}
+use Rattle.rules.specs.Refusals.{
+  Check,
+  Answers,
+  no-cut,
+  file-checks,
+  line-checks,
+  bound-checks,
+  reader-checks,
+  memory-checks,
+  writer-checks,
+  verdict-checks,
+  sets-checks,
+  plan-checks,
+  step-room,
+  step-checks,
+  standings-checks,
+}
+use Rattle.rules.proofs.Answers.{None, Numbered, applied, stopped, joined, none-of}
+use Rattle.rules.proofs.Sets.{sets-only}
+use Rattle.rules.proofs.Verdict.{
+  Tests,
+  none,
+  _then_,
+  answer,
+  answer-is,
+  tests-join,
+  in-test,
+  header-tests,
+  row-tests,
+  no-cut-test,
+  line-tests,
+  bound-tests,
+}
+use Rattle.table.specs.Sound.{Sound}
+use Rattle.table.proofs.Faults.{file-numbered, passed-none}
+use Rattle.ring.proofs.Cut.{cut-high, cut-none}
+use Rattle.verdict.proofs.Bound.{verdict-numbered, verdict-split, sets-exist, admissible-of}
+use Rattle.demands.specs.Demands.{Answered}
+use Rattle.demands.proofs.States.{off-test}
+
+by-tests : {cs : List Check} → Tests cs → Answered cs
+by-tests ts = (answer ts .0, answer ts .1, answer-is ts)
+
+-- the first list refuses, or the second decides where none of the first applies
+by-lists : (cs ds : List Check) → Numbered cs → Answered cs → (None cs → Answered ds) → Answered (cs ++ ds)
+by-lists cs ds m (n, p, a) more = go (ℕ-discrete n 0)
+  where
+    go : Dec (n ≡ 0) → Answered (cs ++ ds)
+    go (yes e) =
+        let N = none-of cs p m (rw e at a) in
+        let r = more N in
+        (r .0, r .1, joined cs ds (r .0) (r .1) N (r .2))
+    go (no h) = (n, p, stopped cs ds n p h a)
+
+-- ---- the table file
+
+file-tests : (f : List ℕ) → Tests (file-checks f)
+unfolding file-checks
+file-tests f = tests-join (header-tests f) (row-tests (fileTable f))
+
+pub read-answered : (f : List ℕ) (room : ℕ) → Answered (reader-checks f room)
+unfolding reader-checks
+read-answered f room = by-tests (tests-join (file-tests f) (lt-test room (rowNumbers * fileTable f .rows) then none))
+
+pub written-answered : (M n : ℕ) (xs : List ℕ) (room : ℕ) → Answered (writer-checks M n xs room)
+unfolding writer-checks memory-checks
+written-answered M n xs room =
+    by-tests (tests-join (tests-join (
+    not-test (in-test M 2 max-elements)
+    then not-test (in-test n 1 max-rows)
+    then not-test (eq-test (length xs) (rowNumbers * n))
+    then none) (row-tests (memoryTable M n xs))) (lt-test room (headerSize + rowSize * n) then none))
+
+-- ---- 10 to 12, and what is decided by the list of sets
+
+line-answered : (t : Table) → Sound t → (ds : List Check) → ((ws : List ℕ) → Sets t ws → Tests ds) → Answered (line-checks t ++ ds)
+unfolding line-checks
+line-answered t S ds more =
+    ⊎-elim
+    (λ h. (10, 0, stopped (line-checks t) ds 10 0 (λ e. omega arith) (applied (no-cut t) _ 10 0 (no-cut-test t .is h) refl refl)))
+    (λ h.
+    let clear : cut t ≢ t .elements + 1 = λ e. h (no-cut-test t .of (cut-none t .1 e)) in
+    let e = sets-exist t S (omega (arith, cut-high t, clear)) in
+    by-tests (tests-join (line-tests t (S .rows-low) (e .0) (e .1)) (more (e .0) (e .1))))
+    (decide (no-cut-test t .test))
+
+module _ (f : List ℕ) where
+  past-file : (ds : List Check) → (Sound (fileTable f) → Answered ds) → Answered (file-checks f ++ ds)
+  past-file ds more = by-lists (file-checks f) ds (file-numbered f) (by-tests (file-tests f)) (λ N. more (passed-none f N .sound))
+
+  pub judged-answered : Answered (verdict-checks f)
+  judged-answered =
+      rw (verdict-split f)
+      (past-file (line-checks (fileTable f) ++ bound-checks (fileTable f))
+      (λ S. line-answered (fileTable f) S (bound-checks (fileTable f)) (λ ws A. bound-tests (fileTable f) (S .rows-low) ws A)))
+
+  pub listed-answered : (room : ℕ) → Answered (sets-checks f room)
+  unfolding sets-checks
+  listed-answered room =
+      rw append-assoc
+      (past-file (line-checks (fileTable f) ++ _)
+      (λ S. line-answered (fileTable f) S _ (λ ws A. short-list (S .rows-low) ws A then none)))
+    where
+      short-list : 0 < fileTable f .rows → (ws : List ℕ) → Sets (fileTable f) ws
+          → Test ((vs : List ℕ) × Sets (fileTable f) vs × (room < length vs))
+      short-list some ws A =
+          as-test (lt-test room (length ws)) (λ h. (ws, A, h))
+          (λ w. subst (λ (vs : List ℕ). room < length vs) (sets-only some (w .1) A) (w .2))
+
+  pub planned-answered : (room : ℕ) → Answered (plan-checks f room)
+  unfolding plan-checks
+  planned-answered room =
+      by-lists (verdict-checks f) _ (verdict-numbered f) judged-answered
+      (λ N. by-tests (lt-test room (hyperperiod (fileTable f)) then none))
+
+-- ---- the calls that take a planner
+
+finished-test : (s : Stage) → Test (s ≡ finished)
+finished-test (due k) = record { test = false; is = λ h. absurd h; of = λ e. let z : _≡_ {A = ℕ} 0 1 = cc in omega arith }
+finished-test finished = record { test = true; is = λ h. refl; of = λ e. tt }
+
+module _ (f : List ℕ) (p : Planner) where
+  -- the table's state is decided where the verdict admits the table
+  state-test : None (verdict-checks f) → Test (Off (fileTable f) p)
+  state-test N =
+      let A = admissible-of f N in
+      let e = sets-exist (fileTable f) (A .sound) (A .clear) in
+      off-test (fileTable f) p (e .0) (e .1)
+
+  pub stepped-answered : (room : ℕ) → Answered (step-checks f p room)
+  unfolding step-checks
+  stepped-answered room =
+      by-lists (verdict-checks f) _ (verdict-numbered f) (judged-answered f)
+      (λ N. by-tests (
+      state-test N then finished-test (p .stage) then lt-test room (step-room (fileTable f) (p .stage)) then none))
+
+  pub stood-answered : Answered (standings-checks f p)
+  unfolding standings-checks
+  stood-answered =
+      by-lists (verdict-checks f) _ (verdict-numbered f) (judged-answered f) (λ N. by-tests (state-test N then none))

@@ -1,0 +1,137 @@
+-- The three demands, each clause beside the sentence that it stands for. The file holds statements only; `proofs/Demands.antt` proves
+-- `Demands`. docs/LEGEND.md says how to read them.
+--
+--   Answered cs        some number and place answer the checks cs
+--   Demand-1           every input is answered, and a refusal changes nothing
+--   Demand-2           verdict, loads, sets and standings are document 01's, and tables are read and written back
+--   Demand-3           every admitted table gets a plan that carries it
+--
+-- Each call's contract (`Read`, `Written`, `IsVerdict`, `Listed`, `PlanAnswer`, `StepAnswer`, `StandingsAnswer`, `MovedInPlace`) relates what the
+-- call is given to what it answers. That the call returns, and that its answer stands in this relation, is proved of its function; a clause
+-- below speaks of every answer that the contract allows. `was` and `now` are what a lent slice holds before and after, `f` is the file.
+use mathlib.Core.Path.{_≡_}
+use mathlib.Core.Logic.{_↔_, _≢_}
+use mathlib.Core.List.{List}
+use Prim.Native.Nat.{ℕ, _+_, _-_, _*_, _≤_, _<_}
+use lib.IntN.{pos}
+use lib.ListN.{length, take, getD}
+use Rattle.numbers.specs.Lists.{at}
+use Rattle.rules.specs.Bounds.{max-rows}
+use Rattle.rules.specs.TableFile.{headerSize, rowSize, rowNumbers, fileTable}
+use Rattle.rules.specs.Line.{Sets}
+use Rattle.rules.specs.Loads.{start, end}
+use Rattle.rules.specs.Interval.{Qualify-by-lags}
+use Rattle.rules.specs.Planner as rules
+use Rattle.rules.specs.Refusals.{
+  Check,
+  Answers,
+  reader-checks,
+  writer-checks,
+  verdict-checks,
+  sets-checks,
+  plan-checks,
+  step-checks,
+  standings-checks,
+}
+use Rattle.rules.specs.Calls.{lent, Read, Written, Admitted, Listed}
+use Rattle.table.specs.declared.Answer.{Answer}
+use Rattle.verdict.specs.declared.Verdict.{Verdict}
+use Rattle.verdict.specs.Verdict.{numberOf, cutOf, intervalOf, hyperOf, loadOf, setsOf, IsVerdict}
+use Rattle.verdict.specs.Demand.{Unrefused}
+use Rattle.promises.specs.Steps.{Serves, Served}
+use Rattle.planner.specs.declared.Stage.the-variants.{Due}
+use Rattle.planner.specs.declared.Planner.{Planner}
+use Rattle.planner.specs.declared.MovedOn.{MovedOn}
+use Rattle.planner.specs.declared.Standings.{Standings}
+use Rattle.planner.specs.State.{plannerOf}
+use Rattle.planner.specs.Answers.{StepAnswer, StandingsAnswer, PlanAnswer}
+use Rattle.planner.specs.Promises as planner
+use Rattle.planner.specs.Promises.{Steps, Standings-between, Never-refused, Whole-is-steps, Carried}
+use Rattle.kept.specs.InPlace.{joined, MovedInPlace}
+
+abbrev pub Answered : List Check → Type 0
+Answered cs = (number : ℕ) × (place : ℕ) × Answers cs number place
+
+pub record Demand-1 : Type 1 where
+  -- Whatever bytes, numbers and planner are handed in, each call has a number and a place to answer with: those of the first refusal in
+  -- its list that applies, or 0 and 0 where none does.
+  pub read : (f : List ℕ) (room : ℕ) → Answered (reader-checks f room)
+  pub written : (elements rows : ℕ) (xs : List ℕ) (room : ℕ) → Answered (writer-checks elements rows xs room)
+  pub judged : (f : List ℕ) → Answered (verdict-checks f)
+  pub listed : (f : List ℕ) (room : ℕ) → Answered (sets-checks f room)
+  pub planned : (f : List ℕ) (room : ℕ) → Answered (plan-checks f room)
+  pub stepped : (f : List ℕ) (p : rules.Planner) (room : ℕ) → Answered (step-checks f p room)
+  pub stood : (f : List ℕ) (p : rules.Planner) → Answered (standings-checks f p)
+  -- Only one number and place do.
+  pub one : (cs : List Check) (m n p q : ℕ) → Answers cs m p → Answers cs n q → (m ≡ n) × (p ≡ q)
+  -- A refusal leaves lent output unchanged and hands back the planner it was given; any other returned number is then 0.
+  pub read-refused : (f was now : List ℕ) (number place elements rows : ℕ) → Read f was now number place elements rows → number ≢ 0
+      → (elements ≡ 0) × (rows ≡ 0) × (now ≡ was)
+  pub write-refused : (elements rows : ℕ) (xs was now : List ℕ) (number place : ℕ) → Written elements rows xs was now number place
+      → number ≢ 0 → now ≡ was
+  pub verdict-refused : (f : List ℕ) (r : Verdict) → IsVerdict f r → numberOf r ≢ 0
+      → (cutOf r ≡ 0) × (intervalOf r ≡ 0) × (hyperOf r ≡ 0) × (loadOf r ≡ 0) × (setsOf r ≡ 0)
+  pub list-refused : (f was now : List ℕ) (number place sets : ℕ) → Listed f was now number place sets → number ≢ 0
+      → (sets ≡ 0) × (now ≡ was)
+  pub plan-refused : (f : List ℕ) (r : Answer) (was now : List ℕ) → PlanAnswer f r was now → r .number ≢ 0 → now ≡ was
+  pub step-refused : (f : List ℕ) (p : Planner) (r : MovedOn) (was now : List ℕ) → StepAnswer f p r was now → r .number ≢ 0
+      → (r .planner ≡ p) × (now ≡ was)
+  pub standings-refused : (f : List ℕ) (p : Planner) (r : Standings) → StandingsAnswer f p r → r .number ≢ 0 → (i : ℕ) → i < max-rows
+      → getD (r .values) i (pos 0) ≡ pos 0
+
+pub record Demand-2 : Type 0 where
+  -- A table is admitted exactly if none of the refusals listed for the verdict applies;
+  pub admits : (f : List ℕ) (r : Verdict) → IsVerdict f r → (numberOf r ≡ 0) ↔ Unrefused (verdict-checks f)
+  -- then cut, L, h, reported load and number of sets are the document's.
+  pub values : (f : List ℕ) (r : Verdict) → IsVerdict f r → numberOf r ≡ 0
+      → Admitted (fileTable f) (cutOf r) (intervalOf r) (hyperOf r) (loadOf r) (setsOf r)
+  -- The list of sets is the document's list of the overlap sets.
+  pub sets : (f was now : List ℕ) (number place sets : ℕ) → Listed f was now number place sets → number ≡ 0
+      → (ws : List ℕ) × Sets (fileTable f) ws × (sets ≡ length ws) × (now ≡ lent ws was)
+  -- A step is one of the document's: its loads qualify, its words are the loads' slots, and its totals are the slots had.
+  pub steps : (f : List ℕ) (p : Planner) (r : MovedOn) (was now : List ℕ) → StepAnswer f p r was now → r .number ≡ 0
+      → (ws : List ℕ) × rules.Step (fileTable f) (plannerOf p) (plannerOf (r .planner)) ws × (now ≡ lent ws was)
+  -- Loads qualify exactly if each is the row's lag rounded down or up, and so the sum over each set, which fits the interval.
+  pub lags : Qualify-by-lags
+  -- Every standing is total × h − (h / period) × cost × slot, 0 past the last row, and lies strictly between −h and h.
+  pub standings : (f : List ℕ) (p : Planner) (r : Standings) → StandingsAnswer f p r → r .number ≡ 0
+      → ((i : ℕ) → i < fileTable f .rows → getD (r .values) i (pos 0) ≡ rules.standing (fileTable f) (plannerOf p) i)
+      × ((i : ℕ) → fileTable f .rows ≤ i → i < max-rows → getD (r .values) i (pos 0) ≡ pos 0)
+  pub between : Standings-between
+  -- A file that passes the reader's checks, with room, is read; what was read is written, with room, as it stood in the file.
+  pub read-back : (f was now was′ now′ : List ℕ) (number place elements rows number′ place′ : ℕ)
+      → ((i : ℕ) → at f i < 256) → Unrefused (reader-checks f (length was)) → headerSize + rowSize * fileTable f .rows ≤ length was′
+      → Read f was now number place elements rows
+      → Written elements rows (take (rowNumbers * rows) now) was′ now′ number′ place′
+      → (number ≡ 0) × (number′ ≡ 0) × (take (length f) now′ ≡ f)
+  -- Rows that pass the writer's checks, with room, are written; what was written is read, with room, as it stood in the slice.
+  pub write-back : (elements rows : ℕ) (xs was now was′ now′ : List ℕ) (number place number′ place′ elements′ rows′ : ℕ)
+      → Unrefused (writer-checks elements rows xs (length was)) → rowNumbers * rows ≤ length was′
+      → Written elements rows xs was now number place
+      → Read (take (headerSize + rowSize * rows) now) was′ now′ number′ place′ elements′ rows′
+      → (number ≡ 0) × (number′ ≡ 0) × (elements′ ≡ elements) × (rows′ ≡ rows) × (take (length xs) now′ ≡ xs)
+
+pub record Demand-3 : Type 0 where
+  -- Every table that the verdict admits gets, with room for h words, a whole plan that carries it: rows that share a segment never share a
+  -- slot, at every interval's end each row has had its share, and every job gets exactly its cost before its deadline, for ever.
+  pub carried : Carried
+  -- The whole plan is what a fresh planner's steps write, joined in order.
+  pub whole-is-steps : Whole-is-steps
+  -- A step on any admitted table, from any due state that isn't off and with room, is never refused; the planner handed back isn't off.
+  pub never-refused : Never-refused
+  -- A planner moved on where it is kept gives the same answers as a step.
+  pub in-place : (f : List ℕ) (p q : Planner) (a : Answer) (r : MovedOn) (was now then : List ℕ) → MovedInPlace f p q a was now
+      → StepAnswer f p r was then → (joined q a ≡ r) × (now ≡ then)
+  -- Each step keeps rows that share a segment apart, adds to each total the slots that the row moves in, and brings each row to its share.
+  pub step-serves : (f : List ℕ) (p : Planner) (r : MovedOn) (was now : List ℕ) (k : ℕ) → StepAnswer f p r was now → r .number ≡ 0
+      → p .stage ≡ Due k
+      → Serves (fileTable f) (start (fileTable f) k) (end (fileTable f) k) (plannerOf p) (plannerOf (r .planner))
+      (take (end (fileTable f) k - start (fileTable f) k) now)
+  -- So do the first steps of a fresh planner together.
+  pub first-steps : (f : List ℕ) (k : ℕ) (p : Planner) (ws : List ℕ) → planner.Admitted f → Steps f k p ws
+      → Served (fileTable f) k (plannerOf p) ws
+
+pub record Demands : Type 1 where
+  pub first : Demand-1
+  pub second : Demand-2
+  pub third : Demand-3

@@ -1,0 +1,36 @@
+-- Every answer of the list of sets has a small number and a small place, as the verdict's and the whole plan's have.
+use mathlib.Core.Path.{_≡_}
+use mathlib.Core.Logic.{⊎-elim}
+use mathlib.Core.List.{List, [], _∷_}
+use Prim.Native.Nat.{ℕ, _≤_, _<_}
+use native.Mathlib.Decide.{ℕ-discrete}
+use native.Mathlib.Omega.{arith}
+use lib.Dec.{lit≤}
+use lib.ListN.{length}
+use Rattle.rules.specs.TableFile.{fileTable}
+use Rattle.rules.specs.Line.{Sets}
+use Rattle.rules.specs.Refusals.{Check, Answers, short-output, bound-checks, verdict-checks, sets-checks}
+use Rattle.rules.proofs.Answers.{Fit, stopped, answered, none-of, answers-only, answers-split, answers-fit}
+use Rattle.rules.proofs.Small.{verdict-small}
+use Rattle.outline.specs.Outlined.{outline-checks}
+use Rattle.outline.proofs.Outlined.{outline-numbered}
+
+module _ (f : List ℕ) where
+  -- a refusal by 1 to 12 is the verdict's too
+  outline-small : (n p : ℕ) → Answers (outline-checks f) n p → Dec (n ≡ 0) → (n ≤ 17) × (p ≤ 63)
+  unfolding verdict-checks
+  outline-small n p a (no h) = verdict-small f n p (stopped (outline-checks f) (bound-checks (fileTable f)) n p h a)
+  outline-small n p a (yes z) =
+      let none = none-of (outline-checks f) p (outline-numbered f) (rw z at a) in
+      let e = answers-only (outline-checks f) n 0 p 0 a (answered (outline-checks f) none) in
+      (omega (arith, e .0), omega (arith, e .1))
+
+  abbrev no-room : ℕ → List Check
+  no-room room = short-output ((ws : List ℕ) × Sets (fileTable f) ws × (room < length ws)) ∷ []
+
+  pub sets-small : (room n p : ℕ) → Answers (sets-checks f room) n p → (n ≤ 17) × (p ≤ 63)
+  unfolding sets-checks Fit
+  sets-small room n p r =
+      ⊎-elim (λ a. outline-small n p a (ℕ-discrete n 0))
+      (λ a. answers-fit 17 63 (no-room room) n p (lit≤ tt, lit≤ tt, tt) (a .1))
+      (answers-split (outline-checks f) (no-room room) n p r)

@@ -1,0 +1,47 @@
+-- What a C program may rely on. The file holds statements only; proofs/Boundary proves them of every answer that the contracts allow.
+--
+--   Values-are       where ring_values answers 0, the fourth value is the hyperperiod and the sixth the number of sets
+--   Carried-to-C     a plan for which ring_verdict answers 0, with room for h words
+--   Carried-by-value the same, with ring_values' word for h
+--   Listed-to-C      the list of sets, with room for as many as ring_values says
+use mathlib.Core.Path.{_≡_}
+use mathlib.Core.List.{List}
+use Prim.Native.Nat.{ℕ, _≤_}
+use lib.ListN.{length}
+use Rattle.numbers.specs.Lists.{at}
+use Rattle.rules.specs.TableFile.{fileTable}
+use Rattle.rules.specs.Line.{Sets}
+use Rattle.rules.specs.Loads.{hyperperiod}
+use Rattle.rules.specs.Calls.{lent}
+use Rattle.promises.specs.Demands.{Carries}
+use Rattle.supervisor.specs.ToC.{VerdictToC, ValuesToC, SetsToC, PlanToC}
+
+-- A plan that was lent is answered with 0, and its front carries the table of file f.
+abbrev Carried : (f was now : List ℕ) (r : ℕ) → Type 0
+Carried f was now r = (r ≡ 0) × ((ws : List ℕ) × Carries (fileTable f) ws × (now ≡ lent ws was))
+
+-- If ring_verdict answers 0 and there is room for h words, ring_plan answers 0 and the words carry the table.
+abbrev pub Carried-to-C : Type 0
+Carried-to-C = (f was now : List ℕ) (r s : ℕ) → VerdictToC f r → PlanToC f was now s → r ≡ 0 → hyperperiod (fileTable f) ≤ length was
+    → Carried f was now s
+
+-- ring_values answers 0 only for a table that ring_verdict admits, and the fourth value is then h.
+abbrev pub Values-are : Type 0
+Values-are = (f was now : List ℕ) (r s : ℕ) → ValuesToC f was now r → VerdictToC f s → r ≡ 0
+    → (s ≡ 0) × (at now 3 ≡ hyperperiod (fileTable f))
+
+-- So with as many words as the fourth value says, ring_plan answers 0 and the words carry the table.
+abbrev pub Carried-by-value : Type 0
+Carried-by-value = (f was now plan plan′ : List ℕ) (r s : ℕ) → ValuesToC f was now r → PlanToC f plan plan′ s → r ≡ 0
+    → at now 3 ≤ length plan → Carried f plan plan′ s
+
+-- With as many words as the sixth value says, ring_sets answers 0 and writes the list of sets.
+abbrev pub Listed-by-value : Type 0
+Listed-by-value = (f was now list list′ : List ℕ) (r s : ℕ) → ValuesToC f was now r → SetsToC f list list′ s → r ≡ 0
+    → at now 5 ≤ length list → (s ≡ 0) × ((ws : List ℕ) × Sets (fileTable f) ws × (length ws ≡ at now 5) × (list′ ≡ lent ws list))
+
+pub record Boundary : Type 0 where
+  pub carried : Carried-to-C
+  pub values-are : Values-are
+  pub carried-by-value : Carried-by-value
+  pub listed-by-value : Listed-by-value
