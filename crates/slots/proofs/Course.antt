@@ -115,6 +115,12 @@ module _ {n : ℕ} {f g x : ℕ → ℕ} {l e : ℕ} {end last after words : Lis
 
 -- ---- the turn of a row
 
+-- names of the code's variables after a branch are only known to be equal to what was put there
+pub turning-as : {n : ℕ} {f g x : ℕ → ℕ} {l e i left left′ k s : ℕ} {end end′ last last′ after after′ words words′ : List ℕ}
+    → Turning n f g x l e i left k s end last after words → left′ ≡ left → end′ ≡ end → last′ ≡ last → after′ ≡ after → words′ ≡ words
+    → Turning n f g x l e i left′ k s end′ last′ after′ words′
+turning-as R a b c d q = rw (a, b, c, d, q) R
+
 module _ {n : ℕ} {f g x : ℕ → ℕ} {l e : ℕ} {end last after words : List ℕ} {k s : ℕ} where
   pub turning-start : {r i : ℕ} → Along n f g x l e r k s end last after words → 0 < r → i ≡ r - 1 → f i < g i
       → Turning n f g x l e i (x i) k s end last after words
@@ -161,8 +167,8 @@ module _ {n : ℕ} {f g x : ℕ → ℕ} {l e : ℕ} {end last after words : Lis
 
     module _ (h : s < l) (some : 0 < left) where
       pub turning-skip : {k′ s′ : ℕ} → f i < at last k → s′ ≡ at end k → k′ ≡ at after k
-          → Turning n f g x l e i left k′ s′ end last after words
-      turning-skip late p q = rw (p, q) record {
+          → Turning n f g x l e i left k′ s′ end last after words × (s < s′)
+      turning-skip late p q = rw (p, q) (record {
         W₀ = R .W₀;
         Z₀ = R .Z₀;
         W = R .W;
@@ -174,7 +180,7 @@ module _ {n : ℕ} {f g x : ℕ → ℕ} {l e : ℕ} {end last after words : Lis
         turn = turn-skip (R .before) (R .start) (R .line) (R .turn) (omega (arith, span)) (span .1)
             (λ u a b. omega (arith, stretched-last (R .stretched) h u a b));
         stretched = stretched-next (R .stretched) h;
-      }
+      }, span .0)
         where
           span : (s < at end k) × (at end k ≤ l)
           span = stretched-end (R .stretched) h
@@ -182,9 +188,9 @@ module _ {n : ℕ} {f g x : ℕ → ℕ} {l e : ℕ} {end last after words : Lis
       pub turning-take : {end′ last′ after′ words′ : List ℕ} {w left′ k′ s′ : ℕ}
           → Parted k s left (i + 1) end last after words end′ last′ after′ words′ → n ≤ max-rows → at last k ≤ f i
           → w ≡ bitOr (at words′ s) (2 ^ i) → s′ ≡ at end′ k → k′ ≡ at after′ k → left′ ≡ left - (at end′ k - s)
-          → Turning n f g x l e i left′ k′ s′ end′ (set last′ k (g i)) after′ (set words′ s w)
+          → Turning n f g x l e i left′ k′ s′ end′ (set last′ k (g i)) after′ (set words′ s w) × (s < s′)
       turning-take {end′} {last′} {after′} {words′} {w} {left′} P fits early q p₁ p₂ p₃ =
-          rw (p₁, p₂, p₃) record {
+          rw (p₁, p₂, p₃) (record {
             W₀ = R .W₀;
             Z₀ = R .Z₀;
             W = put .0;
@@ -196,7 +202,7 @@ module _ {n : ℕ} {f g x : ℕ → ℕ} {l e : ℕ} {end last after words : Lis
             turn = turn-take (R .before) (R .start) (R .line) (R .turn) (omega (arith, span)) (span .1) (R .row)
                 (omega (arith, parts .1)) (λ u a b. omega (arith, all u a b)) (put .3) (put .4) (put .5);
             stretched = stretched-next (put .2) h;
-          }
+          }, span .0)
         where
           -- no stretch has row i's number yet
           fresh : (u : ℕ) → u < l → R .stretched .of u ≢ i + 1

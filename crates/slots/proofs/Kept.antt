@@ -1,11 +1,13 @@
 -- A lent slice of which only the first l places change.
 use mathlib.Core.Path.{_≡_, refl, sym, ap, _∙_}
+use mathlib.Core.Logic.{⊎-elim}
 use mathlib.Core.List.{List}
 use Prim.Native.Nat.{ℕ, _+_, _-_, _≤_, _<_}
 use native.Mathlib.Omega.{arith}
 use lib.ListN.{length, set, drop, length-set, length-drop}
 use lib.Seq.{drop-set-lt, getD-drop, ext-getD}
 use Rattle.numbers.specs.Lists.{at}
+use Rattle.numbers.proofs.Truth.{le-or-lt}
 use Rattle.slots.specs.Filled.{Kept}
 
 pub kept-none : (l : ℕ) (was : List ℕ) → Kept l was was
@@ -25,3 +27,11 @@ kept-of l was now e h = record {
       (λ i m. getD-drop l now i 0 ∙ h (l + i) (omega arith) ∙ sym (getD-drop l was i 0));
   long = e;
 }
+
+-- the first place is cleared, where there is one
+pub kept-cleared : (l : ℕ) (was now : List ℕ) → (0 < l → now ≡ set was 0 0) → (l ≡ 0 → now ≡ was) → Kept l was now
+kept-cleared l was now some none =
+    ⊎-elim
+    (λ (a : l ≤ 0). rw (none (omega arith)) (kept-none l was))
+    (λ (a : 0 < l). rw (some a) (kept-set 0 0 (kept-none l was) a))
+    (le-or-lt l 0)

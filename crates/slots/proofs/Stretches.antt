@@ -9,6 +9,8 @@
 --                            the stretches before the cursor are spread
 --   spreading-start, spreading-more, spreading-end
 --                            none is; one more is; all are
+--   parted-sizes, parted-kept, parted-end
+--                            the arrays are as long as they were; slots past the interval are kept; where the first part ends
 --   parted-only, spread-only only one answer fits
 use mathlib.Core.Path.{_≡_, refl, sym, ap, _∙_, subst}
 use mathlib.Core.Logic.{_⊎_, inl, inr, ⊎-elim}
@@ -21,8 +23,9 @@ use lib.Seq.{getD-set-same, getD-set-other}
 use Rattle.numbers.specs.Lists.{at}
 use Rattle.numbers.proofs.Truth.{le-or-lt}
 use Rattle.numbers.proofs.Finite.{below}
-use Rattle.slots.specs.Stretches.{most-stretches, Tiles, Repeated, Spread}
-use Rattle.slots.proofs.Kept.{kept-of}
+use Rattle.slots.specs.Stretches.{most-stretches, Tiles, Parted, Repeated, Spread}
+use Rattle.slots.specs.Filled.{Kept}
+use Rattle.slots.proofs.Kept.{kept-set, kept-of}
 
 -- ---- a walk along the stretches
 
@@ -117,3 +120,37 @@ module _ {l : ℕ} {of begin : ℕ → ℕ} {end after : List ℕ} (t : Tiles l 
     same = λ u m. S .done u (omega arith);
     kept = kept-of l was now e (λ u m. S .left u (omega (arith, S .cursor .inside)));
   }
+
+-- ---- a stretch parted
+
+module _ {k s most new : ℕ} {end last after words end′ last′ after′ words′ : List ℕ}
+    (P : Parted k s most new end last after words end′ last′ after′ words′) where
+  pub parted-sizes : (length end′ ≡ length end) × (length last′ ≡ length last) × (length after′ ≡ length after)
+      × (length words′ ≡ length words)
+  parted-sizes =
+      ⊎-elim
+      (λ a. let p = P .whole a in (ap length (p .0), ap length (p .1), ap length (p .2), ap length (p .3)))
+      (λ a. let p = P .parted a in (
+        ap length (p .0) ∙ simp length-set,
+        ap length (p .1) ∙ simp length-set,
+        ap length (p .2) ∙ simp length-set,
+        ap length (p .3) ∙ simp length-set,
+      ))
+      (le-or-lt (at end k) (s + most))
+
+  pub parted-kept : {l : ℕ} {was : List ℕ} → at end k ≤ l → Kept l was words → Kept l was words′
+  parted-kept h K =
+      ⊎-elim (λ a. rw (P .whole a .3) K) (λ a. rw (P .parted a .3) (kept-set (s + most) (at words s) K (omega arith)))
+      (le-or-lt (at end k) (s + most))
+
+  -- the first part has slots, at most as many as are left, and no more than the stretch had
+  pub parted-end : s < at end k → 0 < most → k < length end → (s < at end′ k) × (at end′ k ≤ s + most) × (at end′ k ≤ at end k)
+  parted-end h some low =
+      ⊎-elim
+      (λ a. let q = ap (λ (es : List ℕ). at es k) (P .whole a .0) in (omega arith, omega arith, omega arith))
+      (λ a.
+      let q =
+      ap (λ (es : List ℕ). at es k) (P .parted a .0)
+      ∙ getD-set-same (set end new (at end k)) k (s + most) 0 (omega (arith, length-set end new (at end k))) in
+      (omega arith, omega arith, omega arith))
+      (le-or-lt (at end k) (s + most))

@@ -1,0 +1,419 @@
+-- `fill` meets its contract: `Course` says what each of its loops keeps.
+use mathlib.Core.Path.{_≡_, refl, sym, ap, _∙_}
+use mathlib.Core.Logic.{inl, inr, ⊎-elim}
+use mathlib.Core.List.{List}
+use Prim.Native.Nat.{ℕ, _+_, _-_, _≤_, _<_}
+use native.Mathlib.Omega.{arith}
+use borrow.Author.Needs.{needs}
+use lib.Bits.{bitOr}
+use lib.ListN.{length, length-set}
+use lib.Seq.{getD-set-same}
+use Rattle.numbers.specs.Lists.{at}
+use Rattle.numbers.proofs.Word.{one-shl}
+use Rattle.rules.specs.Bounds.{max-rows}
+use Rattle.slots.specs.Chained.{ChainedRows}
+use Rattle.slots.specs.Filled.{Kept, FilledSlots}
+use Rattle.slots.specs.Stretches.{most-stretches}
+use Rattle.slots.proofs.Chained.{link-row, rest, rest-less}
+use Rattle.slots.proofs.Kept.{kept-none, kept-trans, kept-set, kept-cleared}
+use Rattle.slots.proofs.Stretches.{parted-sizes, parted-kept, parted-end}
+use Rattle.slots.proofs.Stretched.{stretched-low, stretched-end}
+use Rattle.slots.proofs.Course.{Coming, coming-start, coming-end, Along, along-start, along-end}
+use Rattle.slots.proofs.Course.{Turning, turning-as, turning-start, turning-skip, turning-take, turning-end}
+use Rattle.slots.proofs.fill.Statement.{statement}
+use Rattle.slots.proofs.fill.Tie as tie
+
+abbrev Inv-slots : tie.InvT-slots
+Inv-slots second head next load top slots words₀ end₀ last₀ after₀ element r k₀ s₀ i row left₀ words end last after k s left =
+    Kept slots words₀ words
+    × ((n : ℕ) (f : ℕ → ℕ) → ChainedRows n f (at second) top head next
+    → Turning n f (at second) (at load) slots element i left k s end last after words)
+
+abbrev μ-slots : tie.MeasureT-slots
+μ-slots second head next load top slots words₀ end₀ last₀ after₀ element r k₀ s₀ i row left₀ words end last after k s left = slots - s
+
+abbrev Inv-loop2 : tie.InvT-loop2
+Inv-loop2 second head next load top slots words₀ end₀ last₀ after₀ element r₀ k₀ s₀ words end last after r k s =
+    Kept slots words₀ words
+    × ((n : ℕ) (f : ℕ → ℕ) → ChainedRows n f (at second) top head next
+    → Along n f (at second) (at load) slots element r k s end last after words)
+
+abbrev μ-loop2 : tie.MeasureT-loop2
+μ-loop2 second head next load top slots words₀ end₀ last₀ after₀ element r₀ k₀ s₀ words end last after r k s = rest r
+
+abbrev Inv-loop : tie.InvT-loop
+Inv-loop second head next load top slots words₀ end₀ last₀ after₀ element₀ words end last after element =
+    Kept slots words₀ words
+    × ((n : ℕ) (f : ℕ → ℕ) → ChainedRows n f (at second) top head next
+    → Coming n f (at second) (at load) slots element end last after words)
+
+abbrev μ-loop : tie.MeasureT-loop
+μ-loop second head next load top slots words₀ end₀ last₀ after₀ element₀ words end last after element = top - element
+
+-- ---- where the walk has come to, for the rows that the call was made with
+
+abbrev start : tie.At-loop Inv-slots μ-slots Inv-loop2 μ-loop2 Inv-loop μ-loop → tie.Start Inv-slots μ-slots Inv-loop2 μ-loop2 Inv-loop μ-loop
+start c = c .before .before .before .before .before .before
+
+abbrev start-rows : tie.At-loop2 Inv-slots μ-slots Inv-loop2 μ-loop2 Inv-loop μ-loop → tie.Start Inv-slots μ-slots Inv-loop2 μ-loop2 Inv-loop μ-loop
+start-rows c = start (c .before .before .before)
+
+abbrev start-slots : tie.At-slots Inv-slots μ-slots Inv-loop2 μ-loop2 Inv-loop μ-loop → tie.Start Inv-slots μ-slots Inv-loop2 μ-loop2 Inv-loop μ-loop
+start-slots c = start-rows (c .before .before .before)
+
+-- the row that r links to is one of the rows
+row-is : (c : tie.In-loop2 Inv-slots μ-slots Inv-loop2 μ-loop2 Inv-loop μ-loop) → (1 ≤ c .before .loop2 .r) × (c .before .loop2 .r ≤ max-rows)
+row-is c =
+    let O = start-rows (c .before) .pre .0 .2 in
+    let A = c .before .loop2 .inv .1 _ _ O in
+    (omega (arith, c .loop2-test .taken), omega (arith, link-row (A .link), O .few))
+
+-- the stretch that the walk has come to is one of those there can be, and has a slot
+low : (c : tie.In-slots Inv-slots μ-slots Inv-loop2 μ-loop2 Inv-loop μ-loop) → c .before .slots .k < most-stretches
+low c = stretched-low (c .before .slots .inv .1 _ _ (start-slots (c .before) .pre .0 .2) .stretched) (c .slots-test .taken)
+
+ends : (c : tie.In-slots Inv-slots μ-slots Inv-loop2 μ-loop2 Inv-loop μ-loop)
+    → (c .before .slots .s < at (c .before .slots .end) (c .before .slots .k))
+    × (at (c .before .slots .end) (c .before .slots .k) ≤ start-slots (c .before) .args .slots)
+ends c = stretched-end (c .before .slots .inv .1 _ _ (start-slots (c .before) .pre .0 .2) .stretched) (c .slots-test .taken)
+
+cast-end : tie.Need-cast-end Inv-slots μ-slots Inv-loop2 μ-loop2 Inv-loop μ-loop
+cast-end c = record { fits = omega arith }
+
+array-write-end : tie.Need-array-write-end Inv-slots μ-slots Inv-loop2 μ-loop2 Inv-loop μ-loop
+array-write-end c = omega arith
+
+clear-requires : tie.Need-clear-requires Inv-slots μ-slots Inv-loop2 μ-loop2 Inv-loop μ-loop
+clear-requires c κs = omega arith
+
+cleared : (c : tie.After-clear Inv-slots μ-slots Inv-loop2 μ-loop2 Inv-loop μ-loop) → Kept (c .before .before .before .args .slots) (c .before .before .before .args .words .now) (c .clear .last .1 .0)
+cleared c =
+    kept-cleared (c .before .before .before .args .slots) (c .before .before .before .args .words .now) (c .clear .last .1 .0)
+    (c .clear .ensures .0) (c .clear .ensures .1)
+
+loop-holds : tie.Need-loop-holds Inv-slots μ-slots Inv-loop2 μ-loop2 Inv-loop μ-loop
+loop-holds c =
+    let S = c .before .before .before .before .before in
+    let K = cleared (c .before .before) in
+    (
+      kept-none _ _,
+      λ n f O.
+          coming-start (λ j h. O .line j h .0) refl refl
+          (λ h. ap (λ (ws : List ℕ). at ws 0) (c .before .before .clear .ensures .0 h)
+          ∙ getD-set-same (S .args .words .now) 0 0 0 (omega (arith, S .pre .2)))
+          refl refl refl (omega (arith, K .long, S .pre .2)),
+    )
+
+element-copy-out-r :
+    tie.Need-element-copy-out-r Inv-slots μ-slots Inv-loop2 μ-loop2 Inv-loop μ-loop
+element-copy-out-r c = let S = start (c .before) in omega (arith, S .pre .0 .2 .low, c .loop-test .taken)
+
+loop2-holds : tie.Need-loop2-holds Inv-slots μ-slots Inv-loop2 μ-loop2 Inv-loop μ-loop
+loop2-holds c =
+    (
+      kept-none _ _,
+      λ n f O.
+          along-start (c .before .before .loop .inv .1 n f O)
+          (O .chained .heads (c .before .before .loop .element) (omega (arith, O .low, c .before .loop-test .taken))),
+    )
+
+sub-i : tie.Need-sub-i Inv-slots μ-slots Inv-loop2 μ-loop2 Inv-loop μ-loop
+sub-i c = row-is c .0
+
+cast-i : tie.Need-cast-i Inv-slots μ-slots Inv-loop2 μ-loop2 Inv-loop μ-loop
+cast-i c = record { fits = omega (arith, row-is c) }
+
+shl-row : tie.Need-shl-row Inv-slots μ-slots Inv-loop2 μ-loop2 Inv-loop μ-loop
+shl-row c = omega (arith, row-is c)
+
+mul-left : tie.Need-mul-left Inv-slots μ-slots Inv-loop2 μ-loop2 Inv-loop μ-loop
+mul-left c = record { fits = omega (arith, row-is c) }
+
+element-copy-out-left :
+    tie.Need-element-copy-out-left Inv-slots μ-slots Inv-loop2 μ-loop2 Inv-loop μ-loop
+element-copy-out-left c = omega (arith, row-is c)
+
+slots-holds : tie.Need-slots-holds Inv-slots μ-slots Inv-loop2 μ-loop2 Inv-loop μ-loop
+slots-holds c =
+    (
+      kept-none _ _,
+      λ n f O.
+          let A = c .before .before .loop2 .inv .1 n f O in
+          turning-start A (row-is (c .before) .0) refl (O .line (c .before .before .loop2 .r - 1) (omega (arith, link-row (A .link), row-is (c .before))) .1),
+    )
+
+array-read-wide : tie.Need-array-read-wide Inv-slots μ-slots Inv-loop2 μ-loop2 Inv-loop μ-loop
+array-read-wide c = low (c .before)
+
+wide-requires : tie.Need-wide-requires Inv-slots μ-slots Inv-loop2 μ-loop2 Inv-loop μ-loop
+wide-requires c κs = search needs
+
+add-part : tie.Need-add-part Inv-slots μ-slots Inv-loop2 μ-loop2 Inv-loop μ-loop
+add-part c = record { fits = omega (arith, row-is (c .before .before .before .before .before .before .before .before .before .before)) }
+
+part-requires : tie.Need-part-requires Inv-slots μ-slots Inv-loop2 μ-loop2 Inv-loop μ-loop
+part-requires c κs =
+    let I = c .before .before .before .before .before .before .before in
+    let T = I .before .slots .inv .1 _ _ (start-slots (I .before) .pre .0 .2) .stretched in (
+      T .end-size,
+      T .last-size,
+      T .after-size,
+      low I,
+      omega (arith, row-is (I .before .before .before)),
+      omega (arith, ends I),
+      omega (arith, ends I, start-slots (I .before) .pre .1),
+      omega (arith, ends I, T .room),
+    )
+
+-- from where the stretch is parted
+abbrev looking : tie.After-part Inv-slots μ-slots Inv-loop2 μ-loop2 Inv-loop μ-loop → tie.In-slots Inv-slots μ-slots Inv-loop2 μ-loop2 Inv-loop μ-loop
+looking c = c .before .before .before .before .before .before .before .before
+
+-- the row has load left
+some : (c : tie.Else1 Inv-slots μ-slots Inv-loop2 μ-loop2 Inv-loop μ-loop) → 0 < c .before .before .slots .left
+some c = let z : ¬ (c .before .before .slots .left ≡ 0) = c .if1 .left in omega arith
+
+written : (c : tie.After-part Inv-slots μ-slots Inv-loop2 μ-loop2 Inv-loop μ-loop) → looking c .before .slots .s < length (c .part .last .1 .1 .1 .0)
+written c =
+    let I = looking c in
+    omega (
+      arith,
+      parted-sizes (c .part .ensures),
+      ends I,
+      I .before .slots .inv .1 _ _ (start-slots (I .before) .pre .0 .2) .stretched .room,
+    )
+
+-- the row takes a slot, and no more than its load
+takes : (c : tie.After-part Inv-slots μ-slots Inv-loop2 μ-loop2 Inv-loop μ-loop)
+    → (looking c .before .slots .s < at (c .part .last .0) (looking c .before .slots .k))
+    × (at (c .part .last .0) (looking c .before .slots .k) ≤ looking c .before .slots .s + looking c .before .slots .left)
+takes c =
+    let I = looking c in
+    let e =
+    parted-end (c .part .ensures) (ends I .0) (some (c .before .before .before .before .before .before .before))
+    (omega (arith, low I, I .before .slots .inv .1 _ _ (start-slots (I .before) .pre .0 .2) .stretched .end-size)) in
+    (e .0, e .1)
+
+mul-words : tie.Need-mul-words Inv-slots μ-slots Inv-loop2 μ-loop2 Inv-loop μ-loop
+mul-words c = record { fits = omega (arith, ends (c .before .before .before .before .before .before .before .before .before .before), start-slots (c .before .before .before .before .before .before .before .before .before .before .before) .pre .1) }
+
+slice-read-words : tie.Need-slice-read-words Inv-slots μ-slots Inv-loop2 μ-loop2 Inv-loop μ-loop
+slice-read-words c = omega (arith, written (c .before .before .before))
+
+mul-words-2 : tie.Need-mul-words-2 Inv-slots μ-slots Inv-loop2 μ-loop2 Inv-loop μ-loop
+mul-words-2 c = record { fits = omega (arith, ends (c .before .before .before .before .before .before .before .before .before .before .before), start-slots (c .before .before .before .before .before .before .before .before .before .before .before .before) .pre .1) }
+
+slice-write-words : tie.Need-slice-write-words Inv-slots μ-slots Inv-loop2 μ-loop2 Inv-loop μ-loop
+slice-write-words c = omega (arith, written (c .before .before .before))
+
+element-copy-out-last :
+    tie.Need-element-copy-out-last Inv-slots μ-slots Inv-loop2 μ-loop2 Inv-loop μ-loop
+element-copy-out-last c = omega (arith, row-is (c .before .before .before .before .before .before .before .before .before .before .before .before .before .before))
+
+array-write-last : tie.Need-array-write-last Inv-slots μ-slots Inv-loop2 μ-loop2 Inv-loop μ-loop
+array-write-last c = low (c .before .before .before .before .before .before .before .before .before .before .before .before)
+
+mul-slot : tie.Need-mul-slot Inv-slots μ-slots Inv-loop2 μ-loop2 Inv-loop μ-loop
+mul-slot c = record { fits = omega (arith, low (c .before .before .before .before .before .before .before .before .before .before .before .before)) }
+
+array-read-slot : tie.Need-array-read-slot Inv-slots μ-slots Inv-loop2 μ-loop2 Inv-loop μ-loop
+array-read-slot c = low (c .before .before .before .before .before .before .before .before .before .before .before .before)
+
+slot-requires : tie.Need-slot-requires Inv-slots μ-slots Inv-loop2 μ-loop2 Inv-loop μ-loop
+slot-requires c κs = search needs
+
+sub-left : tie.Need-sub-left Inv-slots μ-slots Inv-loop2 μ-loop2 Inv-loop μ-loop
+sub-left c = omega (arith, c .slot .ensures, takes (c .before .before .before .before .before))
+
+sub-left-2 : tie.Need-sub-left-2 Inv-slots μ-slots Inv-loop2 μ-loop2 Inv-loop μ-loop
+sub-left-2 c = omega (arith, c .slot .ensures, takes (c .before .before .before .before .before))
+
+mul-slot-2 : tie.Need-mul-slot-2 Inv-slots μ-slots Inv-loop2 μ-loop2 Inv-loop μ-loop
+mul-slot-2 c = record { fits = omega (arith, low (c .before .before .before)) }
+
+array-read-slot-2 : tie.Need-array-read-slot-2 Inv-slots μ-slots Inv-loop2 μ-loop2 Inv-loop μ-loop
+array-read-slot-2 c = low (c .before .before .before)
+
+slot-requires-2 : tie.Need-slot-requires-2 Inv-slots μ-slots Inv-loop2 μ-loop2 Inv-loop μ-loop
+slot-requires-2 c κs = search needs
+
+array-read-wide-2 : tie.Need-array-read-wide-2 Inv-slots μ-slots Inv-loop2 μ-loop2 Inv-loop μ-loop
+array-read-wide-2 c = low (c .before .before .before .before)
+
+wide-requires-2 : tie.Need-wide-requires-2 Inv-slots μ-slots Inv-loop2 μ-loop2 Inv-loop μ-loop
+wide-requires-2 c κs = search needs
+
+slots-less : tie.Need-slots-less Inv-slots μ-slots Inv-loop2 μ-loop2 Inv-loop μ-loop
+slots-less c =
+    let J = c .before .before in
+    let I = J .before .before .before in
+    let k = I .before .slots .k in
+    let size = I .before .slots .inv .1 _ _ (start-slots (I .before) .pre .0 .2) .stretched .end-size in
+    ⊎-elim
+    (λ z.
+    omega (
+      arith,
+      c .before .slot2 .ensures,
+      ap (λ (es : List ℕ). at es k) (z .12),
+      parted-end (z .5 .ensures) (ends I .0) (some (J .before .before)) (omega (arith, low I, size)),
+      I .slots-test .taken,
+    ))
+    (λ z. omega (arith, c .before .slot2 .ensures, ap (λ (es : List ℕ). at es k) (z .2), ends I, I .slots-test .taken))
+    (J .if2 .came)
+
+slots-again : tie.Need-slots-again Inv-slots μ-slots Inv-loop2 μ-loop2 Inv-loop μ-loop
+slots-again c =
+    let J = c .before .before in
+    let I = J .before .before .before in
+    let k = I .before .slots .k in
+    let s = I .before .slots .s in
+    let left = I .before .slots .left in
+    let i = I .before .before .before .before .loop2 .r - 1 in
+    ⊎-elim
+    (λ z.
+    let P = z .5 .ensures in
+    let word = ap (bitOr (at (z .5 .last .1 .1 .1 .0) s)) (one-shl i (omega (arith, row-is (I .before .before .before)))) in
+    (
+      rw (z .11) (kept-set s _ (parted-kept P (ends I .1) (I .before .slots .inv .0)) (I .slots-test .taken)),
+      λ n f O.
+          let T = I .before .slots .inv .1 n f O in
+          turning-as
+          (turning-take T (I .slots-test .taken) (some (J .before .before)) P (O .few)
+          (omega (arith, z .0 .taken, J .before .wide .ensures, T .start)) word
+          (c .before .slot2 .ensures ∙ ap (λ (es : List ℕ). at es k) (z .12))
+          (c .wide2 .ensures ∙ ap (λ (fs : List ℕ). at fs k) (z .14))
+          (z .15 ∙ ap (λ (d : ℕ). left - (d - s)) (z .10 .ensures)) .0)
+          refl (z .12) (z .13) (z .14) (z .11),
+    ))
+    (λ z. (
+      rw (z .1) (I .before .slots .inv .0),
+      λ n f O.
+          let T = I .before .slots .inv .1 n f O in
+          turning-as
+          (turning-skip T (I .slots-test .taken) (some (J .before .before))
+          (omega (arith, z .0 .left, J .before .wide .ensures, T .start))
+          (c .before .slot2 .ensures ∙ ap (λ (es : List ℕ). at es k) (z .2))
+          (c .wide2 .ensures ∙ ap (λ (fs : List ℕ). at fs k) (z .4)) .0)
+          (z .5) (z .2) (z .3) (z .4) (z .1),
+    ))
+    (J .if2 .came)
+
+element-copy-out-r-2 :
+    tie.Need-element-copy-out-r-2 Inv-slots μ-slots Inv-loop2 μ-loop2 Inv-loop μ-loop
+element-copy-out-r-2 c = omega (arith, row-is (c .before .before .before))
+
+loop2-less : tie.Need-loop2-less Inv-slots μ-slots Inv-loop2 μ-loop2 Inv-loop μ-loop
+loop2-less c =
+    let I = c .before .before .before .before in
+    let O = start-rows (I .before) .pre .0 .2 in
+    let m = link-row (I .before .loop2 .inv .1 _ _ O .link) in
+    rest-less (O .chained .nexts (I .before .loop2 .r - 1) (omega arith) (omega (arith, row-is I))) (O .few) (row-is I .0)
+    (omega (arith, row-is I)) m
+
+loop2-again : tie.Need-loop2-again Inv-slots μ-slots Inv-loop2 μ-loop2 Inv-loop μ-loop
+loop2-again c =
+    let I = c .before .before .before .before in
+    (
+      kept-trans (I .before .loop2 .inv .0) (c .before .before .slots .inv .0),
+      λ n f O.
+          let T = c .before .before .slots .inv .1 n f O in
+          turning-end T (⊎-elim (λ z. inl (z .left)) (λ z. inr (z .1 .taken)) (c .before .slots-test .came))
+          (O .chained .nexts (I .before .loop2 .r - 1) (omega arith) (T .row)),
+    )
+
+add-element : tie.Need-add-element Inv-slots μ-slots Inv-loop2 μ-loop2 Inv-loop μ-loop
+add-element c = omega arith
+
+loop-less : tie.Need-loop-less Inv-slots μ-slots Inv-loop2 μ-loop2 Inv-loop μ-loop
+loop-less c = omega arith
+
+loop-again : tie.Need-loop-again Inv-slots μ-slots Inv-loop2 μ-loop2 Inv-loop μ-loop
+loop-again c =
+    let L = c .before .before .before .before in
+    (
+      kept-trans (L .loop .inv .0) (c .before .loop2 .inv .0),
+      λ n f O. along-end (c .before .loop2 .inv .1 n f O) (c .loop2-test .left),
+    )
+
+spread-requires : tie.Need-spread-requires Inv-slots μ-slots Inv-loop2 μ-loop2 Inv-loop μ-loop
+spread-requires c κs =
+    let L = c .before .before .before .before in
+    let S = L .loop .inv .1 _ _ (start L .pre .0 .2) .stretched in
+    ((S .of, S .begin, S .tiles), S .room)
+
+abbrev final : tie.After-slice-known5 Inv-slots μ-slots Inv-loop2 μ-loop2 Inv-loop μ-loop → tie.Start Inv-slots μ-slots Inv-loop2 μ-loop2 Inv-loop μ-loop
+final c = start (c .before .before .before .before .before .before .before)
+
+filled : (c : tie.After-slice-known5 Inv-slots μ-slots Inv-loop2 μ-loop2 Inv-loop μ-loop) → (n : ℕ) (f : ℕ → ℕ)
+    → ChainedRows n f (at (final c .args .second .now)) (final c .args .top) (final c .args .head .now) (final c .args .next .now)
+    → FilledSlots n f (at (final c .args .second .now)) (at (final c .args .load .now)) (final c .args .slots) (final c .args .words .now)
+    (c .before .before .spread .last .1 .1 .1 .0)
+filled c n f O =
+    let L = c .before .before .before .before .before .before .before in
+    coming-end (L .loop .inv .1 n f O)
+    (λ j h. omega (arith, O .line j h, c .before .before .before .before .before .before .loop-test .left))
+    (kept-trans (cleared (L .before .before .before)) (L .loop .inv .0))
+    (c .before .before .spread .ensures)
+
+same-length : tie.Need-same-length Inv-slots μ-slots Inv-loop2 μ-loop2 Inv-loop μ-loop
+same-length c =
+    let L = c .before .before .before .before .before .before .before in
+    let O = start L .pre .0 .2 in
+    filled c _ _ O .kept .long
+
+returns : tie.Need-returns Inv-slots μ-slots Inv-loop2 μ-loop2 Inv-loop μ-loop
+returns c = filled c
+
+pub fill-spec : {M : Type 1} → statement M
+fill-spec =
+    tie.close
+    (tie.spec
+    Inv-slots
+    μ-slots
+    Inv-loop2
+    μ-loop2
+    Inv-loop
+    μ-loop
+    cast-end
+    array-write-end
+    clear-requires
+    loop-holds
+    element-copy-out-r
+    loop2-holds
+    sub-i
+    cast-i
+    shl-row
+    mul-left
+    element-copy-out-left
+    slots-holds
+    array-read-wide
+    wide-requires
+    add-part
+    part-requires
+    mul-words
+    slice-read-words
+    mul-words-2
+    slice-write-words
+    element-copy-out-last
+    array-write-last
+    mul-slot
+    array-read-slot
+    slot-requires
+    sub-left
+    sub-left-2
+    mul-slot-2
+    array-read-slot-2
+    slot-requires-2
+    array-read-wide-2
+    wide-requires-2
+    slots-less
+    slots-again
+    element-copy-out-r-2
+    loop2-less
+    loop2-again
+    add-element
+    loop-less
+    loop-again
+    spread-requires
+    same-length
+    returns)
