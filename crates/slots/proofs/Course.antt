@@ -85,8 +85,9 @@ coming-start h whole none clear es ls fs room =
     record { W = λ u. 0; Z = λ u. 0; walked = walk-start h; stretched = stretched-start (inl refl) whole none clear es ls fs room }
 
 module _ {n : ℕ} {f g x : ℕ → ℕ} {l e : ℕ} {end last after words : List ℕ} where
-  pub along-start : {r : ℕ} → Coming n f g x l e end last after words → Link n f e 0 r → Along n f g x l e r 0 0 end last after words
-  along-start C L = record {
+  pub along-start : {r k s : ℕ} → Coming n f g x l e end last after words → k ≡ 0 → s ≡ 0 → Link n f e 0 r
+      → Along n f g x l e r k s end last after words
+  along-start C p q L = rw (p, q) record {
     j = 0;
     W = C .W;
     Z = C .Z;

@@ -155,11 +155,11 @@ pub fn fill(
     let mut after = [0u8; STRETCHES];
     end[0] = slots as u16;
     clear(slots, words);
+    let mut k: usize = 0;
+    let mut s: usize = 0;
     let mut element: usize = 1;
     while element < top {
         let mut r = head[element];
-        let mut k: usize = 0;
-        let mut s: usize = 0;
         while r != 0 {
             let i = (r - 1) as usize;
             let row = 1u64 << i;
@@ -188,6 +188,8 @@ pub fn fill(
             }
             r = next[i];
         }
+        k = 0;
+        s = 0;
         element += 1;
     }
     spread(&end, &after, slots, words);

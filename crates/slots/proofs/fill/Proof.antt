@@ -24,31 +24,31 @@ use Rattle.slots.proofs.fill.Statement.{statement}
 use Rattle.slots.proofs.fill.Tie as tie
 
 abbrev Inv-slots : tie.InvT-slots
-Inv-slots second head next load top slots words₀ end₀ last₀ after₀ element r k₀ s₀ i row left₀ words end last after k s left =
+Inv-slots second head next load top slots words₀ end₀ last₀ after₀ k₀ s₀ element r i row left₀ words end last after k s left =
     Kept slots words₀ words
     × ((n : ℕ) (f : ℕ → ℕ) → ChainedRows n f (at second) top head next
     → Turning n f (at second) (at load) slots element i left k s end last after words)
 
 abbrev μ-slots : tie.MeasureT-slots
-μ-slots second head next load top slots words₀ end₀ last₀ after₀ element r k₀ s₀ i row left₀ words end last after k s left = slots - s
+μ-slots second head next load top slots words₀ end₀ last₀ after₀ k₀ s₀ element r i row left₀ words end last after k s left = slots - s
 
 abbrev Inv-loop2 : tie.InvT-loop2
-Inv-loop2 second head next load top slots words₀ end₀ last₀ after₀ element r₀ k₀ s₀ words end last after r k s =
+Inv-loop2 second head next load top slots words₀ end₀ last₀ after₀ k₀ s₀ element r₀ words end last after k s r =
     Kept slots words₀ words
     × ((n : ℕ) (f : ℕ → ℕ) → ChainedRows n f (at second) top head next
     → Along n f (at second) (at load) slots element r k s end last after words)
 
 abbrev μ-loop2 : tie.MeasureT-loop2
-μ-loop2 second head next load top slots words₀ end₀ last₀ after₀ element r₀ k₀ s₀ words end last after r k s = rest r
+μ-loop2 second head next load top slots words₀ end₀ last₀ after₀ k₀ s₀ element r₀ words end last after k s r = rest r
 
 abbrev Inv-loop : tie.InvT-loop
-Inv-loop second head next load top slots words₀ end₀ last₀ after₀ element₀ words end last after element =
-    Kept slots words₀ words
+Inv-loop second head next load top slots words₀ end₀ last₀ after₀ k₀ s₀ element₀ words end last after k s element =
+    (k ≡ 0) × (s ≡ 0) × Kept slots words₀ words
     × ((n : ℕ) (f : ℕ → ℕ) → ChainedRows n f (at second) top head next
     → Coming n f (at second) (at load) slots element end last after words)
 
 abbrev μ-loop : tie.MeasureT-loop
-μ-loop second head next load top slots words₀ end₀ last₀ after₀ element₀ words end last after element = top - element
+μ-loop second head next load top slots words₀ end₀ last₀ after₀ k₀ s₀ element₀ words end last after k s element = top - element
 
 -- ---- where the walk has come to, for the rows that the call was made with
 
@@ -96,6 +96,8 @@ loop-holds c =
     let S = c .before .before .before .before .before in
     let K = cleared (c .before .before) in
     (
+      refl,
+      refl,
       kept-none _ _,
       λ n f O.
           coming-start (λ j h. O .line j h .0) refl refl
@@ -113,7 +115,7 @@ loop2-holds c =
     (
       kept-none _ _,
       λ n f O.
-          along-start (c .before .before .loop .inv .1 n f O)
+          along-start (c .before .before .loop .inv .3 n f O) (c .before .before .loop .inv .0) (c .before .before .loop .inv .1)
           (O .chained .heads (c .before .before .loop .element) (omega (arith, O .low, c .before .loop-test .taken))),
     )
 
@@ -331,14 +333,16 @@ loop-again : tie.Need-loop-again Inv-slots μ-slots Inv-loop2 μ-loop2 Inv-loop 
 loop-again c =
     let L = c .before .before .before .before in
     (
-      kept-trans (L .loop .inv .0) (c .before .loop2 .inv .0),
+      refl,
+      refl,
+      kept-trans (L .loop .inv .2) (c .before .loop2 .inv .0),
       λ n f O. along-end (c .before .loop2 .inv .1 n f O) (c .loop2-test .left),
     )
 
 spread-requires : tie.Need-spread-requires Inv-slots μ-slots Inv-loop2 μ-loop2 Inv-loop μ-loop
 spread-requires c κs =
     let L = c .before .before .before .before in
-    let S = L .loop .inv .1 _ _ (start L .pre .0 .2) .stretched in
+    let S = L .loop .inv .3 _ _ (start L .pre .0 .2) .stretched in
     ((S .of, S .begin, S .tiles), S .room)
 
 abbrev final : tie.After-slice-known5 Inv-slots μ-slots Inv-loop2 μ-loop2 Inv-loop μ-loop → tie.Start Inv-slots μ-slots Inv-loop2 μ-loop2 Inv-loop μ-loop
@@ -350,9 +354,9 @@ filled : (c : tie.After-slice-known5 Inv-slots μ-slots Inv-loop2 μ-loop2 Inv-l
     (c .before .before .spread .last .1 .1 .1 .0)
 filled c n f O =
     let L = c .before .before .before .before .before .before .before in
-    coming-end (L .loop .inv .1 n f O)
+    coming-end (L .loop .inv .3 n f O)
     (λ j h. omega (arith, O .line j h, c .before .before .before .before .before .before .loop-test .left))
-    (kept-trans (cleared (L .before .before .before)) (L .loop .inv .0))
+    (kept-trans (cleared (L .before .before .before)) (L .loop .inv .2))
     (c .before .before .spread .ensures)
 
 same-length : tie.Need-same-length Inv-slots μ-slots Inv-loop2 μ-loop2 Inv-loop μ-loop
