@@ -26,7 +26,7 @@ use lib.Dec.{T, eqb}
 use lib.ListN.{length, set, length-set}
 use lib.Seq.{getD-set-same}
 use Rattle.numbers.specs.Lists.{at}
-use Rattle.numbers.proofs.Truth.{along, le-or-lt}
+use Rattle.numbers.proofs.Truth.{along}
 use Rattle.rules.specs.Bounds.{max-rows}
 use Rattle.slots.specs.Chained.{Link}
 use Rattle.slots.specs.Filled.{Kept, FilledSlots}
@@ -104,7 +104,8 @@ module _ {n : ℕ} {f g x : ℕ → ℕ} {l e : ℕ} {end last after words : Lis
         W = A .W;
         Z = A .Z;
         walked = walked-eq (taken n f (e + 1) 0) next (A .walked);
-        stretched = stretched-as (stretched-first (A .stretched)) (named-eq (taken n f e (A .j)) (taken n f (e + 1) 0) (λ j. along (next j)));
+        stretched = stretched-as (stretched-first (A .stretched))
+            (named-eq (taken n f e (A .j)) (taken n f (e + 1) 0) (λ j. along (next j)));
       }
 
   pub coming-end : {was out : List ℕ} → Coming n f g x l e end last after words → ((j : ℕ) → j < n → f j < e) → Kept l was words
@@ -130,7 +131,9 @@ module _ {n : ℕ} {f g x : ℕ → ℕ} {l e : ℕ} {end last after words : Lis
       let row : i < n = omega arith in
       let start : f i ≡ e = ap f q ∙ p .2 in
       let skip = taken-skip n f e (A .link) some in
-      let B = subst (λ (j : ℕ). Walked n f g x l (taken n f e j) (A .W) (A .Z)) (sym q) (walked-eq (taken n f e (r - 1)) skip (A .walked)) in
+      let B =
+      subst (λ (j : ℕ). Walked n f g x l (taken n f e j) (A .W) (A .Z)) (sym q)
+      (walked-eq (taken n f e (r - 1)) skip (A .walked)) in
       record {
         W₀ = A .W;
         Z₀ = A .Z;
@@ -155,7 +158,8 @@ module _ {n : ℕ} {f g x : ℕ → ℕ} {l e : ℕ} {end last after words : Lis
       link = subst (λ (d : ℕ). Link n f d (i + 1) r) (R .start) L;
       walked = turn-end (R .before) (R .start) (R .line) (R .turn) (R .row) over;
       past = λ u a b. omega (arith, R .turn .past u a b, R .start);
-      stretched = stretched-as (R .stretched) (λ j. ⊎-elim (named-eq (taken n f e i) (taken n f e (i + 1)) more j) (λ b. inr (i, b .0, mine)));
+      stretched = stretched-as (R .stretched)
+          (λ j. ⊎-elim (named-eq (taken n f e i) (taken n f e (i + 1)) more j) (λ b. inr (i, b .0, mine)));
     }
       where
         mine : T (taken n f e (i + 1) i)

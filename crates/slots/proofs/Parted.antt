@@ -1,16 +1,17 @@
 -- A stretch is parted: the slots are tiled as before but for it, and each slot keeps its word and its last end.
 --
 --   swapped p v g            g, but v where p holds
---   ofParted, beginParted    which stretch a slot lies in, and where a stretch begins, after a stretch that ends at slot e is parted before slot m
+--   ofParted of m e new, beginParted begin m new
+--                            which stretch a slot lies in, and where a stretch begins, after one that ends at slot e is parted before slot m
 --   end-parted, number-parted, cursor-parted
 --                            the first part ends at m; the second has the new number; the walk is at the first part
 --   tiles-parted             the stretches tile the slots
 --   word-parted, last-parted each slot has the word and the last end that it had
-use mathlib.Core.Path.{_≡_, refl, sym, ap, _∙_}
+use mathlib.Core.Path.{_≡_, sym, ap, _∙_}
 use mathlib.Core.Logic.{_⊎_, _≢_, inl, inr, ⊎-elim}
 use mathlib.Core.List.{List}
-use mathlib.Core.Bool.{Bool, true, false, cond}
-use Prim.Native.Nat.{ℕ, _+_, _≤_, _<_}
+use mathlib.Core.Bool.{Bool, cond}
+use Prim.Native.Nat.{ℕ, _≤_, _<_}
 use native.Mathlib.Omega.{arith}
 use lib.Dec.{T, eqb, eqb→eq, eqb-refl}
 use lib.ListN.{length, set, length-set}
@@ -19,7 +20,7 @@ use Rattle.numbers.specs.Lists.{at}
 use Rattle.numbers.proofs.Truth.{decide, is-true, is-false, eqb-of, le-or-lt}
 use Rattle.slots.specs.Stretches.{most-stretches, Tiles}
 use Rattle.slots.proofs.Scan.{within, within-is, within-of}
-use Rattle.slots.proofs.Stretches.{Cursor, cursor-start, cursor-end, cursor-is, cursor-of}
+use Rattle.slots.proofs.Stretches.{Cursor, cursor-end, cursor-is, cursor-of}
 
 unfoldable pub swapped : (ℕ → Bool) → ℕ → (ℕ → ℕ) → ℕ → ℕ
 swapped p v g u = cond (p u) v (g u)
@@ -101,9 +102,9 @@ module _ {l : ℕ} {of begin : ℕ → ℕ} {end after : List ℕ} (t : Tiles l 
   pub tiles-parted : Tiles l (ofParted of m (at end k) new) (beginParted begin m new) (set (set end new (at end k)) k m)
       (set (set after new (at after k)) k new)
   tiles-parted = record {
-    zero =
-        stays 0 (λ a b. let z : ⊥ = omega arith in z) ∙ t .zero;
-    few = λ u d. ⊎-elim (λ i. omega (arith, i .2)) (⊎-elim (λ i. omega (arith, i .3, low)) (λ i. omega (arith, i .1, t .few u d))) (where-is u d);
+    zero = stays 0 (λ a b. let z : ⊥ = omega arith in z) ∙ t .zero;
+    few = λ u d.
+        ⊎-elim (λ i. omega (arith, i .2)) (⊎-elim (λ i. omega (arith, i .3, low)) (λ i. omega (arith, i .1, t .few u d))) (where-is u d);
     begins = λ u d.
         ⊎-elim
         (λ i. omega (arith, ap (beginParted begin m new) (i .2), new-begin))

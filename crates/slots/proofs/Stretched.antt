@@ -9,11 +9,10 @@
 --   stretched-parted      the stretch is parted
 --   stretched-put         a row is put into all slots of the stretch
 use mathlib.Core.Path.{_≡_, refl, sym, ap, _∙_}
-use mathlib.Core.Logic.{_⊎_, _≢_, inl, inr, ⊎-elim}
+use mathlib.Core.Logic.{_⊎_, _≢_, ⊎-elim}
 use mathlib.Core.List.{List}
-use mathlib.Core.Bool.{Bool, true, false, _&&_, _||_, or-false}
+use mathlib.Core.Bool.{Bool, _&&_, _||_, or-false}
 use Prim.Native.Nat.{ℕ, _+_, _^_, _≤_, _<_}
-use native.Mathlib.Nat.{le-refl}
 use native.Mathlib.Omega.{arith}
 use lib.Bits.{bitOr}
 use lib.Dec.{T, eqb}
@@ -218,5 +217,6 @@ module _ {l : ℕ} {U : ℕ → Type 0} {W Z : ℕ → ℕ} {k s : ℕ} {end las
         outside : (j u : ℕ) → u < l → (T (within s (at end k) u) → ⊥)
             → bit (at (set words s w) (S .begin (S .of u))) j ≡ (has W j u || (within s (at end k) u && eqb j i))
         outside j u d a =
-            ap (λ (v : ℕ). bit v j) (getD-set-other words s (S .begin (S .of u)) w 0 (λ e. a (theirs u d (begins-so u d e))) ∙ sym (S .shown u d))
+            ap (λ (v : ℕ). bit v j)
+            (getD-set-other words s (S .begin (S .of u)) w 0 (λ e. a (theirs u d (begins-so u d e))) ∙ sym (S .shown u d))
             ∙ sym (ap (λ (v : Bool). has W j u || (v && eqb j i)) (is-false (within s (at end k) u) a) ∙ or-false (has W j u))

@@ -11,11 +11,10 @@
 --                            none is; one more is; all are
 --   parted-sizes, parted-kept, parted-end
 --                            the arrays are as long as they were; slots past the interval are kept; where the first part ends
---   parted-only, spread-only only one answer fits
 use mathlib.Core.Path.{_≡_, refl, sym, ap, _∙_, subst}
 use mathlib.Core.Logic.{_⊎_, inl, inr, ⊎-elim}
 use mathlib.Core.List.{List}
-use Prim.Native.Nat.{ℕ, suc, _+_, _-_, _≤_, _<_}
+use Prim.Native.Nat.{ℕ, suc, _+_, _≤_, _<_}
 use native.Mathlib.Nat.{not-suc-le-zero}
 use native.Mathlib.Omega.{arith}
 use lib.ListN.{length, set, length-set}

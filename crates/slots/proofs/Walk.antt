@@ -7,15 +7,15 @@
 --   Turn n f g x l W₀ Z₀ i s left W Z
 --                         row i's turn: its scan has come to slot s, with `left` of its load to place; it began with W₀ and Z₀
 --   turn-start, turn-skip, turn-take, turn-end
---                         the turn begins, past slots that are not free; a stretch is not free; row i takes it; the turn is over, at the last
---                         slot or with no load left
+--                         the turn begins, past slots that are not free; a stretch is not free; row i takes it; the turn is over, at the
+--                         last slot or with no load left
 --   walk-start, walk-end  no row is taken; all are
 use mathlib.Core.Path.{_≡_, refl, sym, ap, _∙_, subst}
 use mathlib.Core.Logic.{_⊎_, inl, inr, ⊎-elim}
 use mathlib.Core.List.{List}
-use mathlib.Core.Bool.{Bool, true, false, _&&_, _||_, or-false}
+use mathlib.Core.Bool.{Bool, false, _&&_, _||_, or-false}
 use Prim.Native.Nat.{ℕ, _+_, _-_, _≤_, _<_}
-use native.Mathlib.Nat.{le-refl, not-suc-le-zero}
+use native.Mathlib.Nat.{not-suc-le-zero}
 use native.Mathlib.Omega.{arith}
 use lib.Dec.{T, ltb, leb, eqb, ltb→lt, lt→ltb, eqb→eq}
 use lib.ListN.{length}

@@ -1,5 +1,5 @@
--- The slots of one interval as stretches: neighbouring slots that hold the same rows. Stretches are numbered; number 0 comes first. For each,
--- `end` has the slot after its last, `after` the number of the stretch that follows, and the word of its rows stands at its first slot.
+-- The slots of one interval as stretches: neighbouring slots that hold the same rows. Stretches are numbered, and number 0 comes first.
+-- For each, `end` has the slot after its last and `after` the number of the stretch that follows; its word stands at its first slot.
 --
 --   most-stretches       how many stretches there can be: each row parts one at most
 --   Tiles l of begin end after
@@ -10,8 +10,6 @@
 --                        the slots from `from` up to `to` have the word of the first of them
 --   Spread l of begin was now
 --                        each slot below l has the word of its stretch
---
--- Only one answer fits each (proofs/Stretches).
 use mathlib.Core.Path.{_≡_}
 use mathlib.Core.Logic.{_⊎_}
 use mathlib.Core.List.{List}

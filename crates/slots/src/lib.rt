@@ -15,7 +15,7 @@ ghost use lib.ListN.{length, set};
 ghost use Rattle.numbers.specs.Lists.{at};
 ghost use Rattle.rules.specs.Bounds.{max-rows, max-slots};
 ghost use Rattle.slots.specs.Chained.{all-heads, Chained, ChainedRows};
-ghost use Rattle.slots.specs.Filled.{Kept, FilledSlots};
+ghost use Rattle.slots.specs.Filled.{FilledSlots};
 ghost use Rattle.slots.specs.Stretches.{most-stretches, Tiles, Parted, Repeated, Spread};
 
 // The rows that start at each element, by row number. `head[e]` leads to the lowest row that starts at element e, `next[i]` from row i to
@@ -26,7 +26,7 @@ pub struct Chains {
 }
 
 impl Chains {
-    // Elements on a line are numbered from 1, and a line has one element more than its ring. There is room for two lines, one after the other.
+    // A line's elements are numbered from 1, and it has one more than its ring. There is room for two lines, one after the other.
     pub const HEADS: usize = 2 * (Table::ELEMENTS + 1) + 1;
 }
 
@@ -126,7 +126,8 @@ fn spread(end: &[u16; STRETCHES], after: &[u8; STRETCHES], slots: usize, words: 
 // Clears the word of the stretch that is all slots.
 fn clear(slots: usize, words: &mut [u64])
     requires { ⌜ slots ≤ length (now words) ⌝ }
-    ensures { λ _. ⌜ (0 < slots → now (words .exit) ≡ set (now (words .entry)) 0 0) × (slots ≡ 0 → now (words .exit) ≡ now (words .entry)) ⌝ }
+    ensures { λ _. ⌜ (0 < slots → now (words .exit) ≡ set (now (words .entry)) 0 0)
+        × (slots ≡ 0 → now (words .exit) ≡ now (words .entry)) ⌝ }
 {
     if 0 < slots {
         words[0] = 0;

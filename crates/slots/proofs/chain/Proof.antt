@@ -57,7 +57,8 @@ loop-again : tie.Need-loop-again Inv-loop μ-loop
 loop-again c =
     (
       omega arith,
-      chain-more (c .before .before .before .loop .inv .1) (omega arith) (omega arith) (omega arith) (c .wide .ensures) (omega (arith, low c)),
+      chain-more (c .before .before .before .loop .inv .1) (omega arith) (omega arith) (omega arith) (c .wide .ensures)
+          (omega (arith, low c)),
     )
 
 returns : tie.Need-returns Inv-loop μ-loop

@@ -1,16 +1,16 @@
 -- `fill` meets its contract: `Course` says what each of its loops keeps.
-use mathlib.Core.Path.{_≡_, refl, sym, ap, _∙_}
+use mathlib.Core.Path.{_≡_, refl, ap, _∙_}
 use mathlib.Core.Logic.{inl, inr, ⊎-elim}
 use mathlib.Core.List.{List}
 use Prim.Native.Nat.{ℕ, _+_, _-_, _≤_, _<_}
 use native.Mathlib.Omega.{arith}
 use borrow.Author.Needs.{needs}
 use lib.Bits.{bitOr}
-use lib.ListN.{length, length-set}
+use lib.ListN.{length}
 use lib.Seq.{getD-set-same}
 use Rattle.numbers.specs.Lists.{at}
 use Rattle.numbers.proofs.Word.{one-shl}
-use Rattle.rules.specs.Bounds.{max-rows}
+use Rattle.rules.specs.Bounds.{max-rows, max-slots}
 use Rattle.slots.specs.Chained.{ChainedRows}
 use Rattle.slots.specs.Filled.{Kept, FilledSlots}
 use Rattle.slots.specs.Stretches.{most-stretches}
@@ -50,32 +50,67 @@ Inv-loop second head next load top slots words₀ end₀ last₀ after₀ k₀ s
 abbrev μ-loop : tie.MeasureT-loop
 μ-loop second head next load top slots words₀ end₀ last₀ after₀ k₀ s₀ element₀ words end last after k s element = top - element
 
--- ---- where the walk has come to, for the rows that the call was made with
+-- ---- the places of the code
 
-abbrev start : tie.At-loop Inv-slots μ-slots Inv-loop2 μ-loop2 Inv-loop μ-loop → tie.Start Inv-slots μ-slots Inv-loop2 μ-loop2 Inv-loop μ-loop
+abbrev AtElements : Type 0
+AtElements = tie.At-loop Inv-slots μ-slots Inv-loop2 μ-loop2 Inv-loop μ-loop
+
+abbrev AtRows : Type 0
+AtRows = tie.At-loop2 Inv-slots μ-slots Inv-loop2 μ-loop2 Inv-loop μ-loop
+
+abbrev InRows : Type 0
+InRows = tie.In-loop2 Inv-slots μ-slots Inv-loop2 μ-loop2 Inv-loop μ-loop
+
+abbrev AtSlots : Type 0
+AtSlots = tie.At-slots Inv-slots μ-slots Inv-loop2 μ-loop2 Inv-loop μ-loop
+
+abbrev InSlots : Type 0
+InSlots = tie.In-slots Inv-slots μ-slots Inv-loop2 μ-loop2 Inv-loop μ-loop
+
+-- where load is left
+abbrev Loaded : Type 0
+Loaded = tie.Else1 Inv-slots μ-slots Inv-loop2 μ-loop2 Inv-loop μ-loop
+
+-- where the stretch is parted
+abbrev AtPart : Type 0
+AtPart = tie.After-part Inv-slots μ-slots Inv-loop2 μ-loop2 Inv-loop μ-loop
+
+-- where the slot has its word
+abbrev Written : Type 0
+Written = tie.After-slice-known4 Inv-slots μ-slots Inv-loop2 μ-loop2 Inv-loop μ-loop
+
+-- where all is done
+abbrev Done : Type 0
+Done = tie.After-slice-known5 Inv-slots μ-slots Inv-loop2 μ-loop2 Inv-loop μ-loop
+
+abbrev start : AtElements → tie.Start Inv-slots μ-slots Inv-loop2 μ-loop2 Inv-loop μ-loop
 start c = c .before .before .before .before .before .before
 
-abbrev start-rows : tie.At-loop2 Inv-slots μ-slots Inv-loop2 μ-loop2 Inv-loop μ-loop → tie.Start Inv-slots μ-slots Inv-loop2 μ-loop2 Inv-loop μ-loop
+abbrev start-rows : AtRows → tie.Start Inv-slots μ-slots Inv-loop2 μ-loop2 Inv-loop μ-loop
 start-rows c = start (c .before .before .before)
 
-abbrev start-slots : tie.At-slots Inv-slots μ-slots Inv-loop2 μ-loop2 Inv-loop μ-loop → tie.Start Inv-slots μ-slots Inv-loop2 μ-loop2 Inv-loop μ-loop
-start-slots c = start-rows (c .before .before .before)
+abbrev rows-of : AtSlots → InRows
+rows-of c = c .before .before
 
--- the row that r links to is one of the rows
-row-is : (c : tie.In-loop2 Inv-slots μ-slots Inv-loop2 μ-loop2 Inv-loop μ-loop) → (1 ≤ c .before .loop2 .r) × (c .before .loop2 .r ≤ max-rows)
-row-is c =
-    let O = start-rows (c .before) .pre .0 .2 in
-    let A = c .before .loop2 .inv .1 _ _ O in
-    (omega (arith, c .loop2-test .taken), omega (arith, link-row (A .link), O .few))
+abbrev start-slots : AtSlots → tie.Start Inv-slots μ-slots Inv-loop2 μ-loop2 Inv-loop μ-loop
+start-slots c = start-rows (rows-of c .before)
 
--- the stretch that the walk has come to is one of those there can be, and has a slot
-low : (c : tie.In-slots Inv-slots μ-slots Inv-loop2 μ-loop2 Inv-loop μ-loop) → c .before .slots .k < most-stretches
-low c = stretched-low (c .before .slots .inv .1 _ _ (start-slots (c .before) .pre .0 .2) .stretched) (c .slots-test .taken)
+abbrev slots-of : AtPart → InSlots
+slots-of c = c .before .before .before .before .before .before .before .before
 
-ends : (c : tie.In-slots Inv-slots μ-slots Inv-loop2 μ-loop2 Inv-loop μ-loop)
-    → (c .before .slots .s < at (c .before .slots .end) (c .before .slots .k))
-    × (at (c .before .slots .end) (c .before .slots .k) ≤ start-slots (c .before) .args .slots)
-ends c = stretched-end (c .before .slots .inv .1 _ _ (start-slots (c .before) .pre .0 .2) .stretched) (c .slots-test .taken)
+abbrev part-of : Written → AtPart
+part-of c = c .before .before .before
+
+abbrev end-of : Done → AtElements
+end-of c = c .before .before .before .before .before .before .before
+
+-- ---- before the first element
+
+cleared : (c : tie.After-clear Inv-slots μ-slots Inv-loop2 μ-loop2 Inv-loop μ-loop)
+    → Kept (c .before .before .before .args .slots) (c .before .before .before .args .words .now) (c .clear .last .1 .0)
+cleared c =
+    kept-cleared (c .before .before .before .args .slots) (c .before .before .before .args .words .now) (c .clear .last .1 .0)
+    (c .clear .ensures .0) (c .clear .ensures .1)
 
 cast-end : tie.Need-cast-end Inv-slots μ-slots Inv-loop2 μ-loop2 Inv-loop μ-loop
 cast-end c = record { fits = omega arith }
@@ -86,16 +121,10 @@ array-write-end c = omega arith
 clear-requires : tie.Need-clear-requires Inv-slots μ-slots Inv-loop2 μ-loop2 Inv-loop μ-loop
 clear-requires c κs = omega arith
 
-cleared : (c : tie.After-clear Inv-slots μ-slots Inv-loop2 μ-loop2 Inv-loop μ-loop) → Kept (c .before .before .before .args .slots) (c .before .before .before .args .words .now) (c .clear .last .1 .0)
-cleared c =
-    kept-cleared (c .before .before .before .args .slots) (c .before .before .before .args .words .now) (c .clear .last .1 .0)
-    (c .clear .ensures .0) (c .clear .ensures .1)
-
 loop-holds : tie.Need-loop-holds Inv-slots μ-slots Inv-loop2 μ-loop2 Inv-loop μ-loop
 loop-holds c =
     let S = c .before .before .before .before .before in
-    let K = cleared (c .before .before) in
-    (
+    let K = cleared (c .before .before) in (
       refl,
       refl,
       kept-none _ _,
@@ -106,18 +135,27 @@ loop-holds c =
           refl refl refl (omega (arith, K .long, S .pre .2)),
     )
 
-element-copy-out-r :
-    tie.Need-element-copy-out-r Inv-slots μ-slots Inv-loop2 μ-loop2 Inv-loop μ-loop
-element-copy-out-r c = let S = start (c .before) in omega (arith, S .pre .0 .2 .low, c .loop-test .taken)
+-- ---- at an element
+
+element-copy-out-r : tie.Need-element-copy-out-r Inv-slots μ-slots Inv-loop2 μ-loop2 Inv-loop μ-loop
+element-copy-out-r c = omega (arith, start (c .before) .pre .0 .2 .low, c .loop-test .taken)
 
 loop2-holds : tie.Need-loop2-holds Inv-slots μ-slots Inv-loop2 μ-loop2 Inv-loop μ-loop
 loop2-holds c =
-    (
+    let l = c .before .before .loop in (
       kept-none _ _,
       λ n f O.
-          along-start (c .before .before .loop .inv .3 n f O) (c .before .before .loop .inv .0) (c .before .before .loop .inv .1)
-          (O .chained .heads (c .before .before .loop .element) (omega (arith, O .low, c .before .loop-test .taken))),
+          along-start (l .inv .3 n f O) (l .inv .0) (l .inv .1)
+          (O .chained .heads (l .element) (omega (arith, O .low, c .before .loop-test .taken))),
     )
+
+-- ---- a row's turn
+
+-- r links to one of the rows
+row-is : (c : InRows) → (1 ≤ c .before .loop2 .r) × (c .before .loop2 .r ≤ max-rows)
+row-is c =
+    let O = start-rows (c .before) .pre .0 .2 in
+    (omega (arith, c .loop2-test .taken), omega (arith, link-row (c .before .loop2 .inv .1 _ _ O .link), O .few))
 
 sub-i : tie.Need-sub-i Inv-slots μ-slots Inv-loop2 μ-loop2 Inv-loop μ-loop
 sub-i c = row-is c .0
@@ -131,18 +169,35 @@ shl-row c = omega (arith, row-is c)
 mul-left : tie.Need-mul-left Inv-slots μ-slots Inv-loop2 μ-loop2 Inv-loop μ-loop
 mul-left c = record { fits = omega (arith, row-is c) }
 
-element-copy-out-left :
-    tie.Need-element-copy-out-left Inv-slots μ-slots Inv-loop2 μ-loop2 Inv-loop μ-loop
+element-copy-out-left : tie.Need-element-copy-out-left Inv-slots μ-slots Inv-loop2 μ-loop2 Inv-loop μ-loop
 element-copy-out-left c = omega (arith, row-is c)
 
 slots-holds : tie.Need-slots-holds Inv-slots μ-slots Inv-loop2 μ-loop2 Inv-loop μ-loop
 slots-holds c =
-    (
+    let l = c .before .before .loop2 in
+    let r = row-is (c .before) in (
       kept-none _ _,
       λ n f O.
-          let A = c .before .before .loop2 .inv .1 n f O in
-          turning-start A (row-is (c .before) .0) refl (O .line (c .before .before .loop2 .r - 1) (omega (arith, link-row (A .link), row-is (c .before))) .1),
+          let A = l .inv .1 n f O in
+          turning-start A (r .0) refl (O .line (l .r - 1) (omega (arith, link-row (A .link))) .1),
     )
+
+-- ---- a stretch
+
+-- it is one of those there can be
+low : (c : InSlots) → c .before .slots .k < most-stretches
+low c = stretched-low (c .before .slots .inv .1 _ _ (start-slots (c .before) .pre .0 .2) .stretched) (c .slots-test .taken)
+
+ends : (c : InSlots)
+    → (c .before .slots .s < at (c .before .slots .end) (c .before .slots .k))
+    × (at (c .before .slots .end) (c .before .slots .k) ≤ start-slots (c .before) .args .slots)
+ends c = stretched-end (c .before .slots .inv .1 _ _ (start-slots (c .before) .pre .0 .2) .stretched) (c .slots-test .taken)
+
+sized : (c : InSlots) → length (c .before .slots .end) ≡ most-stretches
+sized c = c .before .slots .inv .1 _ _ (start-slots (c .before) .pre .0 .2) .stretched .end-size
+
+some : (c : Loaded) → 0 < c .before .before .slots .left
+some c = let z : ¬ (c .before .before .slots .left ≡ 0) = c .if1 .left in omega arith
 
 array-read-wide : tie.Need-array-read-wide Inv-slots μ-slots Inv-loop2 μ-loop2 Inv-loop μ-loop
 array-read-wide c = low (c .before)
@@ -151,33 +206,28 @@ wide-requires : tie.Need-wide-requires Inv-slots μ-slots Inv-loop2 μ-loop2 Inv
 wide-requires c κs = search needs
 
 add-part : tie.Need-add-part Inv-slots μ-slots Inv-loop2 μ-loop2 Inv-loop μ-loop
-add-part c = record { fits = omega (arith, row-is (c .before .before .before .before .before .before .before .before .before .before)) }
+add-part c = record { fits = omega (arith, row-is (rows-of (c .before .before .before .before .before .before .before .before))) }
 
 part-requires : tie.Need-part-requires Inv-slots μ-slots Inv-loop2 μ-loop2 Inv-loop μ-loop
 part-requires c κs =
     let I = c .before .before .before .before .before .before .before in
-    let T = I .before .slots .inv .1 _ _ (start-slots (I .before) .pre .0 .2) .stretched in (
+    let S = start-slots (I .before) in
+    let T = I .before .slots .inv .1 _ _ (S .pre .0 .2) .stretched in (
       T .end-size,
       T .last-size,
       T .after-size,
       low I,
-      omega (arith, row-is (I .before .before .before)),
+      omega (arith, row-is (rows-of (I .before))),
       omega (arith, ends I),
-      omega (arith, ends I, start-slots (I .before) .pre .1),
+      omega (arith, ends I, S .pre .1),
       omega (arith, ends I, T .room),
     )
 
--- from where the stretch is parted
-abbrev looking : tie.After-part Inv-slots μ-slots Inv-loop2 μ-loop2 Inv-loop μ-loop → tie.In-slots Inv-slots μ-slots Inv-loop2 μ-loop2 Inv-loop μ-loop
-looking c = c .before .before .before .before .before .before .before .before
+-- ---- it is taken
 
--- the row has load left
-some : (c : tie.Else1 Inv-slots μ-slots Inv-loop2 μ-loop2 Inv-loop μ-loop) → 0 < c .before .before .slots .left
-some c = let z : ¬ (c .before .before .slots .left ≡ 0) = c .if1 .left in omega arith
-
-written : (c : tie.After-part Inv-slots μ-slots Inv-loop2 μ-loop2 Inv-loop μ-loop) → looking c .before .slots .s < length (c .part .last .1 .1 .1 .0)
-written c =
-    let I = looking c in
+room : (c : AtPart) → slots-of c .before .slots .s < length (c .part .last .1 .1 .1 .0)
+room c =
+    let I = slots-of c in
     omega (
       arith,
       parted-sizes (c .part .ensures),
@@ -186,49 +236,53 @@ written c =
     )
 
 -- the row takes a slot, and no more than its load
-takes : (c : tie.After-part Inv-slots μ-slots Inv-loop2 μ-loop2 Inv-loop μ-loop)
-    → (looking c .before .slots .s < at (c .part .last .0) (looking c .before .slots .k))
-    × (at (c .part .last .0) (looking c .before .slots .k) ≤ looking c .before .slots .s + looking c .before .slots .left)
+takes : (c : AtPart)
+    → (slots-of c .before .slots .s < at (c .part .last .0) (slots-of c .before .slots .k))
+    × (at (c .part .last .0) (slots-of c .before .slots .k) ≤ slots-of c .before .slots .s + slots-of c .before .slots .left)
 takes c =
-    let I = looking c in
+    let I = slots-of c in
     let e =
     parted-end (c .part .ensures) (ends I .0) (some (c .before .before .before .before .before .before .before))
-    (omega (arith, low I, I .before .slots .inv .1 _ _ (start-slots (I .before) .pre .0 .2) .stretched .end-size)) in
+    (omega (arith, low I, sized I)) in
     (e .0, e .1)
 
+small : (c : InSlots) → c .before .slots .s < max-slots
+small c = omega (arith, ends c, start-slots (c .before) .pre .1)
+
 mul-words : tie.Need-mul-words Inv-slots μ-slots Inv-loop2 μ-loop2 Inv-loop μ-loop
-mul-words c = record { fits = omega (arith, ends (c .before .before .before .before .before .before .before .before .before .before), start-slots (c .before .before .before .before .before .before .before .before .before .before .before) .pre .1) }
+mul-words c = record { fits = omega (arith, small (slots-of (c .before .before))) }
 
 slice-read-words : tie.Need-slice-read-words Inv-slots μ-slots Inv-loop2 μ-loop2 Inv-loop μ-loop
-slice-read-words c = omega (arith, written (c .before .before .before))
+slice-read-words c = room (part-of c)
 
 mul-words-2 : tie.Need-mul-words-2 Inv-slots μ-slots Inv-loop2 μ-loop2 Inv-loop μ-loop
-mul-words-2 c = record { fits = omega (arith, ends (c .before .before .before .before .before .before .before .before .before .before .before), start-slots (c .before .before .before .before .before .before .before .before .before .before .before .before) .pre .1) }
+mul-words-2 c = record { fits = omega (arith, small (slots-of (part-of c))) }
 
 slice-write-words : tie.Need-slice-write-words Inv-slots μ-slots Inv-loop2 μ-loop2 Inv-loop μ-loop
-slice-write-words c = omega (arith, written (c .before .before .before))
+slice-write-words c = room (part-of c)
 
-element-copy-out-last :
-    tie.Need-element-copy-out-last Inv-slots μ-slots Inv-loop2 μ-loop2 Inv-loop μ-loop
-element-copy-out-last c = omega (arith, row-is (c .before .before .before .before .before .before .before .before .before .before .before .before .before .before))
+element-copy-out-last : tie.Need-element-copy-out-last Inv-slots μ-slots Inv-loop2 μ-loop2 Inv-loop μ-loop
+element-copy-out-last c = omega (arith, row-is (rows-of (slots-of (part-of c) .before)))
 
 array-write-last : tie.Need-array-write-last Inv-slots μ-slots Inv-loop2 μ-loop2 Inv-loop μ-loop
-array-write-last c = low (c .before .before .before .before .before .before .before .before .before .before .before .before)
+array-write-last c = low (slots-of (part-of (c .before)))
 
 mul-slot : tie.Need-mul-slot Inv-slots μ-slots Inv-loop2 μ-loop2 Inv-loop μ-loop
-mul-slot c = record { fits = omega (arith, low (c .before .before .before .before .before .before .before .before .before .before .before .before)) }
+mul-slot c = record { fits = omega (arith, low (slots-of (part-of (c .before)))) }
 
 array-read-slot : tie.Need-array-read-slot Inv-slots μ-slots Inv-loop2 μ-loop2 Inv-loop μ-loop
-array-read-slot c = low (c .before .before .before .before .before .before .before .before .before .before .before .before)
+array-read-slot c = low (slots-of (part-of (c .before)))
 
 slot-requires : tie.Need-slot-requires Inv-slots μ-slots Inv-loop2 μ-loop2 Inv-loop μ-loop
 slot-requires c κs = search needs
 
 sub-left : tie.Need-sub-left Inv-slots μ-slots Inv-loop2 μ-loop2 Inv-loop μ-loop
-sub-left c = omega (arith, c .slot .ensures, takes (c .before .before .before .before .before))
+sub-left c = omega (arith, c .slot .ensures, takes (part-of (c .before .before)))
 
 sub-left-2 : tie.Need-sub-left-2 Inv-slots μ-slots Inv-loop2 μ-loop2 Inv-loop μ-loop
-sub-left-2 c = omega (arith, c .slot .ensures, takes (c .before .before .before .before .before))
+sub-left-2 c = omega (arith, c .slot .ensures, takes (part-of (c .before .before)))
+
+-- ---- on to the next stretch
 
 mul-slot-2 : tie.Need-mul-slot-2 Inv-slots μ-slots Inv-loop2 μ-loop2 Inv-loop μ-loop
 mul-slot-2 c = record { fits = omega (arith, low (c .before .before .before)) }
@@ -250,17 +304,16 @@ slots-less c =
     let J = c .before .before in
     let I = J .before .before .before in
     let k = I .before .slots .k in
-    let size = I .before .slots .inv .1 _ _ (start-slots (I .before) .pre .0 .2) .stretched .end-size in
+    let to = c .before .slot2 .ensures in
     ⊎-elim
     (λ z.
     omega (
       arith,
-      c .before .slot2 .ensures,
       ap (λ (es : List ℕ). at es k) (z .12),
-      parted-end (z .5 .ensures) (ends I .0) (some (J .before .before)) (omega (arith, low I, size)),
+      parted-end (z .5 .ensures) (ends I .0) (some (J .before .before)) (omega (arith, low I, sized I)),
       I .slots-test .taken,
     ))
-    (λ z. omega (arith, c .before .slot2 .ensures, ap (λ (es : List ℕ). at es k) (z .2), ends I, I .slots-test .taken))
+    (λ z. omega (arith, ap (λ (es : List ℕ). at es k) (z .2), ends I, I .slots-test .taken))
     (J .if2 .came)
 
 slots-again : tie.Need-slots-again Inv-slots μ-slots Inv-loop2 μ-loop2 Inv-loop μ-loop
@@ -270,11 +323,11 @@ slots-again c =
     let k = I .before .slots .k in
     let s = I .before .slots .s in
     let left = I .before .slots .left in
-    let i = I .before .before .before .before .loop2 .r - 1 in
+    let i = rows-of (I .before) .before .loop2 .r - 1 in
     ⊎-elim
     (λ z.
     let P = z .5 .ensures in
-    let word = ap (bitOr (at (z .5 .last .1 .1 .1 .0) s)) (one-shl i (omega (arith, row-is (I .before .before .before)))) in
+    let word = ap (bitOr (at (z .5 .last .1 .1 .1 .0) s)) (one-shl i (omega (arith, row-is (rows-of (I .before))))) in
     (
       rw (z .11) (kept-set s _ (parted-kept P (ends I .1) (I .before .slots .inv .0)) (I .slots-test .taken)),
       λ n f O.
@@ -300,28 +353,31 @@ slots-again c =
     ))
     (J .if2 .came)
 
-element-copy-out-r-2 :
-    tie.Need-element-copy-out-r-2 Inv-slots μ-slots Inv-loop2 μ-loop2 Inv-loop μ-loop
-element-copy-out-r-2 c = omega (arith, row-is (c .before .before .before))
+-- ---- the turn is over
+
+element-copy-out-r-2 : tie.Need-element-copy-out-r-2 Inv-slots μ-slots Inv-loop2 μ-loop2 Inv-loop μ-loop
+element-copy-out-r-2 c = omega (arith, row-is (rows-of (c .before)))
 
 loop2-less : tie.Need-loop2-less Inv-slots μ-slots Inv-loop2 μ-loop2 Inv-loop μ-loop
 loop2-less c =
-    let I = c .before .before .before .before in
+    let I = rows-of (c .before .before) in
+    let r = row-is I in
     let O = start-rows (I .before) .pre .0 .2 in
     let m = link-row (I .before .loop2 .inv .1 _ _ O .link) in
-    rest-less (O .chained .nexts (I .before .loop2 .r - 1) (omega arith) (omega (arith, row-is I))) (O .few) (row-is I .0)
-    (omega (arith, row-is I)) m
+    rest-less (O .chained .nexts (I .before .loop2 .r - 1) (omega arith) (omega arith)) (O .few) (r .0) (omega arith) m
 
 loop2-again : tie.Need-loop2-again Inv-slots μ-slots Inv-loop2 μ-loop2 Inv-loop μ-loop
 loop2-again c =
-    let I = c .before .before .before .before in
-    (
-      kept-trans (I .before .loop2 .inv .0) (c .before .before .slots .inv .0),
+    let I = rows-of (c .before .before) in
+    let l = c .before .before .slots in (
+      kept-trans (I .before .loop2 .inv .0) (l .inv .0),
       λ n f O.
-          let T = c .before .before .slots .inv .1 n f O in
+          let T = l .inv .1 n f O in
           turning-end T (⊎-elim (λ z. inl (z .left)) (λ z. inr (z .1 .taken)) (c .before .slots-test .came))
           (O .chained .nexts (I .before .loop2 .r - 1) (omega arith) (T .row)),
     )
+
+-- ---- on to the next element
 
 add-element : tie.Need-add-element Inv-slots μ-slots Inv-loop2 μ-loop2 Inv-loop μ-loop
 add-element c = omega arith
@@ -331,13 +387,14 @@ loop-less c = omega arith
 
 loop-again : tie.Need-loop-again Inv-slots μ-slots Inv-loop2 μ-loop2 Inv-loop μ-loop
 loop-again c =
-    let L = c .before .before .before .before in
-    (
+    let l = c .before .loop2 in (
       refl,
       refl,
-      kept-trans (L .loop .inv .2) (c .before .loop2 .inv .0),
-      λ n f O. along-end (c .before .loop2 .inv .1 n f O) (c .loop2-test .left),
+      kept-trans (c .before .before .before .before .loop .inv .2) (l .inv .0),
+      λ n f O. along-end (l .inv .1 n f O) (c .loop2-test .left),
     )
+
+-- ---- the end
 
 spread-requires : tie.Need-spread-requires Inv-slots μ-slots Inv-loop2 μ-loop2 Inv-loop μ-loop
 spread-requires c κs =
@@ -345,25 +402,20 @@ spread-requires c κs =
     let S = L .loop .inv .3 _ _ (start L .pre .0 .2) .stretched in
     ((S .of, S .begin, S .tiles), S .room)
 
-abbrev final : tie.After-slice-known5 Inv-slots μ-slots Inv-loop2 μ-loop2 Inv-loop μ-loop → tie.Start Inv-slots μ-slots Inv-loop2 μ-loop2 Inv-loop μ-loop
-final c = start (c .before .before .before .before .before .before .before)
-
-filled : (c : tie.After-slice-known5 Inv-slots μ-slots Inv-loop2 μ-loop2 Inv-loop μ-loop) → (n : ℕ) (f : ℕ → ℕ)
-    → ChainedRows n f (at (final c .args .second .now)) (final c .args .top) (final c .args .head .now) (final c .args .next .now)
-    → FilledSlots n f (at (final c .args .second .now)) (at (final c .args .load .now)) (final c .args .slots) (final c .args .words .now)
-    (c .before .before .spread .last .1 .1 .1 .0)
+filled : (c : Done) → (n : ℕ) (f : ℕ → ℕ)
+    → ChainedRows n f (at (start (end-of c) .args .second .now)) (start (end-of c) .args .top) (start (end-of c) .args .head .now)
+    (start (end-of c) .args .next .now)
+    → FilledSlots n f (at (start (end-of c) .args .second .now)) (at (start (end-of c) .args .load .now)) (start (end-of c) .args .slots)
+    (start (end-of c) .args .words .now) (c .before .before .spread .last .1 .1 .1 .0)
 filled c n f O =
-    let L = c .before .before .before .before .before .before .before in
+    let L = end-of c in
     coming-end (L .loop .inv .3 n f O)
     (λ j h. omega (arith, O .line j h, c .before .before .before .before .before .before .loop-test .left))
     (kept-trans (cleared (L .before .before .before)) (L .loop .inv .2))
     (c .before .before .spread .ensures)
 
 same-length : tie.Need-same-length Inv-slots μ-slots Inv-loop2 μ-loop2 Inv-loop μ-loop
-same-length c =
-    let L = c .before .before .before .before .before .before .before in
-    let O = start L .pre .0 .2 in
-    filled c _ _ O .kept .long
+same-length c = filled c _ _ (start (end-of c) .pre .0 .2) .kept .long
 
 returns : tie.Need-returns Inv-slots μ-slots Inv-loop2 μ-loop2 Inv-loop μ-loop
 returns c = filled c
