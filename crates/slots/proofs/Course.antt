@@ -23,8 +23,7 @@ use native.Mathlib.Nat.{le-refl, not-suc-le-zero}
 use native.Mathlib.Omega.{arith}
 use lib.Bits.{bitOr}
 use lib.Dec.{T, eqb}
-use lib.ListN.{length, set, length-set}
-use lib.Seq.{getD-set-same}
+use lib.ListN.{length, set}
 use Rattle.numbers.specs.Lists.{at}
 use Rattle.numbers.proofs.Truth.{along}
 use Rattle.rules.specs.Bounds.{max-rows}
@@ -33,6 +32,7 @@ use Rattle.slots.specs.Filled.{Kept, FilledSlots}
 use Rattle.slots.specs.Stretches.{most-stretches, Parted, Tiles, Spread}
 use Rattle.slots.proofs.Kept.{kept-trans}
 use Rattle.slots.proofs.Scan.{within}
+use Rattle.slots.proofs.Stretches.{parted-end}
 use Rattle.slots.proofs.Stretched.{has, Stretched, stretched-start, stretched-first, stretched-as, stretched-next, stretched-end}
 use Rattle.slots.proofs.Stretched.{stretched-low, stretched-last, stretched-parted, stretched-put}
 use Rattle.slots.proofs.Walk.{taken, taken-is, taken-of, taken-skip, taken-next, Walked, walked-eq, walk-start, walk-end}
@@ -173,41 +173,48 @@ module _ {n : ℕ} {f g x : ℕ → ℕ} {l e : ℕ} {end last after words : Lis
     module _ (h : s < l) (some : 0 < left) where
       pub turning-skip : {k′ s′ : ℕ} → f i < at last k → s′ ≡ at end k → k′ ≡ at after k
           → Turning n f g x l e i left k′ s′ end last after words × (s < s′)
-      turning-skip late p q = rw (p, q) (record {
-        W₀ = R .W₀;
-        Z₀ = R .Z₀;
-        W = R .W;
-        Z = R .Z;
-        row = R .row;
-        start = R .start;
-        line = R .line;
-        before = R .before;
-        turn = turn-skip (R .before) (R .start) (R .line) (R .turn) (omega (arith, span)) (span .1)
-            (λ u a b. omega (arith, stretched-last (R .stretched) h u a b));
-        stretched = stretched-next (R .stretched) h;
-      }, span .0)
+      turning-skip late p q = rw (p, q) (
+        record {
+          W₀ = R .W₀;
+          Z₀ = R .Z₀;
+          W = R .W;
+          Z = R .Z;
+          row = R .row;
+          start = R .start;
+          line = R .line;
+          before = R .before;
+          turn = turn-skip (R .before) (R .start) (R .line) (R .turn) (omega (arith, span)) (span .1)
+              (λ u a b. omega (arith, stretched-last (R .stretched) h u a b));
+          stretched = stretched-next (R .stretched) h;
+        },
+        span .0,
+      )
         where
           span : (s < at end k) × (at end k ≤ l)
           span = stretched-end (R .stretched) h
 
-      pub turning-take : {end′ last′ after′ words′ : List ℕ} {w left′ k′ s′ : ℕ}
-          → Parted k s left (i + 1) end last after words end′ last′ after′ words′ → n ≤ max-rows → at last k ≤ f i
-          → w ≡ bitOr (at words′ s) (2 ^ i) → s′ ≡ at end′ k → k′ ≡ at after′ k → left′ ≡ left - (at end′ k - s)
+      pub turning-take : {end′ last′ after′ words′ : List ℕ} {size w left′ k′ s′ : ℕ}
+          → Parted k s left (i + 1) size end last after words end′ last′ after′ words′ → n ≤ max-rows → at last k ≤ f i
+          → w ≡ bitOr (at words′ s) (2 ^ i) → s′ ≡ at end′ k → k′ ≡ at after′ k → left′ ≡ left - size
           → Turning n f g x l e i left′ k′ s′ end′ (set last′ k (g i)) after′ (set words′ s w) × (s < s′)
-      turning-take {end′} {last′} {after′} {words′} {w} {left′} P fits early q p₁ p₂ p₃ =
-          rw (p₁, p₂, p₃) (record {
-            W₀ = R .W₀;
-            Z₀ = R .Z₀;
-            W = put .0;
-            Z = put .1;
-            row = R .row;
-            start = R .start;
-            line = R .line;
-            before = R .before;
-            turn = turn-take (R .before) (R .start) (R .line) (R .turn) (omega (arith, span)) (span .1) (R .row)
-                (omega (arith, parts .1)) (λ u a b. omega (arith, all u a b)) (put .3) (put .4) (put .5);
-            stretched = stretched-next (put .2) h;
-          }, span .0)
+      turning-take {end′} {last′} {after′} {words′} {size} {w} {left′} P fits early q p₁ p₂ p₃ =
+          let p₄ : left′ ≡ left - (at end′ k - s) = omega (arith, takes) in
+          rw (p₁, p₂, p₄) (
+            record {
+              W₀ = R .W₀;
+              Z₀ = R .Z₀;
+              W = put .0;
+              Z = put .1;
+              row = R .row;
+              start = R .start;
+              line = R .line;
+              before = R .before;
+              turn = turn-take (R .before) (R .start) (R .line) (R .turn) (omega (arith, span)) (span .1) (R .row)
+                  (omega (arith, takes)) (λ u a b. omega (arith, all u a b)) (put .3) (put .4) (put .5);
+              stretched = stretched-next (put .2) h;
+            },
+            span .0,
+          )
         where
           -- no stretch has row i's number yet
           fresh : (u : ℕ) → u < l → R .stretched .of u ≢ i + 1
@@ -219,37 +226,32 @@ module _ {n : ℕ} {f g x : ℕ → ℕ} {l e : ℕ} {end last after words : Lis
               (λ a. omega (arith, a .1))
               (R .stretched .used u d)
 
-          used-up : s + left < at end k → left - (at end′ k - s) ≡ 0
-          used-up a =
-              omega (
-                arith,
-                ap (λ (es : List ℕ). at es k) (P .parted a .0)
-                    ∙ getD-set-same (set end (i + 1) (at end k)) k (s + left) 0
-                    (omega (arith, length-set end (i + 1) (at end k), stretched-low (R .stretched) h, R .stretched .end-size)),
-              )
+          takes : (0 < size) × (size ≤ left) × (at end′ k ≡ s + size)
+          takes =
+              parted-end P (stretched-end (R .stretched) h .0) some (omega (arith, stretched-low (R .stretched) h, R .stretched .end-size))
 
           parts : Stretched l (Busy (taken n f e i) i (left - (at end′ k - s))) (R .W) (R .Z) k s end′ last′ after′ words′
-              × (at end′ k ≤ s + left)
           parts =
               stretched-parted (R .stretched) h P some (omega (arith, R .row))
-              (λ j. ⊎-elim (λ a. inl a) (λ a. absurd (omega (arith, a .1)))) (λ a. (fresh, inr (refl, used-up a)))
+              (λ j. ⊎-elim (λ a. inl a) (λ a. absurd (omega (arith, a .1))))
+              (λ a. (fresh, inr (refl, omega (arith, takes, P .parted a .4))))
 
           span : (s < at end′ k) × (at end′ k ≤ l)
-          span = stretched-end (parts .0) h
+          span = stretched-end parts h
 
           put : (W′ Z′ : ℕ → ℕ) × Stretched l (Busy (taken n f e i) i (left - (at end′ k - s))) W′ Z′ k s end′ (set last′ k (g i)) after′
               (set words′ s w)
               × ((j u : ℕ) → u < l → has W′ j u ≡ (has (R .W) j u || (within s (at end′ k) u && eqb j i)))
               × ((u : ℕ) → u < l → T (within s (at end′ k) u) → Z′ u ≡ g i)
               × ((u : ℕ) → u < l → (T (within s (at end′ k) u) → ⊥) → Z′ u ≡ R .Z u)
-          put = stretched-put (parts .0) h i (g i) w q
+          put = stretched-put parts h i (g i) w q
 
           -- the slots of the stretch have the last end that it had
           all : (u : ℕ) → s ≤ u → u < at end′ k → R .Z u ≤ f i
           all u a b =
               omega (
                 arith,
-                stretched-last (parts .0) h u a b,
-                stretched-last (parts .0) h s (le-refl s) (span .0),
+                stretched-last parts h u a b,
+                stretched-last parts h s (le-refl s) (span .0),
                 stretched-last (R .stretched) h s (le-refl s) (stretched-end (R .stretched) h .0),
               )

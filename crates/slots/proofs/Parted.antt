@@ -3,8 +3,8 @@
 --   swapped p v g            g, but v where p holds
 --   ofParted of m e new, beginParted begin m new
 --                            which stretch a slot lies in, and where a stretch begins, after one that ends at slot e is parted before slot m
---   end-parted, number-parted, cursor-parted
---                            the first part ends at m; the second has the new number; the walk is at the first part
+--   number-parted, cursor-parted
+--                            the second part has the new number; the walk is at the first part
 --   tiles-parted             the stretches tile the slots
 --   word-parted, last-parted each slot has the word and the last end that it had
 use mathlib.Core.Path.{_≡_, sym, ap, _∙_}
@@ -85,9 +85,6 @@ module _ {l : ℕ} {of begin : ℕ → ℕ} {end after : List ℕ} (t : Tiles l 
     no-part : (j : ℕ) → j ≢ k → j ≢ new → at (set (set xs new a) k b) j ≡ at xs j
     no-part j p q = getD-set-other (set xs new a) k j b 0 p ∙ getD-set-other xs new j a 0 q
 
-  pub end-parted : at (set (set end new (at end k)) k m) k ≡ m
-  end-parted = first-part end (at end k) m end-size
-
   pub number-parted : (u : ℕ) → (ofParted of m (at end k) new u ≡ new) ⊎ (ofParted of m (at end k) new u ≡ of u)
   number-parted u =
       ⊎-elim (λ a. inl (swapped-in (within m (at end k)) new of u a)) (λ a. inr (swapped-out (within m (at end k)) new of u a))
@@ -116,7 +113,7 @@ module _ {l : ℕ} {of begin : ℕ → ℕ} {end after : List ℕ} (t : Tiles l 
         ⊎-elim
         (λ i. let q = ap (at end′) (i .2) ∙ end-new in (omega arith, omega (arith, cursor-end t c h)))
         (⊎-elim
-        (λ i. let q = ap (at end′) (i .3) ∙ end-parted in (omega arith, omega (arith, cursor-end t c h)))
+        (λ i. let q = ap (at end′) (i .3) ∙ end-k in (omega arith, omega (arith, cursor-end t c h)))
         (λ i. let q = ap (at end′) (i .1) ∙ end-other (of u) (i .0) (fresh u d) in let e = t .ends u d in (omega arith, omega arith)))
         (where-is u d);
     holds = λ u v d a b.
@@ -128,7 +125,7 @@ module _ {l : ℕ} {of begin : ℕ → ℕ} {end after : List ℕ} (t : Tiles l 
         (⊎-elim
         (λ i.
         let p = ap (beginParted begin m new) (i .3) ∙ old-begin k other ∙ c .here h .1 in
-        let q = ap (at end′) (i .3) ∙ end-parted in
+        let q = ap (at end′) (i .3) ∙ end-k in
         stays v (λ x y. let z : ⊥ = omega arith in z) ∙ cursor-of t c h v (omega arith) (omega arith) ∙ sym (i .3))
         (λ i.
         let p = ap (beginParted begin m new) (i .1) ∙ old-begin (of u) (fresh u d) in
@@ -143,23 +140,21 @@ module _ {l : ℕ} {of begin : ℕ → ℕ} {end after : List ℕ} (t : Tiles l 
         let e = c .here h .0 in
         let o = t .on s h (omega (arith, ap (at end) e)) in
         let z = ap (λ (j : ℕ). of (at end j)) e in
-        let y = ap of′ q ∙ stays (at end k) (λ v w. let z : ⊥ = omega arith in z) in
-        (
+        let y = ap of′ q ∙ stays (at end k) (λ v w. let z : ⊥ = omega arith in z) in (
           ap (at after′) (i .2) ∙ after-new ∙ ap (at after) (sym e) ∙ o .0 ∙ z ∙ sym y,
           ap (beginParted begin m new) y ∙ old-begin (of (at end k)) (fresh (at end k) (omega arith))
               ∙ ap begin (sym z) ∙ o .1 ∙ ap (at end) e ∙ sym q,
         ))
         (⊎-elim
         (λ i.
-        let q = ap (at end′) (i .3) ∙ end-parted in
+        let q = ap (at end′) (i .3) ∙ end-k in
         let y = ap of′ q ∙ swapped-in (within m (at end k)) new of m (within-of m (at end k) m (omega arith) upper) in
         (ap (at after′) (i .3) ∙ after-k ∙ sym y, ap (beginParted begin m new) y ∙ new-begin ∙ sym q))
         (λ i.
         let q = ap (at end′) (i .1) ∙ end-other (of u) (i .0) (fresh u d) in
         let o = t .on u d (omega arith) in
         let y = ap of′ q ∙ stays (at end (of u)) (λ v w.
-        let z : ⊥ = omega (arith, o .1, ap begin (cursor-of t c h (at end (of u)) (omega arith) w), c .here h .1) in z) in
-        (
+        let z : ⊥ = omega (arith, o .1, ap begin (cursor-of t c h (at end (of u)) (omega arith) w), c .here h .1) in z) in (
           ap (at after′) (i .1) ∙ after-other (of u) (i .0) (fresh u d) ∙ o .0 ∙ sym y,
           ap (beginParted begin m new) y ∙ old-begin (of (at end (of u))) (fresh (at end (of u)) (omega arith)) ∙ o .1 ∙ sym q,
         )))
@@ -174,6 +169,9 @@ module _ {l : ℕ} {of begin : ℕ → ℕ} {end after : List ℕ} (t : Tiles l 
 
       of′ : ℕ → ℕ
       of′ = ofParted of m (at end k) new
+
+      end-k : at end′ k ≡ m
+      end-k = first-part end (at end k) m end-size
 
       end-new : at end′ new ≡ at end k
       end-new = second-part end (at end k) m end-size

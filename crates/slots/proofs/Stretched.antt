@@ -25,7 +25,7 @@ use Rattle.numbers.proofs.Word.{bit-or, bit-pow}
 use Rattle.slots.specs.Stretches.{most-stretches, Tiles, Parted}
 use Rattle.slots.proofs.Scan.{within, within-is, within-of}
 use Rattle.slots.proofs.Stretches.{Cursor, cursor-start, cursor-low, cursor-end, cursor-is, cursor-of, cursor-next}
-use Rattle.slots.proofs.Parted.{ofParted, beginParted, end-parted, number-parted, cursor-parted, tiles-parted}
+use Rattle.slots.proofs.Parted.{ofParted, beginParted, number-parted, cursor-parted, tiles-parted}
 use Rattle.slots.proofs.Parted.{word-parted, last-parted}
 
 abbrev pub has : (ℕ → ℕ) → ℕ → ℕ → Bool
@@ -123,45 +123,42 @@ module _ {l : ℕ} {U : ℕ → Type 0} {W Z : ℕ → ℕ} {k s : ℕ} {end las
         S .lasts u (omega (arith, stretched-end)) ∙ ap (at last) (cursor-of (S .tiles) (S .cursor) h u a b)
 
     -- where it is parted, the second part has a new number
-    pub stretched-parted : {N : ℕ → Type 0} {most new : ℕ} {end′ last′ after′ words′ : List ℕ}
-        → Parted k s most new end last after words end′ last′ after′ words′ → 0 < most → new < most-stretches
+    pub stretched-parted : {N : ℕ → Type 0} {most new size : ℕ} {end′ last′ after′ words′ : List ℕ}
+        → Parted k s most new size end last after words end′ last′ after′ words′ → 0 < most → new < most-stretches
         → ((j : ℕ) → U j → N j) → (s + most < at end k → ((u : ℕ) → u < l → S .of u ≢ new) × N new)
-        → Stretched l N W Z k s end′ last′ after′ words′ × (at end′ k ≤ s + most)
-    stretched-parted {N} {most} {new} {end′} {last′} {after′} {words′} P some few f fresh =
+        → Stretched l N W Z k s end′ last′ after′ words′
+    stretched-parted {N} {most} {new} {end′ = end′} {last′} {after′} {words′} P some few f fresh =
         ⊎-elim whole parts (le-or-lt (at end k) (s + most))
       where
-        whole : at end k ≤ s + most → Stretched l N W Z k s end′ last′ after′ words′ × (at end′ k ≤ s + most)
-        whole a = let p = P .whole a in rw (p .0, p .1, p .2, p .3) (stretched-as f, a)
+        whole : at end k ≤ s + most → Stretched l N W Z k s end′ last′ after′ words′
+        whole a = let p = P .whole a in rw (p .0, p .1, p .2, p .3) (stretched-as f)
 
-        parts : s + most < at end k → Stretched l N W Z k s end′ last′ after′ words′ × (at end′ k ≤ s + most)
+        parts : s + most < at end k → Stretched l N W Z k s end′ last′ after′ words′
         parts a =
             let p = P .parted a in
             let new-one = fresh a .0 in
             let low : s < s + most = omega arith in
-            rw (p .0, p .1, p .2, p .3) (
-              record {
-                of = ofParted (S .of) (s + most) (at end k) new;
-                begin = beginParted (S .begin) (s + most) new;
-                tiles = tiles-parted (S .tiles) (S .cursor) h (s + most) new low a few new-one (S .end-size) (S .after-size);
-                cursor = cursor-parted (S .tiles) (S .cursor) h (s + most) new low a few new-one (S .end-size) (S .after-size);
-                used = λ u d.
-                    ⊎-elim (λ e. rw e (fresh a .1)) (λ e. rw e (f (S .of u) (S .used u d)))
-                    (number-parted (S .tiles) (S .cursor) h (s + most) new low a few new-one (S .end-size) (S .after-size) u);
-                shown = λ u d.
-                    S .shown u d
-                    ∙ sym (word-parted (S .tiles) (S .cursor) h (s + most) new low a few new-one (S .end-size) (S .after-size) words
-                    (omega (arith, S .room, stretched-end)) u d);
-                lasts = λ u d.
-                    S .lasts u d
-                    ∙ sym (last-parted (S .tiles) (S .cursor) h (s + most) new low a few new-one (S .end-size) (S .after-size) last
-                    (S .last-size) u d);
-                end-size = length-set (set end new (at end k)) k (s + most) ∙ length-set end new (at end k) ∙ S .end-size;
-                last-size = length-set last new (at last k) ∙ S .last-size;
-                after-size = length-set (set after new (at after k)) k new ∙ length-set after new (at after k) ∙ S .after-size;
-                room = omega (arith, length-set words (s + most) (at words s), S .room);
-              },
-              omega (arith, end-parted (S .tiles) (S .cursor) h (s + most) new low a few new-one (S .end-size) (S .after-size)),
-            )
+            rw (p .0, p .1, p .2, p .3) record {
+              of = ofParted (S .of) (s + most) (at end k) new;
+              begin = beginParted (S .begin) (s + most) new;
+              tiles = tiles-parted (S .tiles) (S .cursor) h (s + most) new low a few new-one (S .end-size) (S .after-size);
+              cursor = cursor-parted (S .tiles) (S .cursor) h (s + most) new low a few new-one (S .end-size) (S .after-size);
+              used = λ u d.
+                  ⊎-elim (λ e. rw e (fresh a .1)) (λ e. rw e (f (S .of u) (S .used u d)))
+                  (number-parted (S .tiles) (S .cursor) h (s + most) new low a few new-one (S .end-size) (S .after-size) u);
+              shown = λ u d.
+                  S .shown u d
+                  ∙ sym (word-parted (S .tiles) (S .cursor) h (s + most) new low a few new-one (S .end-size) (S .after-size) words
+                  (omega (arith, S .room, stretched-end)) u d);
+              lasts = λ u d.
+                  S .lasts u d
+                  ∙ sym (last-parted (S .tiles) (S .cursor) h (s + most) new low a few new-one (S .end-size) (S .after-size) last
+                  (S .last-size) u d);
+              end-size = length-set (set end new (at end k)) k (s + most) ∙ length-set end new (at end k) ∙ S .end-size;
+              last-size = length-set last new (at last k) ∙ S .last-size;
+              after-size = length-set (set after new (at after k)) k new ∙ length-set after new (at after k) ∙ S .after-size;
+              room = omega (arith, length-set words (s + most) (at words s), S .room);
+            }
 
     -- row i is put into its slots, and ends at z
     pub stretched-put : (i z w : ℕ) → w ≡ bitOr (at words s) (2 ^ i)

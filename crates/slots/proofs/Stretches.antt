@@ -122,8 +122,8 @@ module _ {l : ℕ} {of begin : ℕ → ℕ} {end after : List ℕ} (t : Tiles l 
 
 -- ---- a stretch parted
 
-module _ {k s most new : ℕ} {end last after words end′ last′ after′ words′ : List ℕ}
-    (P : Parted k s most new end last after words end′ last′ after′ words′) where
+module _ {k s most new size : ℕ} {end last after words end′ last′ after′ words′ : List ℕ}
+    (P : Parted k s most new size end last after words end′ last′ after′ words′) where
   pub parted-sizes : (length end′ ≡ length end) × (length last′ ≡ length last) × (length after′ ≡ length after)
       × (length words′ ≡ length words)
   parted-sizes =
@@ -142,14 +142,15 @@ module _ {k s most new : ℕ} {end last after words end′ last′ after′ word
       ⊎-elim (λ a. rw (P .whole a .3) K) (λ a. rw (P .parted a .3) (kept-set (s + most) (at words s) K (omega arith)))
       (le-or-lt (at end k) (s + most))
 
-  -- the first part has slots, at most as many as are left, and no more than the stretch had
-  pub parted-end : s < at end k → 0 < most → k < length end → (s < at end′ k) × (at end′ k ≤ s + most) × (at end′ k ≤ at end k)
+  -- the stretch then has slots, at most as many as are left
+  pub parted-end : s < at end k → 0 < most → k < length end → (0 < size) × (size ≤ most) × (at end′ k ≡ s + size)
   parted-end h some low =
       ⊎-elim
-      (λ a. let q = ap (λ (es : List ℕ). at es k) (P .whole a .0) in (omega arith, omega arith, omega arith))
+      (λ a. let q = ap (λ (es : List ℕ). at es k) (P .whole a .0) in let z = P .whole a .4 in (omega arith, omega arith, omega arith))
       (λ a.
       let q =
       ap (λ (es : List ℕ). at es k) (P .parted a .0)
       ∙ getD-set-same (set end new (at end k)) k (s + most) 0 (omega (arith, length-set end new (at end k))) in
+      let z = P .parted a .4 in
       (omega arith, omega arith, omega arith))
       (le-or-lt (at end k) (s + most))

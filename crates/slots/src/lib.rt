@@ -64,7 +64,8 @@ pub fn chain(first: &[u8; Table::ROWS], rows: usize) -> Chains
     Chains { head, next }
 }
 
-// Parts stretch `k`, which begins at slot `start`, where it has more than `most` slots: those past them become stretch `new`.
+// Parts stretch `k`, which begins at slot `start`, where it has more than `most` slots: those past them become stretch `new`. Gives how
+// many slots the stretch then has.
 fn part(
     end: &mut [u16; STRETCHES],
     last: &mut [u8; STRETCHES],
@@ -74,24 +75,27 @@ fn part(
     start: usize,
     most: usize,
     new: usize,
-)
+) -> usize
     requires { ⌜ (length (now end) ≡ most-stretches) × (length (now last) ≡ most-stretches) × (length (now after) ≡ most-stretches)
         × (k < most-stretches) × (new < most-stretches) × (start ≤ at (now end) k) × (at (now end) k ≤ max-slots)
         × (at (now end) k ≤ length (now words)) ⌝ }
-    ensures { λ _. ⌜ Parted k start most new
+    ensures { λ r. ⌜ Parted k start most new r
         (now (end .entry)) (now (last .entry)) (now (after .entry)) (now (words .entry))
         (now (end .exit)) (now (last .exit)) (now (after .exit)) (now (words .exit)) ⌝ }
 {
     let to = end[k];
-    if slot(to) - start > most {
-        let middle = start + most;
-        end[new] = to;
-        last[new] = last[k];
-        after[new] = after[k];
-        words[middle] = words[start];
-        end[k] = middle as u16;
-        after[k] = new as u8;
+    let size = slot(to) - start;
+    if size <= most {
+        return size;
     }
+    let middle = start + most;
+    end[new] = to;
+    last[new] = last[k];
+    after[new] = after[k];
+    words[middle] = words[start];
+    end[k] = middle as u16;
+    after[k] = new as u8;
+    most
 }
 
 // Writes the word at slot `from` to the slots after it, up to slot `to`.
@@ -170,19 +174,9 @@ pub fn fill(
                     break 'slots;
                 }
                 if wide(last[k]) <= element {
-                    part(
-                        &mut end,
-                        &mut last,
-                        &mut after,
-                        words,
-                        k,
-                        s,
-                        left,
-                        i + 1,
-                    );
+                    left -= part(&mut end, &mut last, &mut after, words, k, s, left, i + 1);
                     words[s] = words[s] | row;
                     last[k] = second[i];
-                    left -= slot(end[k]) - s;
                 }
                 s = slot(end[k]);
                 k = wide(after[k]);

@@ -54,12 +54,11 @@ loop-less : tie.Need-loop-less Inv-loop μ-loop
 loop-less c = omega arith
 
 loop-again : tie.Need-loop-again Inv-loop μ-loop
-loop-again c =
-    (
-      omega arith,
-      chain-more (c .before .before .before .loop .inv .1) (omega arith) (omega arith) (omega arith) (c .wide .ensures)
-          (omega (arith, low c)),
-    )
+loop-again c = (
+  omega arith,
+  chain-more (c .before .before .before .loop .inv .1) (omega arith) (omega arith) (omega arith) (c .wide .ensures)
+      (omega (arith, low c)),
+)
 
 returns : tie.Need-returns Inv-loop μ-loop
 returns c = chain-end (c .before .loop .inv .1) (omega arith)

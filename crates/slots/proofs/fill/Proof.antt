@@ -197,7 +197,7 @@ sized : (c : InSlots) → length (c .before .slots .end) ≡ most-stretches
 sized c = c .before .slots .inv .1 _ _ (start-slots (c .before) .pre .0 .2) .stretched .end-size
 
 some : (c : Loaded) → 0 < c .before .before .slots .left
-some c = let z : ¬ (c .before .before .slots .left ≡ 0) = c .if1 .left in omega arith
+some c = omega arith
 
 array-read-wide : tie.Need-array-read-wide Inv-slots μ-slots Inv-loop2 μ-loop2 Inv-loop μ-loop
 array-read-wide c = low (c .before)
@@ -235,16 +235,13 @@ room c =
       I .before .slots .inv .1 _ _ (start-slots (I .before) .pre .0 .2) .stretched .room,
     )
 
--- the row takes a slot, and no more than its load
-takes : (c : AtPart)
-    → (slots-of c .before .slots .s < at (c .part .last .0) (slots-of c .before .slots .k))
-    × (at (c .part .last .0) (slots-of c .before .slots .k) ≤ slots-of c .before .slots .s + slots-of c .before .slots .left)
-takes c =
-    let I = slots-of c in
-    let e =
-    parted-end (c .part .ensures) (ends I .0) (some (c .before .before .before .before .before .before .before))
-    (omega (arith, low I, sized I)) in
-    (e .0, e .1)
+-- the row takes no more than its load
+sub-left : tie.Need-sub-left Inv-slots μ-slots Inv-loop2 μ-loop2 Inv-loop μ-loop
+sub-left c =
+    let P = c .before .before in
+    let I = slots-of P in
+    parted-end (P .part .ensures) (ends I .0) (some (P .before .before .before .before .before .before .before))
+    (omega (arith, low I, sized I)) .1
 
 small : (c : InSlots) → c .before .slots .s < max-slots
 small c = omega (arith, ends c, start-slots (c .before) .pre .1)
@@ -267,31 +264,16 @@ element-copy-out-last c = omega (arith, row-is (rows-of (slots-of (part-of c) .b
 array-write-last : tie.Need-array-write-last Inv-slots μ-slots Inv-loop2 μ-loop2 Inv-loop μ-loop
 array-write-last c = low (slots-of (part-of (c .before)))
 
+-- ---- on to the next stretch
+
 mul-slot : tie.Need-mul-slot Inv-slots μ-slots Inv-loop2 μ-loop2 Inv-loop μ-loop
-mul-slot c = record { fits = omega (arith, low (slots-of (part-of (c .before)))) }
+mul-slot c = record { fits = omega (arith, low (c .before .before .before)) }
 
 array-read-slot : tie.Need-array-read-slot Inv-slots μ-slots Inv-loop2 μ-loop2 Inv-loop μ-loop
-array-read-slot c = low (slots-of (part-of (c .before)))
+array-read-slot c = low (c .before .before .before)
 
 slot-requires : tie.Need-slot-requires Inv-slots μ-slots Inv-loop2 μ-loop2 Inv-loop μ-loop
 slot-requires c κs = search needs
-
-sub-left : tie.Need-sub-left Inv-slots μ-slots Inv-loop2 μ-loop2 Inv-loop μ-loop
-sub-left c = omega (arith, c .slot .ensures, takes (part-of (c .before .before)))
-
-sub-left-2 : tie.Need-sub-left-2 Inv-slots μ-slots Inv-loop2 μ-loop2 Inv-loop μ-loop
-sub-left-2 c = omega (arith, c .slot .ensures, takes (part-of (c .before .before)))
-
--- ---- on to the next stretch
-
-mul-slot-2 : tie.Need-mul-slot-2 Inv-slots μ-slots Inv-loop2 μ-loop2 Inv-loop μ-loop
-mul-slot-2 c = record { fits = omega (arith, low (c .before .before .before)) }
-
-array-read-slot-2 : tie.Need-array-read-slot-2 Inv-slots μ-slots Inv-loop2 μ-loop2 Inv-loop μ-loop
-array-read-slot-2 c = low (c .before .before .before)
-
-slot-requires-2 : tie.Need-slot-requires-2 Inv-slots μ-slots Inv-loop2 μ-loop2 Inv-loop μ-loop
-slot-requires-2 c κs = search needs
 
 array-read-wide-2 : tie.Need-array-read-wide-2 Inv-slots μ-slots Inv-loop2 μ-loop2 Inv-loop μ-loop
 array-read-wide-2 c = low (c .before .before .before .before)
@@ -304,12 +286,12 @@ slots-less c =
     let J = c .before .before in
     let I = J .before .before .before in
     let k = I .before .slots .k in
-    let to = c .before .slot2 .ensures in
+    let to = c .before .slot .ensures in
     ⊎-elim
     (λ z.
     omega (
       arith,
-      ap (λ (es : List ℕ). at es k) (z .12),
+      ap (λ (es : List ℕ). at es k) (z .11),
       parted-end (z .5 .ensures) (ends I .0) (some (J .before .before)) (omega (arith, low I, sized I)),
       I .slots-test .taken,
     ))
@@ -322,23 +304,21 @@ slots-again c =
     let I = J .before .before .before in
     let k = I .before .slots .k in
     let s = I .before .slots .s in
-    let left = I .before .slots .left in
     let i = rows-of (I .before) .before .loop2 .r - 1 in
     ⊎-elim
     (λ z.
     let P = z .5 .ensures in
-    let word = ap (bitOr (at (z .5 .last .1 .1 .1 .0) s)) (one-shl i (omega (arith, row-is (rows-of (I .before))))) in
-    (
-      rw (z .11) (kept-set s _ (parted-kept P (ends I .1) (I .before .slots .inv .0)) (I .slots-test .taken)),
+    let word = ap (bitOr (at (z .5 .last .1 .1 .1 .0) s)) (one-shl i (omega (arith, row-is (rows-of (I .before))))) in (
+      rw (z .10) (kept-set s _ (parted-kept P (ends I .1) (I .before .slots .inv .0)) (I .slots-test .taken)),
       λ n f O.
           let T = I .before .slots .inv .1 n f O in
           turning-as
           (turning-take T (I .slots-test .taken) (some (J .before .before)) P (O .few)
           (omega (arith, z .0 .taken, J .before .wide .ensures, T .start)) word
-          (c .before .slot2 .ensures ∙ ap (λ (es : List ℕ). at es k) (z .12))
-          (c .wide2 .ensures ∙ ap (λ (fs : List ℕ). at fs k) (z .14))
-          (z .15 ∙ ap (λ (d : ℕ). left - (d - s)) (z .10 .ensures)) .0)
-          refl (z .12) (z .13) (z .14) (z .11),
+          (c .before .slot .ensures ∙ ap (λ (es : List ℕ). at es k) (z .11))
+          (c .wide2 .ensures ∙ ap (λ (fs : List ℕ). at fs k) (z .13))
+          (z .14) .0)
+          refl (z .11) (z .12) (z .13) (z .10),
     ))
     (λ z. (
       rw (z .1) (I .before .slots .inv .0),
@@ -347,7 +327,7 @@ slots-again c =
           turning-as
           (turning-skip T (I .slots-test .taken) (some (J .before .before))
           (omega (arith, z .0 .left, J .before .wide .ensures, T .start))
-          (c .before .slot2 .ensures ∙ ap (λ (es : List ℕ). at es k) (z .2))
+          (c .before .slot .ensures ∙ ap (λ (es : List ℕ). at es k) (z .2))
           (c .wide2 .ensures ∙ ap (λ (fs : List ℕ). at fs k) (z .4)) .0)
           (z .5) (z .2) (z .3) (z .4) (z .1),
     ))
@@ -373,7 +353,7 @@ loop2-again c =
       kept-trans (I .before .loop2 .inv .0) (l .inv .0),
       λ n f O.
           let T = l .inv .1 n f O in
-          turning-end T (⊎-elim (λ z. inl (z .left)) (λ z. inr (z .1 .taken)) (c .before .slots-test .came))
+          turning-end T (⊎-elim (λ z. inl (z .left)) (λ z. inr (omega (arith, z .1 .taken))) (c .before .slots-test .came))
           (O .chained .nexts (I .before .loop2 .r - 1) (omega arith) (T .row)),
     )
 
@@ -446,6 +426,7 @@ fill-spec =
     wide-requires
     add-part
     part-requires
+    sub-left
     mul-words
     slice-read-words
     mul-words-2
@@ -455,11 +436,6 @@ fill-spec =
     mul-slot
     array-read-slot
     slot-requires
-    sub-left
-    sub-left-2
-    mul-slot-2
-    array-read-slot-2
-    slot-requires-2
     array-read-wide-2
     wide-requires-2
     slots-less

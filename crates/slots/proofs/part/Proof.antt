@@ -5,7 +5,6 @@ use native.Mathlib.Omega.{arith}
 use Rattle.slots.proofs.part.Statement.{statement}
 use Rattle.slots.proofs.part.Tie as tie
 
-
 mul-to : tie.Need-mul-to
 mul-to c = search needs
 
@@ -15,8 +14,11 @@ element-copy-out-to c = search needs
 slot-requires : tie.Need-slot-requires
 slot-requires c κs = search needs
 
-sub-if1 : tie.Need-sub-if1
-sub-if1 c = search needs
+sub-size : tie.Need-sub-size
+sub-size c = search needs
+
+returns : tie.Need-returns
+returns c = record { whole = λ h. (refl, refl, refl, refl, omega arith); parted = λ h. absurd (omega arith) }
 
 add-middle : tie.Need-add-middle
 add-middle c = search needs
@@ -52,7 +54,7 @@ slice-write-words : tie.Need-slice-write-words
 slice-write-words c = search needs
 
 cast-end : tie.Need-cast-end
-cast-end c = record { fits = omega arith }
+cast-end c = search needs
 
 mul-end-2 : tie.Need-mul-end-2
 mul-end-2 c = search needs
@@ -69,11 +71,8 @@ element-write-after-2 c = search needs
 same-length : tie.Need-same-length
 same-length c = search needs
 
-returns : tie.Need-returns
-returns c = record { whole = λ h. absurd (omega arith); parted = λ h. (refl, refl, refl, refl) }
-
 returns-2 : tie.Need-returns-2
-returns-2 c = record { whole = λ h. (refl, refl, refl, refl); parted = λ h. absurd (omega arith) }
+returns-2 c = record { whole = λ h. absurd (omega arith); parted = λ h. (refl, refl, refl, refl, refl) }
 
 pub part-spec : {M : Type 1} → statement M
 part-spec =
@@ -82,7 +81,8 @@ part-spec =
     mul-to
     element-copy-out-to
     slot-requires
-    sub-if1
+    sub-size
+    returns
     add-middle
     mul-end
     element-write-end
@@ -100,5 +100,4 @@ part-spec =
     cast-after
     element-write-after-2
     same-length
-    returns
     returns-2)
