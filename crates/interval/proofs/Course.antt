@@ -11,17 +11,17 @@ use Rattle.rules.specs.Line.{meet}
 use Rattle.rules.specs.Loads.{hyperperiod, start, end, intervals, share}
 use Rattle.rules.specs.Interval.{SlotWords}
 use Rattle.lags.specs.Lags.{Steady}
-use Rattle.lags.proofs.Intervals.{end-far}
+use Rattle.lags.proofs.Intervals.{end-far, end-le}
 use Rattle.loads.specs.Loads.{Spans, Lags, Greatest}
 use Rattle.loads.specs.Laid.{Laid}
 use Rattle.loads.specs.declared.Network.{Network}
-use Rattle.slots.specs.Chained.{all-heads, Chained}
+use Rattle.slots.specs.Chained.{ChainedRows}
 use Rattle.slots.specs.Filled.{FilledSlots}
 use Rattle.interval.specs.Interval.{Added}
 use Rattle.interval.specs.Ready.{Ready, Due, Advanced}
 use Rattle.interval.proofs.Choice.{total-small, lags-of, chosen-qualify, moved-of}
 use Rattle.interval.proofs.RowSets.{list-length, ranged-low, ranged-high, ranged-spans}
-use Rattle.interval.proofs.Ready.{ready-words, ready-share}
+use Rattle.interval.proofs.Ready.{ready-ends, ready-words, ready-share}
 
 module _ {t : Table} {rows sets top hyper : ℕ} {first second rate from to : List ℕ} {net : Network} {head next : List ℕ}
     (R : Ready t rows sets top hyper first second rate from to net head next) where
@@ -30,22 +30,26 @@ module _ {t : Table} {rows sets top hyper : ℕ} {first second rate from to : Li
   pub few-rows : rows ≤ max-rows
   few-rows = omega (arith, R .row-count, R .admissible .sound .rows-high)
 
-  -- a byte holds each of the line's elements
-  pub low-top : top < all-heads
-  low-top = omega (arith, R .top-end, R .admissible .sound .elements-high)
-
   pub spans-laid : Spans rows sets (at from) (at to)
   spans-laid = rw (R .row-count) (ranged-spans (R .admissible) (R .list) (R .room) (R .ranged))
 
   pub network-laid : Laid rows sets (at from) (at to) net
   network-laid = rw (R .row-count) (R .laid)
 
-  pub chains-laid : Chained rows (at first) head next
-  chains-laid = rw (R .row-count) (R .chained)
+  pub rows-chained : ChainedRows rows (at first) (at second) top head next
+  rows-chained = record {
+    few = few-rows;
+    low = omega (arith, R .top-end, R .admissible .sound .elements-high);
+    line = ready-ends R;
+    chained = rw (R .row-count) (R .chained);
+  }
 
   module _ {k b e : ℕ} {totals : List ℕ} (D : Due t k b e totals) where
     pub ends-after : b ≤ e
     ends-after = omega (arith, end-far (R .admissible .sound) k (D .in-range))
+
+    pub interval-short : e - b ≤ max-slots
+    interval-short = omega (arith, D .ends, end-le (R .admissible .sound) k (D .in-range), R .admissible .short)
 
     -- ---- the shares
 

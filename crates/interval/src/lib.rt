@@ -88,7 +88,7 @@ fn add_loads(totals: &mut [u64; Table::ROWS], load: &[u64; Table::ROWS], rows: u
 
 // Does one interval of a table, which runs from slot `start` up to slot `end`: writes its words to the front of `words`, and takes the
 // totals on. From `rows` to `next` all is laid once for the table.
-// From `x` to `last` all is lent for the work: what it holds before and after says nothing.
+// From `x` to `load` all is lent for the work: what it holds before and after says nothing.
 pub fn advance<'a>(
     start: usize,
     end: usize,
@@ -107,14 +107,13 @@ pub fn advance<'a>(
     outs: &'a [u8; ARCS],
     into: &'a [u8; PLACES],
     intos: &'a [u8; ARCS],
-    head: &[u8; Chains::HEADS],
-    next: &[u8; Table::ROWS],
+    head: &'a [u8; Chains::HEADS],
+    next: &'a [u8; Table::ROWS],
     totals: &mut [u64; Table::ROWS],
     x: &mut [u64; ARCS],
     low: &mut [u64; ARCS],
     high: &mut [u64; ARCS],
     load: &mut [u64; Table::ROWS],
-    last: &mut [u8],
     words: &mut [u64],
 )
     requires { ⌜ ((t : bus.Table) × (k : ℕ)
@@ -122,15 +121,14 @@ pub fn advance<'a>(
         (network (now tails) (now heads) (now out) (now outs) (now into) (now intos)) (now head) (now next)
         × Due t k start end (now totals))
         × (length (now totals) ≡ max-rows) × Lent (now x) (now low) (now high) (now load)
-        × (end - start ≤ length (now last)) × (end - start ≤ length (now words)) ⌝ }
+        × (end - start ≤ length (now words)) ⌝ }
     ensures { λ r. ⌜ ((t : bus.Table) (k : ℕ)
         → Ready t rows sets top hyper (now (first .entry)) (now (second .entry)) (now (rate .entry)) (now (from .entry)) (now (to .entry))
         (network (now (tails .entry)) (now (heads .entry)) (now (out .entry)) (now (outs .entry)) (now (into .entry)) (now (intos .entry)))
         (now (head .entry)) (now (next .entry))
         → Due t k start end (now (totals .entry))
         → Advanced t k (now (totals .entry)) (now (totals .exit)) (now (words .entry)) (now (words .exit)))
-        × Lent (now (x .exit)) (now (low .exit)) (now (high .exit)) (now (load .exit))
-        × (length (now (last .exit)) ≡ length (now (last .entry))) ⌝ }
+        × Lent (now (x .exit)) (now (low .exit)) (now (high .exit)) (now (load .exit)) ⌝ }
 {
     loads::choose(
         tails,
@@ -152,17 +150,6 @@ pub fn advance<'a>(
         high,
         load,
     );
-    slots::fill(
-        first,
-        second,
-        head,
-        next,
-        load,
-        rows,
-        top,
-        end - start,
-        last,
-        words,
-    );
+    slots::fill(second, head, next, load, top, end - start, words);
     add_loads(totals, load, rows);
 }

@@ -1,7 +1,7 @@
 -- Intervals that can be planned, and what they share.
 use mathlib.Core.Path.{_≡_, refl, sym, ap}
 use mathlib.Core.List.{List}
-use Prim.Native.Nat.{ℕ, _+_, _/_, _≤_}
+use Prim.Native.Nat.{ℕ, _+_, _/_, _≤_, _<_}
 use native.Mathlib.Omega.{arith}
 use lib.ListN.{length, replicate}
 use Rattle.numbers.specs.Lists.{at}
@@ -18,10 +18,11 @@ use Rattle.verdict.specs.Analysed.{Accepted}
 use Rattle.loads.specs.Loads.{Spans}
 use Rattle.loads.specs.Laid.{Laid}
 use Rattle.loads.specs.declared.Network.{Network}
-use Rattle.slots.specs.Chained.{Chained}
+use Rattle.slots.specs.Chained.{all-heads, Chained}
 use Rattle.interval.specs.Ranges.{Ranged}
 use Rattle.interval.specs.Ready.{Ready}
 use Rattle.interval.proofs.RowSets.{ranged-spans}
+use Rattle.interval.proofs.Ready.{ends-on-line}
 use Rattle.planner.specs.declared.Stage.the-variants.{Due}
 use Rattle.planner.specs.declared.Planner.{Planner}
 use Rattle.planner.specs.State.{stageOf, plannerOf}
@@ -79,6 +80,11 @@ module _ {t : Table} {rows sets elements hyper interval : ℕ} {first second rat
     (P : Plannable t rows sets elements hyper interval first second rates words k m had room) where
   pub few-elements : elements ≤ max-elements
   few-elements = let s = P .timed .admissible .sound in omega (arith, P .elements-are)
+
+  pub firsts-low : (i : ℕ) → i < rows → at first i < all-heads
+  firsts-low i h =
+      let e = ends-on-line (P .timed .admissible) (P .firsts) (P .seconds) i (omega (arith, P .timed .row-count)) in
+      omega (arith, few-elements, P .elements-are)
 
   module _ {from to : List ℕ} (R : Ranged rows sets words from to) where
     listed : sets ≤ length words

@@ -109,13 +109,10 @@ fn plan_intervals<'a>(
     let highest = ranges.to;
     let net = loads::lay(&lowest, &highest, rows, sets);
     let chains = slots::chain(first, rows);
-    let head = chains.head;
-    let next = chains.next;
     let mut x = [0u64; ARCS];
     let mut low = [0u64; ARCS];
     let mut high = [0u64; ARCS];
     let mut load = [0u64; Table::ROWS];
-    let mut last = [0u8; Table::SLOTS];
     let mut after = totals;
     let mut slot = (from * interval) as usize;
     let mut at: usize = 0;
@@ -140,14 +137,13 @@ fn plan_intervals<'a>(
             &net.outs,
             &net.into,
             &net.intos,
-            &head,
-            &next,
+            &chains.head,
+            &chains.next,
             &mut after,
             &mut x,
             &mut low,
             &mut high,
             &mut load,
-            &mut last,
             &mut plan[at..],
         );
         at += end - slot;

@@ -1,5 +1,5 @@
 -- `planner::plan_intervals` meets its contract: `Planning` says what its loop keeps.
-use mathlib.Core.Path.{_≡_, refl, sym}
+use mathlib.Core.Path.{_≡_, refl}
 use Prim.Native.Nat.{_+_, _-_, _≤_, _<_}
 use native.Mathlib.Omega.{arith}
 use lib.ListN.{length, length-take, length-drop}
@@ -9,22 +9,22 @@ use Rattle.interval.specs.Ready.{Due}
 use Rattle.planner.specs.Timed.{Plannable}
 use Rattle.loads.specs.Laid.{Lent}
 use Rattle.planner.proofs.Timed.{few-rows, few-sets, start-is, end-is, start-small, end-small}
-use Rattle.planner.proofs.Laying.{few-elements, ranges-span, ready-of}
+use Rattle.planner.proofs.Laying.{few-elements, firsts-low, ranges-span, ready-of}
 use Rattle.planner.proofs.Course.{Planning, planning-start, planning-room, planning-next, planning-end}
 use Rattle.planner.proofs.plan_intervals.Statement.{statement}
 use Rattle.planner.proofs.plan_intervals.Tie as tie
 
 abbrev Inv-loop : tie.InvT-loop
-Inv-loop rows sets elements hyper interval first second rate words from to plan₀ lowest highest net head next x₀ low₀ high₀ load₀ last₀ after₀
-    slot₀ at₀ k₀ plan x low high load last after slot at k =
-    (k ≤ to) × (length last ≡ max-slots)
+Inv-loop rows sets elements hyper interval first second rate words from to plan₀ lowest highest net chains x₀ low₀ high₀ load₀ after₀
+    slot₀ at₀ k₀ plan x low high load after slot at k =
+    (k ≤ to)
     × ((t : Table) → Plannable t rows sets elements hyper interval first second rate words from to after₀ (length plan₀)
     → Planning t from after₀ plan₀ k slot at after plan)
     × Lent x low high load
 
 abbrev μ-loop : tie.MeasureT-loop
-μ-loop rows sets elements hyper interval first second rate words from to plan₀ lowest highest net head next x₀ low₀ high₀ load₀ last₀ after₀
-    slot₀ at₀ k₀ plan x low high load last after slot at k =
+μ-loop rows sets elements hyper interval first second rate words from to plan₀ lowest highest net chains x₀ low₀ high₀ load₀ after₀
+    slot₀ at₀ k₀ plan x low high load after slot at k =
     to - k
 
 -- ---- what the intervals share
@@ -40,12 +40,12 @@ lay-requires : tie.Need-lay-requires Inv-loop μ-loop
 lay-requires c κs = let R = c .before .before .before .before in ranges-span (entry R .pre .1) (R .ranges-of .ensures)
 
 chain-requires : tie.Need-chain-requires Inv-loop μ-loop
-chain-requires c κs = few-rows (entry (c .before .before .before .before .before) .pre .1 .timed)
+chain-requires c κs = let P = entry (c .before .before .before .before .before) .pre .1 in (few-rows (P .timed), firsts-low P)
 
 -- ---- where the loop begins
 
-abbrev ranged : tie.After-next Inv-loop μ-loop → tie.After-ranges-of Inv-loop μ-loop
-ranged c = c .before .before .before .before .before .before .before .before
+abbrev ranged : tie.After-chain Inv-loop μ-loop → tie.After-ranges-of Inv-loop μ-loop
+ranged c = c .before .before .before .before .before .before
 
 mul-slot : tie.Need-mul-slot Inv-loop μ-loop
 mul-slot c =
@@ -59,7 +59,6 @@ loop-holds : tie.Need-loop-holds Inv-loop μ-loop
 loop-holds c =
     let S = entry (ranged c) in (
       S .pre .1 .order,
-      refl,
       λ t P.
           let H = P .timed in
           let e = start-is H (S .args .from) in
@@ -82,7 +81,7 @@ Given S t =
 module _ (c : tie.In-loop Inv-loop μ-loop) {t : Table} (P : Given (begun c) t) where
   due : Due t (c .before .loop .k) (c .before .loop .slot) (c .before .loop .slot + begun c .args .interval) (c .before .loop .after)
   due =
-      let L = c .before .loop .inv .2 t P in
+      let L = c .before .loop .inv .1 t P in
       record {
         in-range = omega (arith, c .loop-test .taken, P .in-range);
         begins = L .slot;
@@ -100,10 +99,10 @@ module _ (c : tie.In-loop Inv-loop μ-loop) {t : Table} (P : Given (begun c) t) 
   roomy =
       let S = begun c in
       planning-room (P .timed .admissible) (S .args .from) (S .args .totals) (S .args .plan .now) (S .args .to) (P .in-range)
-      (P .roomy) (c .before .loop .inv .2 t P) (c .loop-test .taken) _ (due .ends)
+      (P .roomy) (c .before .loop .inv .1 t P) (c .loop-test .taken) _ (due .ends)
 
   place-low : c .before .loop .at ≤ max-slots
-  place-low = omega (arith, c .before .loop .inv .2 t P .place, ends-low)
+  place-low = omega (arith, c .before .loop .inv .1 t P .place, ends-low)
 
 -- the one that the call was made with
 abbrev given : (c : tie.In-loop Inv-loop μ-loop) → Given (begun c) (begun c .pre .0)
@@ -116,15 +115,12 @@ add-advance : tie.Need-add-advance Inv-loop μ-loop
 add-advance c = record { fits = omega (arith, few-elements (given c)) }
 
 -- the turn, from where all that the intervals share is lent
-abbrev sharing : tie.After-next2 Inv-loop μ-loop → tie.In-loop Inv-loop μ-loop
-sharing c = c .before .before .before .before .before .before .before .before .before .before .before
+abbrev sharing : tie.After-advance-arg8 Inv-loop μ-loop → tie.In-loop Inv-loop μ-loop
+sharing c = c .before .before .before .before .before .before .before .before .before .before .before .before
 
 -- the turn, from where the arrays for its work are lent too
-abbrev lending : tie.After-last Inv-loop μ-loop → tie.In-loop Inv-loop μ-loop
-lending c = sharing (c .before .before .before .before .before .before)
-
-slice-aggregate-advance : tie.Need-slice-aggregate-advance Inv-loop μ-loop
-slice-aggregate-advance c = sym (lending c .before .loop .inv .1)
+abbrev lending : tie.After-load Inv-loop μ-loop → tie.In-loop Inv-loop μ-loop
+lending c = sharing (c .before .before .before .before .before)
 
 mul-advance : tie.Need-mul-advance Inv-loop μ-loop
 mul-advance c = omega (arith, place-low (lending c) (given (lending c)))
@@ -147,18 +143,17 @@ advance-requires c κs =
       (
         begun I .pre .0,
         L .k,
-        ready-of P (ranged N .ranges-of .ensures) (N .before .before .before .lay .ensures) (N .before .before .chain .ensures),
+        ready-of P (ranged N .ranges-of .ensures) (N .before .lay .ensures) (N .chain .ensures),
         due I P,
       ),
-      L .inv .2 _ P .size,
-      L .inv .3,
-      omega (arith, L .inv .1, ends-low I P),
+      L .inv .1 _ P .size,
+      L .inv .2,
       simp (length-take, length-drop) (omega (arith, roomy I P)),
     )
 
 -- the turn, from where the interval is done
 abbrev turn : tie.After-slice-known2 Inv-loop μ-loop → tie.In-loop Inv-loop μ-loop
-turn c = lending (c .before .before .before .before .before)
+turn c = lending (c .before .before .before .before)
 
 sub-at : tie.Need-sub-at Inv-loop μ-loop
 sub-at c = omega arith
@@ -178,15 +173,14 @@ loop-again c =
     let L = I .before .loop in
     let S = begun I in
     let N = I .before .before in
-    let D = c .before .before .before .advance in
+    let D = c .before .before .advance in
     let last = D .last .1 .1 .1 .1 .1 .1 .1 .1 .1 .1 .1 .1 .1 .1 .1 .1 .1 .1 .1 in (
       omega (arith, I .loop-test .taken),
-      omega (arith, D .ensures .2, L .inv .1),
       λ t P.
           planning-next (P .timed .admissible) (S .args .from) (S .args .totals) (S .args .plan .now) (S .args .to) (P .in-range)
-          (P .roomy) (L .inv .2 t P) (I .loop-test .taken) _ (due I P .ends) (last .0) (last .1 .1 .1 .1 .1 .1 .0)
+          (P .roomy) (L .inv .1 t P) (I .loop-test .taken) _ (due I P .ends) (last .0) (last .1 .1 .1 .1 .1 .0)
           (D .ensures .0 t (L .k)
-          (ready-of P (ranged N .ranges-of .ensures) (N .before .before .before .lay .ensures) (N .before .before .chain .ensures))
+          (ready-of P (ranged N .ranges-of .ensures) (N .before .lay .ensures) (N .chain .ensures))
           (due I P)),
       D .ensures .1,
     )
@@ -194,14 +188,14 @@ loop-again c =
 -- ---- the end
 
 same-length : tie.Need-same-length Inv-loop μ-loop
-same-length c = let S = entry (ranged (c .before .before)) in c .before .loop .inv .2 (S .pre .0) (S .pre .1) .filled .same
+same-length c = let S = entry (ranged (c .before .before)) in c .before .loop .inv .1 (S .pre .0) (S .pre .1) .filled .same
 
 returns : tie.Need-returns Inv-loop μ-loop
 returns c t P =
     let L = c .before .loop in
     let S = entry (ranged (c .before .before)) in
     let e : L .k ≡ S .args .to = omega (arith, c .loop-test .left, L .inv .0) in
-    rw (← e) (planning-end (P .timed .admissible) (S .args .from) (S .args .totals) (S .args .plan .now) (L .inv .2 t P))
+    rw (← e) (planning-end (P .timed .admissible) (S .args .from) (S .args .totals) (S .args .plan .now) (L .inv .1 t P))
 
 pub plan-intervals-spec : {M : Type 1} → statement M
 plan-intervals-spec =
@@ -216,7 +210,6 @@ plan-intervals-spec =
     loop-holds
     add-end
     add-advance
-    slice-aggregate-advance
     mul-advance
     sub-advance
     part-advance-start
