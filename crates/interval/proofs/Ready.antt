@@ -12,7 +12,8 @@ use Rattle.rules.proofs.Interval.{words-as}
 use Rattle.ring.proofs.OnLine.{line-low, line-ordered, line-high, overlap-meet}
 use Rattle.table.specs.Columns.{ByRow}
 use Rattle.lags.specs.Lags.{Admissible}
-use Rattle.loads.specs.declared.Network.{Network}
+use Rattle.loads.specs.declared.Size.{Size}
+use Rattle.interval.specs.declared.Layout.{Layout}
 use Rattle.interval.specs.Ready.{Ready}
 
 -- the ends of a row on the line
@@ -27,16 +28,15 @@ ends-on-line {t} A F S i m =
       omega (arith, line-high t (A .sound) (A .clear) i m),
     )
 
-module _ {t : Table} {rows sets top hyper : ℕ} {first second rate from to : List ℕ} {net : Network} {head next : List ℕ}
-    (R : Ready t rows sets top hyper first second rate from to net head next) where
+module _ {t : Table} {size : Size} {top : ℕ} {second rate words : List ℕ} {L : Layout} (R : Ready t size top second rate words L) where
   -- ---- the ends
 
-  pub ready-ends : (i : ℕ) → i < rows → (1 ≤ at first i) × (at first i < at second i) × (at second i ≤ top)
+  pub ready-ends : (i : ℕ) → i < size .rows → (1 ≤ at (R .first) i) × (at (R .first) i < at second i) × (at second i ≤ top)
   ready-ends i l =
       let e = ends-on-line (R .admissible) (R .firsts) (R .seconds) i (omega (arith, R .row-count)) in
       (e .0, e .1, omega (arith, e .2, R .top-end))
 
-  meets : (i j : ℕ) → i < t .rows → j < t .rows → meet (at first) (at second) i j ≡ overlap t i j
+  meets : (i j : ℕ) → i < t .rows → j < t .rows → meet (at (R .first)) (at second) i j ≡ overlap t i j
   unfolding meet
   meets i j l m =
       let A = R .admissible in
@@ -44,10 +44,10 @@ module _ {t : Table} {rows sets top hyper : ℕ} {first second rate from to : Li
       (sym (overlap-meet t (A .sound) (A .clear) i j l m))
 
   -- words for the line of the arrays are words for the table
-  pub ready-words : {x : ℕ → ℕ} {l : ℕ} {ws : List ℕ} → SlotWords (t .rows) (meet (at first) (at second)) (at first) x l ws
+  pub ready-words : {x : ℕ → ℕ} {l : ℕ} {ws : List ℕ} → SlotWords (t .rows) (meet (at (R .first)) (at second)) (at (R .first)) x l ws
       → SlotWords (t .rows) (overlap t) (lineFirst t) x l ws
   ready-words {x} {l} {ws} W =
-      words-as (t .rows) (meet (at first) (at second)) (overlap t) (at first) (lineFirst t) x x meets (R .firsts .row) (λ i h. refl) l ws W
+      words-as (t .rows) (meet (at (R .first)) (at second)) (overlap t) (at (R .first)) (lineFirst t) x x meets (R .firsts .row) (λ i h. refl) l ws W
 
   -- ---- the shares
 

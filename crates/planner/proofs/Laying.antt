@@ -15,13 +15,10 @@ use Rattle.lags.proofs.Lags.{steady-eq, steady-fresh}
 use Rattle.lags.proofs.States.{not-off}
 use Rattle.verdict.specs.declared.Analysis.{Analysis}
 use Rattle.verdict.specs.Analysed.{Accepted}
-use Rattle.loads.specs.Loads.{Spans}
-use Rattle.loads.specs.Laid.{Laid}
-use Rattle.loads.specs.declared.Network.{Network}
-use Rattle.slots.specs.Chained.{all-heads, Chained}
-use Rattle.interval.specs.Ranges.{Ranged}
-use Rattle.interval.specs.Ready.{Ready}
-use Rattle.interval.proofs.RowSets.{ranged-spans}
+use Rattle.slots.specs.Chained.{all-heads}
+use Rattle.interval.specs.declared.Layout.{Layout}
+use Rattle.interval.specs.Ready.{LaidOut, Ready}
+use Rattle.interval.proofs.RowSets.{sets-limit}
 use Rattle.interval.proofs.Ready.{ends-on-line}
 use Rattle.planner.specs.declared.Stage.the-variants.{Due}
 use Rattle.planner.specs.declared.Planner.{Planner}
@@ -86,30 +83,25 @@ module _ {t : Table} {rows sets elements hyper interval : ℕ} {first second rat
       let e = ends-on-line (P .timed .admissible) (P .firsts) (P .seconds) i (omega (arith, P .timed .row-count)) in
       omega (arith, few-elements, P .elements-are)
 
-  module _ {from to : List ℕ} (R : Ranged rows sets words from to) where
-    listed : sets ≤ length words
-    listed = omega (arith, few-sets (P .timed), P .timed .size)
+  listed : sets ≤ length words
+  listed = omega (arith, few-sets (P .timed), P .timed .size)
 
-    ranged : Ranged (t .rows) sets words from to
-    ranged = rw (P .timed .row-count) at R
+  -- no more sets than elements
+  pub low-sets : sets ≤ max-elements
+  low-sets = omega (arith, sets-limit sets words (P .timed .admissible) (P .timed .list) listed, P .timed .admissible .sound .elements-high)
 
-    pub ranges-span : Spans rows sets (at from) (at to)
-    ranges-span = rw (P .timed .row-count) (ranged-spans (P .timed .admissible) (P .timed .list) listed ranged)
-
-    pub ready-of : {net : Network} {head next : List ℕ} → Laid rows sets (at from) (at to) net → Chained rows (at first) head next
-        → Ready t rows sets (elements + 1) hyper first second rates from to net head next
-    ready-of L C = record {
-      admissible = P .timed .admissible;
-      row-count = P .timed .row-count;
-      top-end = ap (λ (m : ℕ). m + 1) (P .elements-are);
-      hyper-is = P .timed .hyper-is;
-      firsts = P .firsts;
-      seconds = P .seconds;
-      rates = P .timed .by-row;
-      words = words;
-      room = listed;
-      list = P .timed .list;
-      ranged = ranged;
-      laid = rw (P .timed .row-count) at L;
-      chained = rw (P .timed .row-count) at C;
-    }
+  pub ready-of : {L : Layout} → LaidOut rows sets words first L
+      → Ready t (record { rows = rows; sets = sets; hyper = hyper }) (elements + 1) second rates words L
+  ready-of L = record {
+    admissible = P .timed .admissible;
+    row-count = P .timed .row-count;
+    top-end = ap (λ (m : ℕ). m + 1) (P .elements-are);
+    hyper-is = P .timed .hyper-is;
+    first = first;
+    firsts = P .firsts;
+    seconds = P .seconds;
+    rates = P .timed .by-row;
+    room = listed;
+    list = P .timed .list;
+    laid = rw (P .timed .row-count) at L;
+  }

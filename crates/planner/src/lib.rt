@@ -3,7 +3,7 @@
 // A planner is kept by the caller and any state may be handed in. So its interval number is held to the table's intervals first, then its
 // spare totals, and then its totals row by row, before any product is taken. Arrays are lent where they can be: the supervisor's stack is
 // small.
-use flow::ARCS;
+use loads::Size;
 use table::Answer;
 use table::Table;
 ghost use mathlib.Core.Path.{_≡_};
@@ -81,8 +81,7 @@ fn stage_at(k: u64, intervals: u64) -> Stage
 // ---- intervals
 
 // Plans the intervals from number `from` up to number `to` of an admitted table, for rows that have had `totals`: writes their words to the
-// front of `plan`, each interval's to its own stretch, and gives the totals after the last. What the intervals share is laid out once,
-// and so are the arrays that are lent to each of them for its work.
+// front of `plan`, each interval's to its own stretch, and gives the totals after the last. What the intervals share is laid out once.
 fn plan_intervals<'a>(
     rows: usize,
     sets: usize,
@@ -104,15 +103,8 @@ fn plan_intervals<'a>(
         (now (rate .entry)) (now (words .entry)) from to totals (length (now (plan .entry)))
         → Coursed t from to totals r (now (plan .entry)) (now (plan .exit))) ⌝ }
 {
-    let ranges = interval::ranges_of(rows, sets, words);
-    let lowest = ranges.from;
-    let highest = ranges.to;
-    let net = loads::lay(&lowest, &highest, rows, sets);
-    let chains = slots::chain(first, rows);
-    let mut x = [0u64; ARCS];
-    let mut low = [0u64; ARCS];
-    let mut high = [0u64; ARCS];
-    let mut load = [0u64; Table::ROWS];
+    let layout = interval::lay(rows, sets, words, first);
+    let size = Size { rows, sets, hyper };
     let mut after = totals;
     let mut slot = (from * interval) as usize;
     let mut at: usize = 0;
@@ -122,28 +114,18 @@ fn plan_intervals<'a>(
         interval::advance(
             slot,
             end,
-            rows,
-            sets,
+            size,
             elements + 1,
-            hyper,
-            first,
             second,
             rate,
-            &lowest,
-            &highest,
-            &net.tail,
-            &net.head,
-            &net.out,
-            &net.outs,
-            &net.into,
-            &net.intos,
-            &chains.head,
-            &chains.next,
+            words,
+            &layout.tail,
+            &layout.head,
+            &layout.out,
+            &layout.into,
+            &layout.heads,
+            &layout.next,
             &mut after,
-            &mut x,
-            &mut low,
-            &mut high,
-            &mut load,
             &mut plan[at..],
         );
         at += end - slot;
