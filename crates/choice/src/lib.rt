@@ -46,7 +46,13 @@ pub fn sort_rows(end: &[u8; ROWS], rows: usize) -> [u64; PLACES]
 // ---- shares
 
 // Each row's share of so many slots: its whole slots, and the part above them.
-pub fn part_shares(rate: &[u64; ROWS], slots: u64, size: Size, whole: &mut [u64; ROWS], part: &mut [u64; ROWS])
+pub fn part_shares(
+    rate: &[u64; ROWS],
+    slots: u64,
+    size: Size,
+    whole: &mut [u64; ROWS],
+    part: &mut [u64; ROWS],
+)
     requires { ⌜ (size .rows ≤ max-rows) × (0 < size .hyper) × ((i : ℕ) → i < size .rows → at (now rate) i * slots ≤ share-most)
         × (length (now whole) ≡ max-rows) × (length (now part) ≡ max-rows) ⌝ }
     ensures { λ r. ⌜ (length (now (whole .exit)) ≡ max-rows) × (length (now (part .exit)) ≡ max-rows)
@@ -77,7 +83,13 @@ fn lift(sum: &mut [u64; SETS], from: usize, to: usize, v: u64)
 }
 
 // Adds each row's part to the sums of its sets, which are 0.
-fn add_parts(tail: &[u8; ROWS], head: &[u8; ROWS], part: &[u64; ROWS], size: Size, sum: &mut [u64; SETS])
+fn add_parts(
+    tail: &[u8; ROWS],
+    head: &[u8; ROWS],
+    part: &[u64; ROWS],
+    size: Size,
+    sum: &mut [u64; SETS],
+)
     requires { ⌜ Spans (size .rows) (size .sets) (at (now tail)) (last (now head)) × ((i : ℕ) → i < size .rows → 0 < at (now head) i)
         × Parts (size .rows) (size .hyper) (at (now part)) × ((k : ℕ) → at (now sum) k ≡ 0) × (length (now sum) ≡ max-elements) ⌝ }
     ensures { λ r. ⌜ (length (now (sum .exit)) ≡ max-elements)
@@ -134,7 +146,13 @@ fn lower(left: &mut [u64; SETS], from: usize, to: usize, h: u64)
 }
 
 // Rounds up one row after the other, where its sets have room. `left` holds the sets' sums, and then what is left of them.
-fn take_rows(tail: &[u8; ROWS], head: &[u8; ROWS], part: &[u64; ROWS], size: Size, left: &mut [u64; SETS]) -> u64
+fn take_rows(
+    tail: &[u8; ROWS],
+    head: &[u8; ROWS],
+    part: &[u64; ROWS],
+    size: Size,
+    left: &mut [u64; SETS],
+) -> u64
     requires { ⌜ Spans (size .rows) (size .sets) (at (now tail)) (last (now head)) × ((i : ℕ) → i < size .rows → 0 < at (now head) i)
         × Parts (size .rows) (size .hyper) (at (now part))
         × Summed (size .rows) (size .sets) (at (now tail)) (last (now head)) (at (now part)) (at (now left))

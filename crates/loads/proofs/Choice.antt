@@ -64,7 +64,6 @@ module _ (n K : ℕ) (a b : ℕ → ℕ) (h : ℕ) (share had : ℕ → ℕ) whe
   pub choose-only : (x z : ℕ → ℕ) → Greatest n K a b h share had x → Greatest n K a b h share had z → (i : ℕ) → i < n → z i ≡ x i
   choose-only x z p q = same-below x z p q n (omega arith)
 
-
 -- ---- from parts of slots to loads
 
 pub zero-plus : (v : ℕ) → 0 + v ≡ v

@@ -22,7 +22,6 @@ and-on : (b : Bool) → b ≡ (b && true)
 and-on true = refl
 and-on false = refl
 
-
 returns : tie.Need-returns
 returns c j =
     let a = c .before .args in
