@@ -1,7 +1,7 @@
 -- Laws of the loops that fill arrays and words: each holds of the first m entries, and one more is put in.
 use mathlib.Core.Path.{_≡_, refl, sym, ap, _∙_}
 use mathlib.Core.Bool.{Bool, true, false, _&&_, _||_}
-use Prim.Native.Nat.{ℕ, suc, _+_, _-_, _*_, _≤_, _<_}
+use Prim.Native.Nat.{ℕ, suc, _+_, _-_, _≤_, _<_}
 use native.Mathlib.Decide.{decLt, ℕ-discrete}
 use native.Mathlib.Omega.{arith}
 use lib.Dec.{eqb, ltb}
@@ -11,7 +11,7 @@ use Rattle.numbers.specs.Word.{bit}
 use Rattle.numbers.proofs.Finite.{only-true, only-false, sum-next, sum-zero, sumIn-most}
 use Rattle.rules.specs.Bounds.{max-rows, max-slots}
 use Rattle.flow.specs.Network.{Put}
-use Rattle.loads.specs.Loads.{inSet, part-most, Spans, Parts, Summed}
+use Rattle.loads.specs.Loads.{inSet, part-most, Parts, Summed}
 use Rattle.loads.proofs.Line.{covers-in, covers-before, covers-after}
 use Rattle.choice.specs.Taken.{Lifted, Lowered}
 

@@ -1,6 +1,6 @@
 -- The greedy theorem: rows that are rounded up in turn, where all their sets have room left, are the greatest loads, if no set's sum is then
 -- below its parts rounded down.
-use mathlib.Core.Path.{_≡_, refl, sym, ap, _∙_}
+use mathlib.Core.Path.{_≡_, refl, ap, _∙_}
 use mathlib.Core.Bool.{Bool, true, false, _||_}
 use Prim.Native.Nat.{ℕ, suc, _+_, _-_, _*_, _≤_, _<_}
 use native.Mathlib.Decide.{decLt, decLe, ℕ-discrete}
@@ -9,7 +9,7 @@ use native.Mathlib.Omega.{arith}
 use lib.Dec.{eqb}
 use borrow.Author.Tests.{eq-eqb, ne-eqb}
 use Rattle.numbers.specs.Finite.{sumIn, only}
-use Rattle.numbers.specs.Rounding.{down, up, Rounded}
+use Rattle.numbers.specs.Rounding.{up, Rounded}
 use Rattle.numbers.specs.Word.{bit}
 use Rattle.numbers.proofs.Finite.{only-true, only-false, only-zero, only-le, sum-but, sum-zero, eq-additive, sum-one}
 use Rattle.numbers.proofs.Rounding.{up-over, rounded-is, rounded-of, rounded-between}

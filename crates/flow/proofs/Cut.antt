@@ -10,7 +10,7 @@ use native.Mathlib.Decide.{decLt}
 use native.Mathlib.Omega.{arith}
 use Rattle.numbers.specs.Finite.{only}
 use Rattle.numbers.proofs.Finite.{only-true, only-false, sum-add, sum-but, le-additive}
-use Rattle.flow.specs.Network.{Net, Circulation, Within}
+use Rattle.flow.specs.Network.{Net, Circulation}
 use Rattle.flow.specs.Raised.{Best}
 
 pub record Closed (G : Net) (i : ℕ) (x : ℕ → ℕ) (r : ℕ → Bool) : Type 0 where

@@ -17,9 +17,9 @@ use Rattle.numbers.proofs.Word.{bit-zero, bit-and}
 use Rattle.flow.specs.declared.Arcs.{Arcs}
 use Rattle.flow.specs.Network.{Net, Circulation, Within, Put}
 use Rattle.flow.specs.Raised.{Pushed, Best}
-use Rattle.flow.specs.Way.{Step, Way, Shut, Toggled, With, Reached, Visited, Passed, Done, ByPlace, Wired, Narrow, Takes, Shown}
+use Rattle.flow.specs.Way.{Step, Way, Shut, Toggled, With, Reached, Visited, Passed, Done, ByPlace, Wired, Narrow, Shown}
 use Rattle.flow.proofs.Network.{put, put-is, sum-put}
-use Rattle.flow.proofs.Cut.{Closed, closed-best}
+use Rattle.flow.proofs.Cut.{closed-best}
 use Rattle.flow.proofs.Words.{or-left, or-not, or-same, or-right, and-both, and-left, one-of, unseen}
 
 -- ---- ways grow

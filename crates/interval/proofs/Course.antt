@@ -1,21 +1,20 @@
 -- One interval as the code does it: shares, loads, slots and totals, each from what the one before it gives.
 use mathlib.Core.Path.{_≡_, sym, ap, ap₂, _∙_}
 use mathlib.Core.List.{List}
-use Prim.Native.Nat.{ℕ, suc, _+_, _-_, _*_, _/_, _%_, _≤_, _<_}
+use Prim.Native.Nat.{ℕ, _-_, _*_, _/_, _%_, _≤_, _<_}
 use native.Mathlib.Nat.{mod-lt, mod-add-div'}
 use native.Mathlib.Omega.{arith}
 use lib.ListN.{length, take}
 use Rattle.numbers.specs.Lists.{at}
-use Rattle.rules.specs.Bounds.{max-elements, max-rows, max-slots}
+use Rattle.rules.specs.Bounds.{max-rows, max-slots}
 use Rattle.rules.specs.Bus.{Table}
 use Rattle.rules.specs.Line.{meet}
-use Rattle.rules.specs.Loads.{hyperperiod, start, end, intervals, share}
+use Rattle.rules.specs.Loads.{hyperperiod, start, end, share}
 use Rattle.rules.specs.Interval.{SlotWords}
 use Rattle.lags.specs.Lags.{Steady}
 use Rattle.lags.proofs.Intervals.{hyperperiod-positive, end-far, end-le}
-use Rattle.flow.specs.Way.{ByPlace, Wired}
 use Rattle.loads.specs.Loads.{last, digit, none, share-most, Spans, Parts, Greatest}
-use Rattle.loads.specs.State.{Ends, Laid}
+use Rattle.loads.specs.State.{Laid}
 use Rattle.loads.specs.declared.Size.{Size}
 use Rattle.loads.proofs.Choice.{greatest-shift}
 use Rattle.slots.specs.Chained.{ChainedRows}

@@ -7,7 +7,6 @@ use native.Mathlib.Nat.{lt-of-mul-lt-mul-right}
 use native.Mathlib.Omega.{arith}
 use borrow.Author.Tests.{lt-ltb, le-ltb}
 use Rattle.numbers.specs.Finite.{sumIn}
-use Rattle.numbers.specs.Rounding.{Rounded}
 use Rattle.numbers.proofs.Finite.{sumIn-eq, sumIn-add, sumIn-scaled, sum-zero, only-zero}
 use Rattle.numbers.proofs.Rounding.{rounded-is, rounded-shift}
 use Rattle.loads.specs.Loads.{inSet, none, Qualified, Greatest}

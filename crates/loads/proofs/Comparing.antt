@@ -1,7 +1,7 @@
 -- The sets compared: rows counted by words, and the words of the sets that the comparison fills.
 use mathlib.Core.Path.{_≡_, refl, sym, ap, ap₂, _∙_}
-use mathlib.Core.Bool.{Bool, true, false, _&&_, not, true≢false, false≢true}
-use Prim.Native.Nat.{ℕ, zero, suc, _+_, _-_, _*_, _/_, _%_, _^_, _≤_, _<_}
+use mathlib.Core.Bool.{Bool, true, false, _&&_, not}
+use Prim.Native.Nat.{ℕ, zero, suc, _+_, _-_, _*_, _/_, _%_, _^_, _<_}
 use native.Mathlib.Decide.{decLt}
 use native.Mathlib.Nat.{pow-suc}
 use native.Mathlib.Numerals.{add-one, one-add}
@@ -13,9 +13,8 @@ use borrow.Author.Tests.{lt-ltb, le-ltb, ne-eqb}
 use Rattle.numbers.specs.Finite.{sum, sumIn, only, count}
 use Rattle.numbers.specs.Word.{bit}
 use Rattle.numbers.proofs.Finite.{sum-eq, sum-split, sum-next, sum-zero, only-true, only-false, only-and, only-comm}
-use Rattle.numbers.proofs.Truth.{and-under, along, fst, snd, of-true}
+use Rattle.numbers.proofs.Truth.{and-under, along, fst, snd}
 use Rattle.numbers.proofs.Word.{word, word-next, bit-word, bit-low, bit-suc, bit-and, lt-of-bits}
-use Rattle.flow.proofs.Words.{and-both}
 use Rattle.loads.specs.Loads.{digit}
 use Rattle.loads.specs.State.{Compared}
 

@@ -1,26 +1,24 @@
 -- The network of rows and sets: the parts of slots are a circulation within its bounds, words of rows are amounts in it, and amounts that
 -- are settled are the greatest loads.
-use mathlib.Core.Path.{_≡_, refl, sym, ap, _∙_}
-use mathlib.Core.Bool.{Bool, true, false, _&&_, cond, not, true≢false, false≢true}
-use mathlib.Core.List.{List}
-use mathlib.Core.Logic.{_≢_}
+use mathlib.Core.Path.{_≡_, refl, sym, _∙_}
+use mathlib.Core.Bool.{Bool, true, false, cond, not}
 use Prim.Native.Nat.{ℕ, suc, _+_, _-_, _*_, _≤_, _<_}
 use native.Mathlib.Decide.{decLt}
-use native.Mathlib.Nat.{lt-of-mul-lt-mul-right, mul-le-mul-right}
+use native.Mathlib.Nat.{lt-of-mul-lt-mul-right}
 use native.Mathlib.Omega.{arith}
 use lib.Bits.{bitXor}
-use Rattle.numbers.specs.Finite.{sumIn, only}
+use Rattle.numbers.specs.Finite.{sumIn}
 use Rattle.numbers.specs.Lists.{at}
-use Rattle.numbers.specs.Rounding.{down, up, Rounded}
+use Rattle.numbers.specs.Rounding.{down}
 use Rattle.numbers.specs.Word.{bit}
 use Rattle.numbers.proofs.Finite.{sumIn-eq, only-true, only-false}
 use Rattle.numbers.proofs.Rounding.{down-under, down-greatest, up-over, up-least, rounded-between, between-rounded}
-use Rattle.flow.specs.Network.{Net, Circulation, Within}
+use Rattle.flow.specs.Network.{Circulation, Within}
 use Rattle.flow.specs.Raised.{Settled}
 use Rattle.flow.specs.Way.{Toggled, Takes}
 use Rattle.flow.proofs.Words.{bit-xor}
-use Rattle.loads.specs.Loads.{inSet, last, digit, none, Spans, Parts, Qualified, Greatest}
-use Rattle.loads.specs.Line.{join, carried, line, Lines}
+use Rattle.loads.specs.Loads.{inSet, digit, none, Spans, Parts, Qualified, Greatest}
+use Rattle.loads.specs.Line.{carried, line, Lines}
 use Rattle.loads.proofs.Line.{circ-of-sums, sums-of-circ}
 use Rattle.loads.proofs.Choice.{join-low, join-high, both, zero-plus, sum-none}
 

@@ -1,8 +1,8 @@
 -- States of loads that are being settled, as the code keeps them: arrays and words.
 use mathlib.Core.Path.{_≡_, refl, sym, ap, ap₂, _∙_}
-use mathlib.Core.Bool.{Bool, true, false, _&&_, not, true≢false, false≢true}
+use mathlib.Core.Bool.{Bool, true, false, _&&_, not}
 use mathlib.Core.List.{List}
-use Prim.Native.Nat.{ℕ, suc, _+_, _-_, _*_, _/_, _≤_, _<_}
+use Prim.Native.Nat.{ℕ, suc, _+_, _-_, _/_, _≤_, _<_}
 use native.Mathlib.Decide.{decLt, ℕ-discrete}
 use native.Mathlib.Omega.{arith}
 use lib.Bits.{bitAnd, bitXor, xor-zero-r}
@@ -14,16 +14,15 @@ use Rattle.numbers.specs.Lists.{at}
 use Rattle.numbers.specs.Word.{bit}
 use Rattle.numbers.proofs.Finite.{sum-eq, sumIn-most}
 use Rattle.numbers.proofs.Word.{bit-zero}
-use Rattle.rules.specs.Bounds.{max-rows, max-slots}
-use Rattle.flow.specs.Network.{Within}
+use Rattle.rules.specs.Bounds.{max-slots}
 use Rattle.flow.specs.Raised.{Raised, Settled}
 use Rattle.flow.proofs.Raising.{settle-next}
 use Rattle.loads.specs.Loads.{inSet, last, digit, part-most}
 use Rattle.loads.specs.Line.{carried, line}
-use Rattle.loads.specs.State.{Compared, Ends, Laid, Asked, State, Mended, Turn}
+use Rattle.loads.specs.State.{Compared, Ends, Asked, State, Mended}
 use Rattle.loads.specs.declared.Sides.{Sides}
 use Rattle.loads.proofs.Choice.{both}
-use Rattle.loads.proofs.Settling.{carried-row, carried-set, row-low, not-low}
+use Rattle.loads.proofs.Settling.{carried-set, row-low, not-low}
 use Rattle.loads.proofs.Comparing.{ones-sum, compared-eq}
 use Rattle.loads.proofs.Turning.{low-no}
 

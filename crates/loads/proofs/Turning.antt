@@ -1,26 +1,26 @@
 -- One search: the words that the code hands over show the network, a set that is too low has a way, and what toggling it leaves.
 use mathlib.Core.Path.{_≡_, refl, sym, ap, _∙_}
-use mathlib.Core.Bool.{Bool, true, false, _&&_, _||_, cond, not, true≢false, false≢true}
+use mathlib.Core.Bool.{Bool, true, false, _&&_, cond, not, true≢false, false≢true}
 use mathlib.Core.Logic.{_≢_}
 use Prim.Native.Nat.{ℕ, zero, suc, _+_, _-_, _*_, _%_, _^_, _≤_, _<_}
-use native.Mathlib.Decide.{decLt, decLe, ℕ-discrete}
+use native.Mathlib.Decide.{decLe, ℕ-discrete}
 use native.Mathlib.Omega.{arith}
-use lib.Bits.{bitAnd, bitOr, bitXor, xor-zero-r}
-use lib.Dec.{eqb, ltb, leb}
+use lib.Bits.{bitAnd, bitXor, xor-zero-r}
+use lib.Dec.{eqb, ltb}
 use borrow.Author.Tests.{eq-eqb, ne-eqb, lt-ltb, le-ltb, ltb-true, ltb-false, leb-true, leb-false}
 use Rattle.numbers.specs.Finite.{sum, sumIn}
 use Rattle.numbers.specs.Rounding.{down}
 use Rattle.numbers.specs.Word.{bit}
-use Rattle.numbers.proofs.Finite.{sum-one, sum-eq}
+use Rattle.numbers.proofs.Finite.{sum-one}
 use Rattle.numbers.proofs.Rounding.{down-up}
 use Rattle.numbers.proofs.Word.{bit-and}
 use Rattle.flow.specs.declared.Arcs.{Arcs}
 use Rattle.flow.specs.Network.{Net, Circulation, Within, Put}
-use Rattle.flow.specs.Raised.{Best, Raised}
-use Rattle.flow.specs.Way.{Way, Shut, Toggled, With, Narrow, Takes, Shown, Sought}
+use Rattle.flow.specs.Raised.{Raised}
+use Rattle.flow.specs.Way.{Way, Toggled, With, Narrow, Takes, Shown, Sought}
 use Rattle.flow.proofs.Network.{put, put-is}
 use Rattle.flow.proofs.Raising.{best-full}
-use Rattle.flow.proofs.Words.{and-both, bit-xor, bit-first, bit-one-more}
+use Rattle.flow.proofs.Words.{and-both, bit-xor, bit-first}
 use Rattle.flow.proofs.Ways.{way-kept, way-within, way-circ, way-pushed, shut-best, shut-enough, toggled-next}
 use Rattle.loads.specs.Loads.{inSet, digit, Spans, Parts}
 use Rattle.loads.specs.Line.{carried, line}

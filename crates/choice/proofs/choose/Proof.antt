@@ -1,12 +1,10 @@
 -- `choose` is done where the rows in turn leave no set too low, or settles them.
 use borrow.Author.Needs.{needs}
-use mathlib.Core.Path.{_≡_, refl, ap, _∙_}
+use mathlib.Core.Path.{refl, ap, _∙_}
 use mathlib.Core.Bool.{Bool, _&&_}
-use Prim.Native.Nat.{ℕ, _<_}
 use lib.Dec.{ltb}
 use borrow.Author.Tests.{lt-ltb}
 use Rattle.numbers.specs.Lists.{at}
-use Rattle.numbers.specs.Word.{bit}
 use Rattle.numbers.proofs.Lists.{zeros-at}
 use Rattle.rules.specs.Bounds.{max-elements}
 use Rattle.loads.proofs.States.{sums-most, state-of}

@@ -1,9 +1,8 @@
 -- `find_way` goes on from places that are seen and not done, until t is seen or all are done.
-use mathlib.Core.Path.{_≡_, refl, sym, ap, _∙_}
+use mathlib.Core.Path.{_≡_, refl, sym, _∙_}
 use mathlib.Core.Bool.{Bool, true, false, not, true≢false, false≢true}
 use Prim.Native.Nat.{ℕ, _<_, _≤_}
 use native.Mathlib.Omega.{arith}
-use lib.Dec.{eqb}
 use lib.ListN.{length}
 use borrow.Author.Tests.{eqb-true}
 use Rattle.numbers.specs.Finite.{count}
@@ -15,7 +14,7 @@ use Rattle.flow.specs.Network.{places-most, Net, Circulation}
 use Rattle.flow.specs.Way.{Reached, Done, Wired, Narrow, Shown}
 use Rattle.flow.proofs.Words.{bit-one-more, bit-first, bit-odd, in-first, fewer}
 use Rattle.flow.proofs.Ways.{reached-start, done-start, done-shut, out-place, into-place}
-use Rattle.flow.proofs.Ways.{leave-line, leave-wider, leave-reached, leave-done, leave-within}
+use Rattle.flow.proofs.Ways.{leave-line, leave-reached, leave-done, leave-within}
 use Rattle.flow.proofs.find_way.Statement.{statement}
 use Rattle.flow.proofs.find_way.Tie as tie
 

@@ -1,5 +1,4 @@
 -- `pick` finds the first digit in which the words differ.
-use borrow.Author.Needs.{needs}
 use native.Mathlib.Omega.{arith}
 use Rattle.flow.proofs.Words.{first-differ}
 use Rattle.flow.proofs.pick.Statement.{statement}

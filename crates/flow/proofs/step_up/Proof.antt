@@ -1,6 +1,5 @@
 -- `step_up` reaches the place after u, or leaves all as it is.
 use borrow.Author.Needs.{needs}
-use native.Mathlib.Omega.{arith}
 use Prim.Native.Nat.{_+_}
 use Rattle.flow.proofs.Words.{bit-none, bit-some}
 use Rattle.flow.proofs.Ways.{passed-not, passed-on}

@@ -1,5 +1,4 @@
 -- `visit` takes one row after the other; those in `done` are met.
-use borrow.Author.Needs.{needs}
 use mathlib.Core.Path.{_≡_, sym, _∙_}
 use mathlib.Core.Bool.{true, false, not, false≢true}
 use Prim.Native.Nat.{ℕ, _<_}

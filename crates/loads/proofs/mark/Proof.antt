@@ -1,7 +1,7 @@
 -- `mark` sets a bit, or leaves the word as it is.
 use borrow.Author.Needs.{needs}
-use mathlib.Core.Path.{_≡_, refl, sym, ap, _∙_}
-use Prim.Native.Nat.{ℕ, _^_}
+use mathlib.Core.Path.{sym, ap, _∙_}
+use Prim.Native.Nat.{_^_}
 use lib.Bits.{bitOr, or-zero-r}
 use Rattle.numbers.proofs.Finite.{only-true, only-false}
 use Rattle.numbers.proofs.Word.{one-shl}

@@ -1,6 +1,6 @@
 -- `planner::plan_intervals` meets its contract: `Planning` says what its loop keeps.
 use mathlib.Core.Path.{_≡_}
-use Prim.Native.Nat.{_+_, _-_, _≤_, _<_}
+use Prim.Native.Nat.{_+_, _-_, _≤_}
 use native.Mathlib.Omega.{arith}
 use lib.ListN.{length, length-take, length-drop}
 use Rattle.rules.specs.Bounds.{max-slots}
