@@ -2,7 +2,7 @@
 -- laws: the first interval starts at slot 0, each ends where the next starts, none is shorter than L, and every multiple of every period
 -- up to h is the start of one, where h counts as the start of the one after the last. Where each ends and starts, as the code works it
 -- out, stands here too (`end-after`, `start-by`).
-use mathlib.Core.Path.{_≡_, sym, ap, ap₂, _∙_}
+use mathlib.Core.Path.{_≡_, ap, _∙_}
 use mathlib.Core.Logic.{_≢_, ⊎-elim}
 use Prim.Native.Nat.{ℕ, zero, suc, _+_, _*_, _/_, _≤_, _<_, _∣_, min}
 use native.Mathlib.Nat.{le-refl, eq-or-lt-of-le, le-of-suc-le-suc, le-of-dvd, div-mul-cancel, dvd-mul-left-of-dvd}

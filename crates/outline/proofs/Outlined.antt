@@ -129,8 +129,8 @@ module _ (f : List ℕ) where
       → Outlined (outline-checks f) (fileTable f) o
   outlined-past p a {o} O = record {
     answers =
-        joined (file-checks f) (line-checks (fileTable f)) (o .answer .number) (o .answer .place) (none-of (file-checks f) p (file-numbered f) a)
-        (O .answers);
+        joined (file-checks f) (line-checks (fileTable f)) (o .answer .number) (o .answer .place)
+        (none-of (file-checks f) p (file-numbered f) a) (O .answers);
     found = O .found;
     refused = O .refused;
   }

@@ -2,7 +2,7 @@
 --
 --   Rising n p i h     h is the least common multiple of the first i of n periods p, and no more than 4096
 --   Falling n p i l    l is the greatest common divisor of the first i of n periods p
-use mathlib.Core.Path.{_≡_, sym, _∙_}
+use mathlib.Core.Path.{_≡_, sym}
 use mathlib.Core.Logic.{_≢_, ⊎-elim}
 use Prim.Native.Nat.{ℕ, _+_, _≤_, _<_}
 use native.Mathlib.Omega.{arith}

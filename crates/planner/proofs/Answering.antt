@@ -1,5 +1,5 @@
--- The answers of the planner's calls on an admitted table: which the contracts allow, outcome by outcome. `r` is the answer given, `made` says
--- which number and place it holds.
+-- The answers of the planner's calls on an admitted table: which the contracts allow, outcome by outcome. `r` is the answer given, `made`
+-- says which number and place it holds.
 use mathlib.Core.Path.{_≡_, refl, ap, _∙_, subst, fun-ext}
 use mathlib.Core.Logic.{_≢_}
 use mathlib.Core.List.{List, []}
@@ -50,7 +50,8 @@ module _ (a : Ask) (r : Answer) (refuses : r .number ≢ 0) where
   }
 
   pub step-refusal : (p : Planner) (was : List ℕ) → length (p .totals) ≡ max-rows
-      → Answers (step-checks (a .checks) (a .table) (plannerOf p) (length was)) (r .number) (r .place) → StepAnswer a p (unmovedOf p r) was was
+      → Answers (step-checks (a .checks) (a .table) (plannerOf p) (length was)) (r .number) (r .place)
+      → StepAnswer a p (unmovedOf p r) was was
   step-refusal p was size c = record {
     stepped = record { answers = c; done = λ z. absurd (refuses z); refused = λ h. (refl, refl) };
     chosen = λ z. absurd (refuses z);
@@ -58,7 +59,8 @@ module _ (a : Ask) (r : Answer) (refuses : r .number ≢ 0) where
     size = size;
   }
 
-  pub plan-refusal : (was : List ℕ) → Answers (plan-checks (a .checks) (a .table) (length was)) (r .number) (r .place) → PlanAnswer a r was was
+  pub plan-refusal : (was : List ℕ) → Answers (plan-checks (a .checks) (a .table) (length was)) (r .number) (r .place)
+      → PlanAnswer a r was was
   plan-refusal was c = record {
     planned = record { answers = c; done = λ z. absurd (refuses z); refused = λ h. refl };
     chosen = λ z. absurd (refuses z);

@@ -1,15 +1,15 @@
 -- The planner's answers to an ask, from those on an analysis that answers its checks; and that only one answer on an analysis fits.
-use mathlib.Core.Path.{_≡_, refl, sym, ap, _∙_}
+use mathlib.Core.Path.{_≡_, sym, _∙_}
 use mathlib.Core.Logic.{_≢_}
-use mathlib.Core.List.{List, [], _++_}
+use mathlib.Core.List.{List, _++_}
 use Prim.Native.Nat.{ℕ}
 use native.Mathlib.Decide.{ℕ-discrete}
 use lib.IntN.{ℤ}
 use lib.ListN.{length}
 use Rattle.rules.specs.Bounds.{max-rows}
 use Rattle.rules.specs.Planner.{Planner}
-use Rattle.rules.specs.Refusals.{Check, Answers, verdict-checks, plan-checks, step-checks, standings-checks}
-use Rattle.rules.specs.Calls.{Call, Ask, fileAsk, Planned, Stepped, Stood}
+use Rattle.rules.specs.Refusals.{Check, Answers, plan-checks, step-checks, standings-checks}
+use Rattle.rules.specs.Calls.{Call, Ask, Planned, Stepped, Stood}
 use Rattle.rules.proofs.Answers.{None, Numbered, stopped, joined, none-of}
 use Rattle.table.specs.declared.Answer.{Answer}
 use Rattle.verdict.specs.declared.Analysis.{Analysis}
@@ -21,7 +21,6 @@ use Rattle.planner.specs.declared.Standings.{Standings}
 use Rattle.planner.specs.State.{plannerOf}
 use Rattle.planner.specs.Answers.{StepAnswer, StandingsAnswer, PlanAnswer}
 use Rattle.planner.specs.Analysed.{Usable, admitted, SteppedOn, StandingsOn, PlannedOn}
-use Rattle.planner.specs.Proper.{Proper}
 use Rattle.planner.specs.Promises.{File-proper}
 use Rattle.planner.proofs.Answering.{standings-refusal, step-refusal, plan-refusal}
 use Rattle.planner.proofs.Only.{step-only, plan-only, standings-only}
@@ -83,7 +82,8 @@ module _ (q : Ask) (N : Numbered (q .checks)) {a : Analysis} (A : Analysed (q .c
           record { stepped = stepped-after q (none z) (S .stepped); chosen = S .chosen; same = S .same; size = S .size }
       go (no z) =
           let e = O .refused z in
-          rw (e .0, e .1) (step-refusal q (a .outline .answer) z p was size (step-before q (a .outline .answer) z (A .answers) _ (length was)))
+          rw (e .0, e .1)
+          (step-refusal q (a .outline .answer) z p was size (step-before q (a .outline .answer) z (A .answers) _ (length was)))
 
   pub standings-asked : (p : State) (r : Standings) → StandingsOn a p r → StandingsAnswer q p r
   standings-asked p r O = go (ℕ-discrete number 0)

@@ -63,7 +63,8 @@ pub standings-only : One-standings
 standings-only a p r s A B = λ i. record { answer = same i; values = values i }
   where
     same : r .answer ≡ s .answer
-    same = answer-only (standings-checks (a .checks) (a .table) (plannerOf p)) (r .answer) (s .answer) (A .stood .answers) (B .stood .answers)
+    same = answer-only (standings-checks (a .checks) (a .table) (plannerOf p)) (r .answer) (s .answer)
+        (A .stood .answers) (B .stood .answers)
 
     number : r .answer .number ≡ s .answer .number
     number = ap (λ (w : Answer). w .number) same

@@ -40,10 +40,10 @@ use Rattle.planner.proofs.Asks.{file-proper}
 -- ---- asks that admit their table
 
 module _ (a : Ask) (P : Proper a) (A : Admits a) where
-  admitted-none : None (a .checks)
+  pub admitted-none : None (a .checks)
   admitted-none = none-of (a .checks) 0 (P .numbered) A
 
-  admitted-table : Admissible (a .table)
+  pub admitted-table : Admissible (a .table)
   admitted-table = P .admissible admitted-none
 
 -- ---- steps

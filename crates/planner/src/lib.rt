@@ -1,11 +1,11 @@
 // The planner (document 01, "The planner"): a step, the standings, and the whole plan.
 //
-// Each call analyses a file's table, and then does its work on the analysis: `step_on`, `standings_on` and `plan_on` serve any table, whatever
-// it was analysed from.
+// Each call analyses a file's table, and then does its work on the analysis: `step_on`, `standings_on` and `plan_on` serve any table,
+// whatever it was analysed from.
 //
-// A planner is kept by the caller and any state may be handed in. So the slot that it has reached is held to the hyperperiod first, then its
-// spare totals, and then its totals row by row, before any product is taken. Arrays are lent where they can be: the supervisor's stack is
-// small.
+// A planner is kept by the caller and any state may be handed in. So the slot that it has reached is held to the hyperperiod first, then
+// its spare totals, and then its totals row by row, before any product is taken. Arrays are lent where they can be: the supervisor's
+// stack is small.
 use flow::ARCS;
 use outline::Time;
 use table::Answer;

@@ -82,7 +82,8 @@ values-are f was now r s A W z =
 pub carried-by-value : Carried-by-value
 carried-by-value f was now plan plan′ r s A P z room =
     let h = hyper-at f was now r A z in
-    let w = carried (fileAsk f) (P .answer) plan plan′ (file-proper f) (P .planned) (answered (verdict-checks f) (none f was now r A z)) (omega arith) in
+    let a = answered (verdict-checks f) (none f was now r A z) in
+    let w = carried (fileAsk f) (P .answer) plan plan′ (file-proper f) (P .planned) a (omega arith) in
     (one-zero s _ _ (P .as-one) (w .0) (w .1), w .2)
 
 pub listed-by-value : Listed-by-value

@@ -17,14 +17,15 @@ use Rattle.numbers.specs.Finite.{every, lowest, only, sum, largest}
 use Rattle.numbers.specs.Word.{bit}
 use Rattle.numbers.specs.Lists.{at}
 use Rattle.numbers.proofs.Truth.{both, fst, snd, decide, is-true, is-false, of-true, of-false, eqb-of, refutes}
-use Rattle.numbers.proofs.Finite.{every-of, every-at, lowest-is, lowest-none, lowest-le, lowest-has, lowest-below}
+use Rattle.numbers.proofs.Finite.{every-of, lowest-is, lowest-none, lowest-le, lowest-has, lowest-below}
 use Rattle.numbers.proofs.Finite.{sum-next, only-true, only-false, sumIn-eq, largest-next}
 use Rattle.rules.specs.Bounds.{max-rows, max-slots}
 use Rattle.rules.specs.Bus.{Table}
 use Rattle.rules.specs.Loads.{hyperperiod, shortest, rate, load, equalPeriods, light, over}
 use Rattle.table.specs.Sound.{Sound}
 use Rattle.table.specs.Columns.{ByRow}
-use Rattle.lags.proofs.Intervals.{period-divides, hyperperiod-positive, shortest-positive, shortest-low, equal-shortest, equal-hyperperiod, rate-le}
+use Rattle.lags.proofs.Intervals.{period-divides, hyperperiod-positive, shortest-positive, shortest-low, rate-le}
+use Rattle.lags.proofs.Intervals.{equal-shortest, equal-hyperperiod}
 use Rattle.verdict.specs.Weights.{Times, lightBy, SmallRates, weight, past, nextLowest, Weighed}
 
 -- ---- equal periods

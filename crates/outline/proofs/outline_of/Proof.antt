@@ -7,7 +7,6 @@ use lib.ListN.{take}
 use Rattle.numbers.specs.Lists.{at}
 use Rattle.rules.specs.Bus.{Table}
 use Rattle.rules.specs.Line.{cut}
-use Rattle.table.specs.Sound.{Sound}
 use Rattle.ring.proofs.Rows.{sound-routes, ring-cut, laid-first, laid-second}
 use Rattle.ring.proofs.Cut.{cut-low}
 use Rattle.lags.proofs.Intervals.{hyperperiod-positive, shortest-is}

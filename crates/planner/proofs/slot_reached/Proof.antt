@@ -1,7 +1,5 @@
 -- `planner::slot_reached` meets its contract.
-use mathlib.Core.Path.{_∙_, sym, ap}
 use borrow.Author.Needs.{needs}
-use Rattle.planner.specs.State.{slotOf}
 use Rattle.planner.proofs.slot_reached.Statement.{statement}
 use Rattle.planner.proofs.slot_reached.Tie as tie
 

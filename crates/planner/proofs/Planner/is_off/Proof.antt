@@ -29,7 +29,7 @@ abbrev in-time : tie.Else2 → tie.Else1
 in-time c = c .before .before .before .before
 
 late : (c : tie.Else1)
-    → lateAt (c .before .before .args .t1 .stage) (c .before .before .args .slot) (c .before .before .args .t3 .outline .time .hyper) ≡ false
+    → (let a = c .before .before .args in lateAt (a .t1 .stage) (a .slot) (a .t3 .outline .time .hyper) ≡ false)
 late c = sym (c .before .is-late .ensures) ∙ c .if1 .left
 
 keeps-step-requires : tie.Need-keeps-step-requires

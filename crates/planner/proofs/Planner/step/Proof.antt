@@ -26,8 +26,8 @@ returns c =
     let A = O .before .before in
     let S = A .before .before .before in
     let f = S .args .file .now in
-    step-asked (fileAsk f) (file-proper f .numbered) (A .analyse .ensures) (S .args .self) (O .step-on .result) (S .args .out .now) _ (size S)
-    (O .step-on .ensures)
+    step-asked (fileAsk f) (file-proper f .numbered) (A .analyse .ensures) (S .args .self) (O .step-on .result) (S .args .out .now) _
+    (size S) (O .step-on .ensures)
 
 pub step-spec : {M : Type 1} → statement M
 step-spec = tie.close (tie.spec analyse-requires step-on-requires same-length returns)

@@ -1,6 +1,6 @@
 -- `Planner::step_on` meets its contract.
-use mathlib.Core.Path.{_≡_, refl, ap, ap₂, _∙_}
-use Prim.Native.Nat.{ℕ, _-_, _≤_, _<_}
+use mathlib.Core.Path.{_≡_, refl, ap, ap₂}
+use Prim.Native.Nat.{ℕ, _-_}
 use native.Mathlib.Omega.{arith}
 use borrow.Author.Needs.{needs}
 use lib.ListN.{length}
@@ -69,7 +69,8 @@ returns-2 c =
       done = λ z t A.
           rw (c .unmoved2 .ensures)
           (step-own t (c .before .at .ensures) (omega arith) p (S .args .out .now) (size S)
-          (step-off t (plannerOf p) (length (S .args .out .now)) (O .is-off .ensures t A (here R A) .holds (c .before .before .if2 .taken))));
+          (step-off t (plannerOf p) (length (S .args .out .now))
+          (O .is-off .ensures t A (here R A) .holds (c .before .before .if2 .taken))));
       refused = λ h. absurd (h (passed R .if1 .left));
     }
 
@@ -121,7 +122,8 @@ number c = c .before .stage .given .0 .0
 begins : (c : tie.After-known-told) {t : Table} → Accepted t (begun (not-off c) .args .table)
     → Begins t (number c) (reached (not-off c) .slot-reached .result)
 begins c A =
-    due-begins A (begun (not-off c) .args .self) (number c) (here (reached (not-off c)) A) (still (not-off c) A) (c .before .stage .given .1)
+    let N = not-off c in
+    due-begins A (begun N .args .self) (number c) (here (reached N) A) (still N A) (c .before .stage .given .1)
 
 next-end-requires : tie.Need-next-end-requires
 next-end-requires c κs = let w = some (passed (reached (not-off c))) in (w .0, number c, timed (w .1), begins c (w .1))
@@ -138,7 +140,8 @@ sub-if3 : tie.Need-sub-if3
 sub-if3 c =
     let N = not-off (c .before) in
     let A = some (passed (reached N)) .1 in
-    due-length A (begun N .args .self) (number (c .before)) (here (reached N) A) (still N A) (c .before .before .stage .given .1) _ (ends c A)
+    due-length A (begun N .args .self) (number (c .before)) (here (reached N) A) (still N A) (c .before .before .stage .given .1) _
+    (ends c A)
 
 at-requires-3 : tie.Need-at-requires-3
 at-requires-3 c κs = search needs
@@ -209,7 +212,8 @@ returns-5 c =
     record {
       done = λ z t A.
           rw (c .before .stage-after .ensures)
-          (step-answer A _ (c .done .ensures) p k is-due (begins (E .before) A) _ (ends E A) (G .plan-intervals .result) (S .args .out .now) _
+          (step-answer A _ (c .done .ensures) p k is-due (begins (E .before) A) _ (ends E A) (G .plan-intervals .result)
+          (S .args .out .now) _
           (G .plan-intervals .ensures t k _
           (due-plannable A p k (here (reached N) A) (still N A) is-due (size S) _ _ (ends E A) (L .if3 .left)))
           (step-done t (plannerOf p) (length (S .args .out .now)) (still N A) k (ap stageOf is-due)
