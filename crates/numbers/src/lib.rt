@@ -2,6 +2,7 @@ ghost use mathlib.Core.Path.{_≡_};
 ghost use Prim.Native.Nat.{_^_, _<_, _≤_};
 ghost use lib.IntN.{pos, _-ℤ_};
 ghost use Rattle.numbers.specs.Pairs.{IsGcd, IsLcm};
+ghost use Rattle.numbers.specs.Word.{Stretch};
 
 // The greatest common divisor, by remainders.
 pub fn gcd_of(a: u64, b: u64) -> u64
@@ -31,4 +32,15 @@ pub fn less(a: u64, b: u64) -> i64
     ensures { λ r. ⌜ r ≡ pos a -ℤ pos b ⌝ }
 {
     a as i64 - b as i64
+}
+
+// The word of the bits from `a` up to `b`, without `b`.
+pub fn stretch(a: usize, b: usize) -> u64
+    requires { ⌜ b < 64 ⌝ }
+    ensures { λ r. ⌜ Stretch a b r ⌝ }
+{
+    if b <= a {
+        return 0;
+    }
+    (1u64 << b) - (1u64 << a)
 }

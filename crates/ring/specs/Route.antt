@@ -4,11 +4,14 @@
 --   Element M e            e is one of the elements 1 to M; segments have the same numbers
 --   routeUses M a b s      the route from element a clockwise to element b uses segment s
 --   routeThrough M a b e   it goes through element e
+--   Shows M w p            word w shows the elements that have p: element e by bit e, or by bit M + e
 --   place M c e            element e's number on the line, clockwise from the cut c as 1, 2, and so on
 --   endPlace M c e         the same for a second end: M + 1 at the cut
-use mathlib.Core.Bool.{Bool, _&&_, cond}
+use mathlib.Core.Path.{_≡_}
+use mathlib.Core.Bool.{Bool, _&&_, _||_, cond}
 use Prim.Native.Nat.{ℕ, suc, _+_, _≤_}
 use lib.Dec.{ltb, eqb}
+use Rattle.numbers.specs.Word.{bit}
 use Rattle.rules.specs.Bus.{steps}
 
 pub record Element (M e : ℕ) : Type 0 where
@@ -20,6 +23,9 @@ routeUses M a b s = ltb (steps M a s) (steps M a b)
 
 unfoldable pub routeThrough : ℕ → ℕ → ℕ → ℕ → Bool
 routeThrough M a b e = ltb 0 (steps M a e) && routeUses M a b e
+
+pub record Shows (M w : ℕ) (p : ℕ → Bool) : Type 0 where
+  pub element : (e : ℕ) → Element M e → (bit w e || bit w (M + e)) ≡ p e
 
 unfoldable pub place : ℕ → ℕ → ℕ → ℕ
 place M c e = suc (steps M c e)
