@@ -14,7 +14,7 @@ use lib.Dec.{T, eqb, leb, ltb, eqb→eq, lit<, leb→le, le→leb, ltb→lt, lt�
 use lib.Pow.{pow-pos, pow-mono, pow-lt, shr-shr}
 use Rattle.numbers.specs.Finite.{only}
 use Rattle.numbers.specs.Word.{bit, Stretch}
-use Rattle.numbers.proofs.Truth.{both, fst, snd, orl, orr, or-cases, same, along, is-false, of-false, eqb-of, is-true}
+use Rattle.numbers.proofs.Truth.{both, fst, snd, orl, orr, or-cases, same, along, is-false, eqb-of, is-true}
 use Rattle.numbers.proofs.Finite.{below, only-true, only-false}
 
 unfoldable pub word : ℕ → (ℕ → Bool) → ℕ
@@ -159,16 +159,6 @@ lt-of-bits (suc n) w h =
 
 -- ---- words that share no bit
 
-pub and-zero : (v w : ℕ) → ((i : ℕ) → T (bit v i) → T (bit w i) → ⊥) → bitAnd v w ≡ 0
-and-zero v w h =
-    bit-ext (bitAnd v w) 0
-    (λ i. bit-and v w i
-    ∙ is-false (bit v i && bit w i) (λ t. h i (fst (bit v i) (bit w i) t) (snd (bit v i) (bit w i) t)) ∙ sym (bit-zero i))
-
-pub apart-of-and : (v w : ℕ) → bitAnd v w ≡ 0 → (i : ℕ) → T (bit v i) → T (bit w i) → ⊥
-apart-of-and v w e i p q =
-    of-false (sym (bit-and v w i) ∙ ap (λ (k : ℕ). bit k i) e ∙ bit-zero i) (both (bit v i) (bit w i) p q)
-
 -- ---- the word of a set
 
 bit-only : (b : Bool) (n i : ℕ) → bit (only b (2 ^ n)) i ≡ (b && eqb i n)
@@ -204,14 +194,6 @@ bit-word (suc n) p i =
 pub word-lt : (n : ℕ) (p : ℕ → Bool) → word n p < 2 ^ n
 word-lt n p =
     lt-of-bits n (word n p) (λ i h t. omega (arith, ltb→lt i n (fst (ltb i n) (p i) (along (bit-word n p i) t))))
-
--- a word is the word of its bits
-pub word-bit : (n w : ℕ) → w < 2 ^ n → word n (bit w) ≡ w
-word-bit n w h =
-    bit-ext (word n (bit w)) w
-    (λ i. bit-word n (bit w) i
-    ∙ same (ltb i n && bit w i) (bit w i) (snd (ltb i n) (bit w i))
-    (λ t. both (ltb i n) (bit w i) (lt→ltb i n (bit-lt n w i h t)) t))
 
 -- equal sets, equal words
 pub word-eq : (n : ℕ) (p q : ℕ → Bool) → ((i : ℕ) → i < n → p i ≡ q i) → word n p ≡ word n q

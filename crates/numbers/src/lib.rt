@@ -1,5 +1,5 @@
 ghost use mathlib.Core.Path.{_≡_};
-ghost use Prim.Native.Nat.{_^_, _<_, _≤_};
+ghost use Prim.Native.Nat.{_^_, _<_};
 ghost use lib.IntN.{pos, _-ℤ_};
 ghost use Rattle.numbers.specs.Pairs.{IsGcd, IsLcm};
 ghost use Rattle.numbers.specs.Word.{Stretch};
@@ -20,7 +20,7 @@ pub fn gcd_of(a: u64, b: u64) -> u64
 
 // The least common multiple; the bounds keep it a u64.
 pub fn lcm_of(a: u64, b: u64) -> u64
-    requires { ⌜ (0 < a) × (0 < b) × (a ≤ 4096) × (b ≤ 4096) ⌝ }
+    requires { ⌜ (0 < a) × (0 < b) × (a < 2 ^ 32) × (b < 2 ^ 32) ⌝ }
     ensures { λ r. ⌜ IsLcm a b r ⌝ }
 {
     a / gcd_of(a, b) * b

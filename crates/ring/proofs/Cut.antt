@@ -12,10 +12,10 @@ use Rattle.numbers.specs.Word.{bit, Stretch}
 use Rattle.numbers.proofs.Truth.{both, fst, snd, orl, orr, or-cases, same, refuted, refutes, decide, of-true, of-false, le-or-lt}
 use Rattle.numbers.proofs.Word.{bit-zero, bit-or, inside}
 use Rattle.numbers.proofs.Finite.{any-next, any-of, least, lowest-le, lowest-has, lowest-below, lowest-is, lowest-none}
-use Rattle.rules.specs.Bus.{Table, steps, through}
+use Rattle.rules.specs.Bus.{Table, steps, through, routeThrough}
 use Rattle.rules.specs.Line.{clear, cut}
 use Rattle.rules.specs.Refusals.{no-cut}
-use Rattle.ring.specs.Route.{Element, Shows, routeUses, routeThrough}
+use Rattle.ring.specs.Route.{Element, Shows}
 use Rattle.ring.proofs.Clockwise.{steps-cases, steps-less}
 
 -- ---- clear elements
@@ -98,7 +98,7 @@ unfolding clear bit
 shows-clear {M} {w} t S e h =
     ap not (bit-or w (w / 2 ^ M) e ∙ ap (λ (b : Bool). bit w e || b) (ap (λ (k : ℕ). eqb (k % 2) 1) (shr-shr w M e)) ∙ S .element e h)
 
--- a route that goes through e comes to it at place e, or at place M + e once round
+-- a route that goes through e comes to it as element e, or as element M + e once round
 module _ {M a b e : ℕ} (ea : Element M a) (eb : Element M b) (ee : Element M e) where
   abbrev goes : Bool
   goes = ltb 0 (steps M a e) && ltb (steps M a e) (steps M a b)
@@ -106,8 +106,8 @@ module _ {M a b e : ℕ} (ea : Element M a) (eb : Element M b) (ee : Element M e
   abbrev here : ℕ → Bool
   here k = leb (a + 1) k && ltb k (a + steps M a b)
 
-  at-place : (k : ℕ) → a + 1 ≤ k → k < a + steps M a b → T (here k)
-  at-place k l m = both (leb (a + 1) k) (ltb k (a + steps M a b)) (le→leb (a + 1) k l) (lt→ltb k (a + steps M a b) m)
+  stands : (k : ℕ) → a + 1 ≤ k → k < a + steps M a b → T (here k)
+  stands k l m = both (leb (a + 1) k) (ltb k (a + steps M a b)) (le→leb (a + 1) k l) (lt→ltb k (a + steps M a b) m)
 
   through-here : T (here e || here (M + e)) → T goes
   through-here h =
@@ -128,12 +128,11 @@ module _ {M a b e : ℕ} (ea : Element M a) (eb : Element M b) (ee : Element M e
       let l : 0 < steps M a e = ltb→lt _ _ (fst (ltb 0 (steps M a e)) _ h) in
       let m : steps M a e < steps M a b = ltb→lt _ _ (snd (ltb 0 (steps M a e)) _ h) in
       ⊎-elim
-      (λ u. orl (here e) (here (M + e)) (at-place e (omega arith) (omega arith)))
-      (λ u. orr (here e) (here (M + e)) (at-place (M + e) (omega arith) (omega arith)))
+      (λ u. orl (here e) (here (M + e)) (stands e (omega arith) (omega arith)))
+      (λ u. orr (here e) (here (M + e)) (stands (M + e) (omega arith) (omega arith)))
       (steps-cases ea ee)
 
 pub stretch-shows : {M a b w : ℕ} → Element M a → Element M b → Stretch (a + 1) (a + steps M a b) w → Shows M w (routeThrough M a b)
-unfolding routeThrough routeUses
 stretch-shows {M} ea eb S = record {
   element = λ e ee. ap₂ _||_ (S .bits e) (S .bits (M + e)) ∙ same _ _ (through-here ea eb ee) (here-through ea eb ee);
 }

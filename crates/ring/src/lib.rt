@@ -11,7 +11,7 @@ ghost use Rattle.rules.specs.Bus as bus;
 ghost use Rattle.rules.specs.Line as line;
 ghost use Rattle.ring.specs.Route as route;
 ghost use Rattle.ring.specs.Route.{Element, Shows};
-ghost use Rattle.ring.specs.Laid.{Routes, onRing, Laid};
+ghost use Rattle.ring.specs.Rows.{Routes, onRing, Renumbered};
 
 // The rows' ends on the line, 0 past the last row.
 pub struct Line {
@@ -31,25 +31,29 @@ fn steps(m: usize, from: usize, to: usize) -> usize
 // route has passed from element m to element 1.
 fn through(m: usize, from: usize, to: usize) -> u64
     requires { ⌜ (m ≤ max-elements) × Element m from × Element m to ⌝ }
-    ensures { λ r. ⌜ Shows m r (route.routeThrough m from to) ⌝ }
+    ensures { λ r. ⌜ Shows m r (bus.routeThrough m from to) ⌝ }
 {
     numbers::stretch(from + 1, from + steps(m, from, to))
 }
 
 // Element `e`'s number on the line that begins at `cut`.
-fn place(m: usize, cut: usize, e: usize) -> usize
+fn line_element(m: usize, cut: usize, e: usize) -> usize
     requires { ⌜ (m ≤ max-elements) × Element m cut × Element m e ⌝ }
-    ensures { λ r. ⌜ (r ≡ route.place m cut e) × (r ≤ m) ⌝ }
+    ensures { λ r. ⌜ (r ≡ route.lineElement m cut e) × (r ≤ m) ⌝ }
 {
     steps(m, cut, e) + 1
 }
 
 // The same for a second end, which at the cut stands at the end of the line.
-fn end_place(m: usize, cut: usize, e: usize) -> usize
+fn line_end(m: usize, cut: usize, e: usize) -> usize
     requires { ⌜ (m ≤ max-elements) × Element m cut × Element m e ⌝ }
-    ensures { λ r. ⌜ (r ≡ route.endPlace m cut e) × (r ≤ m + 1) ⌝ }
+    ensures { λ r. ⌜ (r ≡ route.lineEnd m cut e) × (r ≤ m + 1) ⌝ }
 {
-    if e == cut { m + 1 } else { place(m, cut, e) }
+    if e == cut {
+        m + 1
+    } else {
+        line_element(m, cut, e)
+    }
 }
 
 // The elements that some row goes through: bit e shows element e.
@@ -102,14 +106,14 @@ pub fn lay<'a>(
     cut: usize,
 ) -> Line
     requires { ⌜ Routes elements rows (at (now first)) (at (now second)) × Element elements cut ⌝ }
-    ensures { λ r. ⌜ Laid elements cut rows (at (now (first .entry))) (at (now (second .entry))) r ⌝ }
+    ensures { λ r. ⌜ Renumbered elements cut rows (at (now (first .entry))) (at (now (second .entry))) r ⌝ }
 {
     let mut start = [0u8; Table::ROWS];
     let mut end = [0u8; Table::ROWS];
     let mut i: usize = 0;
     while i < rows {
-        start[i] = place(elements, cut, table::end_at(first, i)) as u8;
-        end[i] = end_place(elements, cut, table::end_at(second, i)) as u8;
+        start[i] = line_element(elements, cut, table::end_at(first, i)) as u8;
+        end[i] = line_end(elements, cut, table::end_at(second, i)) as u8;
         i += 1;
     }
     Line {

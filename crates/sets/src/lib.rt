@@ -4,9 +4,11 @@
 // some row has started since the second end before it. So a word and a bool find the sets, in their order, and nothing is sorted.
 use table::Table;
 ghost use mathlib.Core.Path.{_≡_};
-ghost use Prim.Native.Nat.{ℕ, _≤_, _<_};
+ghost use Prim.Native.Nat.{ℕ, _*_, _≤_, _<_};
+ghost use Rattle.numbers.specs.Finite.{sumIn};
+ghost use Rattle.numbers.specs.Word.{bit};
 ghost use Rattle.numbers.specs.Lists.{at};
-ghost use Rattle.rules.specs.Bounds.{max-rows};
+ghost use Rattle.rules.specs.Bounds.{max-rows, max-slots};
 ghost use Rattle.sets.specs.Walk.{line-size, RowsAt};
 ghost use Rattle.sets.specs.Sets.{OnLine, Listed};
 
@@ -70,4 +72,20 @@ pub fn list_sets(
         e += 1;
     }
     Sets { count, words }
+}
+
+// The sum of `xs` over the rows of the set whose word is `word`.
+pub fn sum_in(rows: usize, word: u64, xs: &[u64; Table::ROWS]) -> u64
+    requires { ⌜ (rows ≤ max-rows) × ((i : ℕ) → i < rows → at (now xs) i ≤ max-slots) ⌝ }
+    ensures { λ r. ⌜ (r ≡ sumIn rows (bit word) (at (now (xs .entry)))) × (r ≤ max-rows * max-slots) ⌝ }
+{
+    let mut sum: u64 = 0;
+    let mut i: usize = 0;
+    while i < rows {
+        if (word >> i) % 2 == 1 {
+            sum += xs[i];
+        }
+        i += 1;
+    }
+    sum
 }

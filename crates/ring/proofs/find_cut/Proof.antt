@@ -1,6 +1,6 @@
 -- `ring::find_cut` meets its contract. The loop's invariant: no element before `e` is clear.
 use mathlib.Core.Path.{_≡_, sym, ap, _∙_}
-use mathlib.Core.Bool.{Bool, true, false, not}
+use mathlib.Core.Bool.{not}
 use Prim.Native.Nat.{ℕ, _+_, _-_, _/_, _%_, _^_, _<_}
 use native.Mathlib.Nat.{mod-lt}
 use native.Mathlib.Omega.{arith}
@@ -8,7 +8,7 @@ use borrow.Author.Needs.{needs}
 use lib.Dec.{eqb}
 use Rattle.numbers.specs.Lists.{at}
 use Rattle.numbers.specs.Word.{bit}
-use Rattle.ring.specs.Laid.{onRing}
+use Rattle.ring.specs.Rows.{onRing}
 use Rattle.ring.proofs.Cut.{Searched, searched-start, searched-next, searched-found, searched-all}
 use Rattle.ring.proofs.find_cut.Statement.{statement}
 use Rattle.ring.proofs.find_cut.Tie as tie

@@ -6,7 +6,7 @@ use Rattle.numbers.specs.Finite.{any}
 use Rattle.numbers.specs.Lists.{at}
 use Rattle.rules.specs.Bus.{through}
 use Rattle.ring.specs.Route.{Shows}
-use Rattle.ring.specs.Laid.{onRing}
+use Rattle.ring.specs.Rows.{onRing}
 use Rattle.ring.proofs.Cut.{shows-none, shows-next, shows-clear}
 use Rattle.ring.proofs.Rows.{row-through}
 use Rattle.ring.proofs.through_rows.Statement.{statement}

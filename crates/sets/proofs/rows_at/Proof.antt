@@ -1,5 +1,4 @@
 -- `sets::rows_at` meets its contract. The loop's invariant: the rows before row `i` are in.
-use mathlib.Core.Path.{_≡_}
 use Prim.Native.Nat.{_-_, _≤_, _<_}
 use native.Mathlib.Omega.{arith}
 use Rattle.numbers.specs.Lists.{at}
