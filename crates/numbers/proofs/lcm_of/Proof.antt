@@ -14,7 +14,8 @@ div-result c = pos-of-dvd-of-pos (c .gcd-of .ensures .left) (c .before .pre .0)
 
 mul-result : tie.Need-mul-result
 mul-result c =
-    omega (arith, mul-le-mul (le-trans (div-le-self (c .before .args .a) (c .gcd-of .result)) (c .before .pre .2)) (c .before .pre .3))
+    let small = le-trans (div-le-self (c .before .args .a) (c .gcd-of .result)) (c .before .pre .2) in
+    omega (arith, mul-le-mul small (c .before .pre .2), mul-le-mul small (c .before .pre .3))
 
 returns : tie.Need-returns
 returns c = pair-lcm-by (c .before .args .a) (c .before .args .b) (c .gcd-of .result) (c .before .pre .0) (c .gcd-of .ensures)
