@@ -73,14 +73,14 @@ static int make(struct file *f, unsigned rows, unsigned interval, unsigned inter
         r[4] = (uint8_t)first;
         r[5] = (uint8_t)second;
     }
-    if (ring_verdict(f->byte, f->length)) return 0;
+    if (words_verdict(f->byte, f->length)) return 0;
     for (unsigned turn = 0; turn < 60 * rows; turn++) {
         uint8_t *r = f->byte + 7 + 6 * below(rows);
         uint8_t low = r[0], high = r[1];
         unsigned cost = low + 256u * high + 1 + below(1 + interval / 8);
         r[0] = (uint8_t)(cost & 255);
         r[1] = (uint8_t)(cost >> 8);
-        if (ring_verdict(f->byte, f->length)) r[0] = low, r[1] = high;
+        if (words_verdict(f->byte, f->length)) r[0] = low, r[1] = high;
     }
     return 1;
 }
