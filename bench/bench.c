@@ -3,8 +3,7 @@
  *     bench            a table of times and ratios
  *     bench --check    only that all three give the same words on every table measured; no times
  *
- * Each figure is the best of several rounds of CPU time, divided by the calls of a round. All plan into a buffer that is not cleared between
- * calls. */
+ * Times are CPU time in microseconds a call, the best of several rounds. All plan into one buffer, which is not cleared between calls. */
 #include "plain.h"
 #include "ringplan.h"
 
@@ -138,7 +137,7 @@ static int run(unsigned rows, unsigned interval, unsigned intervals, int check) 
     unsigned made = 0, tries = 0;
     while (made < TABLES && tries++ < 4000) made += (unsigned)make(&f[made], rows, interval, intervals);
     if (made < TABLES) {
-        if (!check) printf("%4u %5u %9u   (too few such tables are admitted)\n", rows, interval, intervals);
+        if (!check) printf("| %4u | %4u | %9u | too few such tables are admitted |\n", rows, interval, intervals);
         return 1;
     }
     if (!same(f, interval * intervals)) {
@@ -149,9 +148,11 @@ static int run(unsigned rows, unsigned interval, unsigned intervals, int check) 
     double plan[MEASURED], verdict[MEASURED];
     words_intervals = words_settled = 0;
     measure(f, 1 + 400000 / (rows * intervals * 20 + interval * intervals), plan, verdict);
-    printf("%4u %5u %9u %11.2f %8.2f %6.2f %8.2f %6.2f %8.2f %7.0f%% %13.2f %8.2f %6.2f %8.2f %6.2f\n", rows, interval, intervals, plan[0],
-        plan[1], plan[0] / plan[1], plan[2], plan[0] / plan[2], plan[0] / intervals, 100.0 * (double)words_settled / (double)words_intervals,
-        verdict[0], verdict[1], verdict[0] / verdict[1], verdict[2], verdict[0] / verdict[2]);
+    printf("| %4u | %4u | %9u | %9.2f | %7.2f | %5.2f | %7.2f | %5.2f | %11.2f | %6.0f%% ", rows, interval, intervals, plan[0], plan[1],
+        plan[0] / plan[1], plan[2], plan[0] / plan[2], plan[0] / intervals, 100.0 * (double)words_settled / (double)words_intervals);
+    printf("| %12.2f | %7.2f | %5.2f | %7.2f | %5.2f |\n", verdict[0], verdict[1], verdict[0] / verdict[1], verdict[2],
+        verdict[0] / verdict[2]);
+    fflush(stdout);
     return 1;
 }
 
@@ -166,8 +167,11 @@ int main(int argc, char **argv) {
         fprintf(stderr, "bench: a time under an emulator says nothing; bench/run builds for the processor at hand\n");
         return 2;
     }
-    if (!check)
-        printf("rows     L intervals   ring_plan  words.c  ratio  plain.c  ratio an intvl settled  ring_verdict  words.c  ratio  plain.c  ratio\n");
+    if (!check) {
+        printf("| rows |    L | intervals | ring_plan | words.c | ratio | plain.c | ratio | an interval | settled ");
+        printf("| ring_verdict | words.c | ratio | plain.c | ratio |\n");
+        printf("|---|---|---|---|---|---|---|---|---|---|---|---|---|---|---|\n");
+    }
     for (unsigned a = 0; a < 3; a++)
         for (unsigned b = 0; b < 3; b++)
             for (unsigned c = 0; c < 3; c++)

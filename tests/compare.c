@@ -1,5 +1,5 @@
-/* Compares the library over the C boundary with the oracle, and its words with those of the two plain C planners, on random tables: good, at
- * the bound, just past it and damaged.
+/* Compares the library over the C boundary with the oracle, and its words with those of the two plain C planners, on random tables: good,
+ * at the bound, just past it and damaged.
  *
  *     compare TABLES SEED          all kinds of tables
  *     compare TABLES SEED routes   tables of many rows with long routes, well loaded: there the choice of loads is hardest
@@ -206,7 +206,8 @@ static int unchanged_from(unsigned from, const uint64_t *plan, unsigned room) {
 /* The values and the list of sets, with room for all, for one too few and for more. */
 static void compare_values(const struct file *given, const uint8_t *file, const struct verdict *v) {
     uint32_t values[RING_VALUES + 1], expected[RING_VALUES + 1];
-    unsigned room = below(RING_VALUES + 2), wrong = v->number ? 256 * v->number + v->place : room < RING_VALUES ? 256 * RING_SHORT_OUTPUT : 0;
+    unsigned room = below(RING_VALUES + 2), wrong = 256 * v->number + v->place;
+    if (!v->number && room < RING_VALUES) wrong = 256 * RING_SHORT_OUTPUT;
     for (unsigned k = 0; k <= RING_VALUES; k++) values[k] = expected[k] = below(1u << 31);
     if (!wrong) {
         expected[RING_CUT] = v->cut;
@@ -223,7 +224,8 @@ static void compare_values(const struct file *given, const uint8_t *file, const 
 static void compare_sets(const struct file *given, const uint8_t *file, const struct verdict *v) {
     uint64_t sets[MAX_ROWS + 1], expected[MAX_ROWS + 1];
     unsigned listed = v->number == 0 || v->number > 12, room = listed && below(3) ? v->sets : below(MAX_ROWS + 2);
-    unsigned wrong = !listed ? 256 * v->number + v->place : room < v->sets ? 256 * RING_SHORT_OUTPUT : 0;
+    unsigned wrong = listed ? 0 : 256 * v->number + v->place;
+    if (listed && room < v->sets) wrong = 256 * RING_SHORT_OUTPUT;
     for (unsigned k = 0; k <= MAX_ROWS; k++) sets[k] = expected[k] = below(1u << 31);
     if (!wrong) memcpy(expected, v->set, v->sets * sizeof *expected);
     if (ring_sets(file, given->length, room ? sets : NULL, room) != wrong) fail(given, "sets are answered wrongly");
