@@ -48,7 +48,7 @@ enum {
 #define RING_PLACE(answer) ((unsigned)((answer) % 256))
 
 /* the longest table file, the longest plan, the most sets, and the most stack in bytes */
-enum { RING_FILE_BYTES = 391, RING_PLAN_SLOTS = 4096, RING_MOST_SETS = 64, RING_STACK_BYTES = 17408 };
+enum { RING_FILE_BYTES = 391, RING_PLAN_SLOTS = 4096, RING_MOST_SETS = 64, RING_STACK_BYTES = 19456 };
 
 /* Whether the bus can carry the table. Gives 0 to 14. */
 uint32_t ring_verdict(const uint8_t *file, size_t file_bytes);
