@@ -19,7 +19,7 @@ fn put_byte(b: u8, out: &mut [u8], at: usize) -> usize
     at + 1
 }
 
-fn put_bytes(text: &[u8], out: &mut [u8], at: usize) -> usize
+pub fn put_bytes(text: &[u8], out: &mut [u8], at: usize) -> usize
     requires { ⌜ at + length (now text) ≤ limit ⌝ }
     ensures { λ r. ⌜ Puts (now (text .entry)) (now (out .entry)) at (now (out .exit)) r ⌝ }
 {
