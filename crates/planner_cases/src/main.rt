@@ -8,7 +8,6 @@
 use cases::find;
 use cases::print;
 use cases::table_file;
-use check::same;
 use libc::STDIN_FILENO;
 use libc::STDOUT_FILENO;
 use planner::Planner;
@@ -22,6 +21,14 @@ const KEPT: u64 = 9;
 
 // ---- the calls
 
+fn print_answer(heading: &[u8], number: u32, place: u32) {
+    print(heading, &[number as u64, place as u64]);
+}
+
+fn print_words(words: &[u64]) {
+    print(b" words", words);
+}
+
 fn print_stage(stage: Stage) {
     match stage {
         Stage::Due(k) => {
@@ -33,21 +40,25 @@ fn print_stage(stage: Stage) {
     }
 }
 
+fn print_totals(totals: [u64; Table::ROWS]) {
+    print(b" totals", &[totals[0], totals[1], totals[2], totals[3]]);
+}
+
 fn plan(heading: &[u8], file: &[u8], words: &mut [u64]) {
     let r = planner::whole_plan(file, words);
-    print(heading, &[r.number as u64, r.place as u64]);
-    print(b" words", words);
+    print_answer(heading, r.number, r.place);
+    print_words(words);
 }
 
 fn step(heading: &[u8], planner: Planner, file: &[u8], words: &mut [u64]) {
     let r = planner.step(file, words);
-    print(heading, &[r.number as u64, r.place as u64]);
+    print_answer(heading, r.number, r.place);
     let after = r.planner;
     let stage = after.stage;
     let totals = after.totals;
     print_stage(stage);
-    print(b" totals", &[totals[0], totals[1], totals[2], totals[3]]);
-    print(b" words", words);
+    print_totals(totals);
+    print_words(words);
 }
 
 // A standing where h is 8: so many ahead, or behind.
@@ -70,7 +81,7 @@ fn standing(x: i64) {
 
 fn standings(heading: &[u8], planner: Planner, file: &[u8]) {
     let r = planner.standings(file);
-    print(heading, &[r.number as u64, r.place as u64]);
+    print_answer(heading, r.number, r.place);
     let values = r.values;
     standing(values[0]);
     standing(values[1]);
@@ -80,38 +91,32 @@ fn standings(heading: &[u8], planner: Planner, file: &[u8]) {
 
 // ---- a case
 
-// What the call's name says.
-fn call(
-    heading: &[u8],
-    name: &[u8],
-    due: Planner,
-    finished: Planner,
-    file: &[u8],
-    words: &mut [u64],
-) {
-    if same(name, b"plan") {
-        plan(heading, file, words);
-        return;
-    }
-    if same(name, b"step") {
-        step(heading, due, file, words);
-        return;
-    }
-    if same(name, b"step_finished") {
-        step(heading, finished, file, words);
-        return;
-    }
-    if same(name, b"standings") {
-        standings(heading, due, file);
-        return;
-    }
-    if same(name, b"standings_finished") {
-        standings(heading, finished, file);
-    }
+fn byte_at(text: &[u8], k: usize) -> u8 {
+    if k < text.len() { text[k] } else { 0 }
 }
 
 fn at(given: &[u64], k: usize) -> u64 {
     if k < given.len() { given[k] } else { 0 }
+}
+
+// The calls are told apart by a letter each.
+fn call(heading: &[u8], planner: Planner, file: &[u8], words: &mut [u64]) {
+    if byte_at(heading, 0) == b'p' {
+        plan(heading, file, words);
+        return;
+    }
+    if byte_at(heading, 2) == b'e' {
+        step(heading, planner, file, words);
+        return;
+    }
+    standings(heading, planner, file);
+}
+
+fn stage_of(heading: &[u8], k: u64) -> Stage {
+    if find(heading, 0, b'_') < find(heading, 0, b' ') {
+        return Stage::Finished;
+    }
+    Stage::Due(k)
 }
 
 fn planner_of(stage: Stage, given: &[u64]) -> Planner {
@@ -127,20 +132,21 @@ fn planner_of(stage: Stage, given: &[u64]) -> Planner {
 }
 
 // The call on the front of the file and of the words.
-fn front(heading: &[u8], given: &[u64], file: &[u8], size: usize, words: &mut [u64], room: usize) {
-    let end = find(heading, 0, b' ');
-    if size <= file.len() {
-        if room <= words.len() {
-            call(
-                heading,
-                &heading[..end],
-                planner_of(Stage::Due(at(given, 1)), given),
-                planner_of(Stage::Finished, given),
-                &file[..size],
-                &mut words[..room],
-            );
-        }
+fn front(
+    heading: &[u8],
+    planner: Planner,
+    file: &[u8],
+    size: usize,
+    words: &mut [u64],
+    room: usize,
+) {
+    if size > file.len() {
+        return;
     }
+    if room > words.len() {
+        return;
+    }
+    call(heading, planner, &file[..size], &mut words[..room]);
 }
 
 fn run(heading: &[u8], given: &[u64]) {
@@ -151,13 +157,17 @@ fn run(heading: &[u8], given: &[u64]) {
     let size = table_file(&given[6..], &mut file);
     let mut words = [KEPT; WORDS];
     let room = at(given, 0) as usize;
-    front(heading, given, &file, size, &mut words, room);
+    let planner = planner_of(stage_of(heading, at(given, 1)), given);
+    front(heading, planner, &file, size, &mut words, room);
     io::write_all(STDOUT_FILENO, b"\n");
 }
 
-// A line of the input. One that has no colon has no case.
+// A line of the input. It has a case if it has a colon, and no # before it.
 fn one(text: &[u8]) {
     let colon = find(text, 0, b':');
+    if find(text, 0, b'#') <= colon {
+        return;
+    }
     let mut given = [0u64; 64];
     let count = cases::numbers(&text[colon..], &mut given);
     if count <= 64 {

@@ -9,6 +9,12 @@ use Rattle.planner_cases.proofs.one.Tie as tie
 find-requires : tie.Need-find-requires
 find-requires c κs = search needs
 
+find-requires-2 : tie.Need-find-requires-2
+find-requires-2 c κs = search needs
+
+returns : tie.Need-returns
+returns c = search needs
+
 sub-numbers : tie.Need-sub-numbers
 sub-numbers c = search needs
 
@@ -25,28 +31,30 @@ numbers-requires : tie.Need-numbers-requires
 numbers-requires c κs = search needs
 
 slice-aggregate-run : tie.Need-slice-aggregate-run
-slice-aggregate-run c = sym (length-take-le _ _ (c .before .before .before .before .before .before .find .ensures .high))
+slice-aggregate-run c = sym (length-take-le _ _ (omega arith))
 
 array-share-prefix-given : tie.Need-array-share-prefix-given
 array-share-prefix-given c = search needs
 
 slice-aggregate-run-2 : tie.Need-slice-aggregate-run-2
-slice-aggregate-run-2 c = sym (length-take-le _ _ (omega (arith, c .before .before .before .before .numbers .kept)))
+slice-aggregate-run-2 c = sym (length-take-le _ _ (omega arith))
 
 run-requires : tie.Need-run-requires
 run-requires c κs = search needs
 
-returns : tie.Need-returns
-returns c = search needs
-
 returns-2 : tie.Need-returns-2
 returns-2 c = search needs
+
+returns-3 : tie.Need-returns-3
+returns-3 c = search needs
 
 pub one-spec : {M : Type 1} → statement M
 one-spec =
     tie.close
     (tie.spec
     find-requires
+    find-requires-2
+    returns
     sub-numbers
     part-numbers-start
     part-numbers-end
@@ -56,5 +64,5 @@ one-spec =
     array-share-prefix-given
     slice-aggregate-run-2
     run-requires
-    returns
-    returns-2)
+    returns-2
+    returns-3)
