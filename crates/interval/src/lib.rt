@@ -80,11 +80,11 @@ pub struct Layout {
 }
 
 // Lays this out, once for a table.
-pub fn lay(
+pub fn lay<'a>(
     rows: usize,
     sets: usize,
-    words: &[u64; Table::ROWS],
-    first: &[u8; Table::ROWS],
+    words: &'a [u64; Table::ROWS],
+    first: &'a [u8; Table::ROWS],
 ) -> Layout
     requires { ⌜ (rows ≤ max-rows) × (sets ≤ max-elements) × ((i : ℕ) → i < rows → at (now first) i < all-heads) ⌝ }
     ensures { λ r. ⌜ LaidOut rows sets (now (words .entry)) (now (first .entry)) r ⌝ }

@@ -138,8 +138,9 @@ fn clear(slots: usize, words: &mut [u64])
     }
 }
 
-// Writes the words of an interval of `slots` slots to the front of `words`, for rows on a line of the elements 1 to `top`, chained by their
-// first ends. `last` has the last second end in each stretch. The part of a stretch that row i leaves is stretch i + 1.
+// Writes the words of an interval of `slots` slots to the front of `words`, for any rows on a line of the elements 1 to `top` that are
+// chained so. For each stretch `end` has the slot after its last, `after` the stretch that follows and `last` the last second end there;
+// its word stands at its first slot. The scan has come to stretch k, which begins at slot s. Row i leaves stretch i + 1 of one it parts.
 pub fn fill(
     second: &[u8; Table::ROWS],
     head: &[u8; Chains::HEADS],
