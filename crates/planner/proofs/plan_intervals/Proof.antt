@@ -24,15 +24,17 @@ abbrev μ-loop : tie.MeasureT-loop
 
 -- ---- what the intervals share
 
--- the function's entry, from where the sets of each row are known
+-- the function's entry, from where it is laid out
 abbrev entry : tie.After-lay Inv-loop μ-loop → tie.Start Inv-loop μ-loop
-entry c = c .before .before .before .before .before
+entry c = c .before .before .before .before .before .before
 
 add-top : tie.Need-add-top Inv-loop μ-loop
 add-top c = record { fits = omega (arith, few-elements (c .before .pre .3 .accepted)) }
 
 lay-requires : tie.Need-lay-requires Inv-loop μ-loop
-lay-requires c κs = ?
+lay-requires c κs =
+    let A = c .before .before .before .before .before .pre .3 .accepted in
+    (few-rows A, low-sets A, firsts-low A)
 
 -- ---- where the loop begins
 
@@ -82,12 +84,9 @@ module _ (c : tie.After-next-end Inv-loop μ-loop) {t : Table} {k m : ℕ} (P : 
   place-low : c .before .before .loop .at ≤ max-slots
   place-low = omega (arith, done .place, ends-low, roomy .0)
 
--- the turn, from where the arrays for its work are lent
-abbrev sharing : tie.After-next2 Inv-loop μ-loop → tie.After-next-end Inv-loop μ-loop
-sharing c = c .before .before .before .before .before .before .before .before .before .before .before .before .before .before .before
-
-abbrev lending : tie.After-last Inv-loop μ-loop → tie.After-next-end Inv-loop μ-loop
-lending c = sharing (c .before .before .before .before .before .before)
+-- the turn, from where all is lent to the interval
+abbrev lending : tie.After-after Inv-loop μ-loop → tie.After-next-end Inv-loop μ-loop
+lending c = c .before .before .before .before .before .before .before .before .before .before .before .before
 
 mul-advance : tie.Need-mul-advance Inv-loop μ-loop
 mul-advance c = let I = lending c in omega (arith, place-low I (given (I .before)))
@@ -118,7 +117,7 @@ advance-requires c κs =
 
 -- the turn, from where the interval is done
 abbrev turn : tie.After-slice-known2 Inv-loop μ-loop → tie.After-next-end Inv-loop μ-loop
-turn c = lending (c .before .before .before .before .before)
+turn c = lending (c .before .before .before .before)
 
 sub-at : tie.Need-sub-at Inv-loop μ-loop
 sub-at c = let I = turn c in omega (arith, roomy I (given (I .before)))
@@ -133,7 +132,7 @@ loop-again : tie.Need-loop-again Inv-loop μ-loop
 loop-again c =
     let I = turn c in
     let N = I .before .before .before in
-    let D = c .before .before .before .advance in
+    let D = c .before .before .advance in
     let last = D .last .1 .1 .1 .1 .1 .1 .1 .1 .1 .1 .1 .1 .1 in
     λ t k m P.
     planning-next (begun (I .before) .args .plan .now) P (done I P) (I .before .loop-test .taken) _ (ends I P) (last .0)
