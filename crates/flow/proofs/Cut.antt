@@ -1,18 +1,17 @@
--- The two theorems. A set of places that nothing can leave by arcs above i shows that arc i, which leads into it, carries the most that it
--- can with the arcs below it as they are; and a whole amount where the bounds and the arcs below are whole.
+-- The theorem of the cut. A set of places that nothing can leave by arcs above i shows that arc i, which leads into it, carries the most
+-- that it can with the arcs below it as they are.
 --
 --   Closed G i x r    arc i ends in the set r of places and begins outside, and no arc above i can take more out of r
-use mathlib.Core.Path.{_≡_, refl, ap, _∙_}
+use mathlib.Core.Path.{_≡_, refl}
 use mathlib.Core.Bool.{Bool, true, false}
 use mathlib.Core.Logic.{_≢_}
-use Prim.Native.Nat.{ℕ, _+_, _%_, _≤_, _<_}
+use Prim.Native.Nat.{ℕ, _+_, _≤_, _<_}
 use native.Mathlib.Decide.{decLt}
 use native.Mathlib.Omega.{arith}
 use Rattle.numbers.specs.Finite.{only}
 use Rattle.numbers.proofs.Finite.{only-true, only-false, sum-add, sum-but, le-additive}
-use Rattle.numbers.proofs.Finite.{Cong, cong-additive, cong-zero, cong-sym, zero-of-cong}
-use Rattle.flow.specs.Network.{Net, Circulation, Within}
-use Rattle.flow.specs.Raised.{WholeBounds}
+use Rattle.flow.specs.Network.{Net, Circulation}
+use Rattle.flow.specs.Raised.{Best}
 
 pub record Closed (G : Net) (i : ℕ) (x : ℕ → ℕ) (r : ℕ → Bool) : Type 0 where
   pub inside : r (G .head i) ≡ true
@@ -21,22 +20,6 @@ pub record Closed (G : Net) (i : ℕ) (x : ℕ → ℕ) (r : ℕ → Bool) : Typ
   pub bare : (e : ℕ) → e < G .arcs → i < e → r (G .head e) ≡ true → r (G .tail e) ≡ false → x e ≡ G .low e
 
 -- ---- one arc that cannot take more out of r: p says that it begins in r, q that it ends there
-
-term-cong : (h x low high : ℕ) (p q : Bool) → low % h ≡ 0 → high % h ≡ 0 → (p ≡ true → q ≡ false → x ≡ high)
-    → (q ≡ true → p ≡ false → x ≡ low) → Cong h (only p x) (only q x)
-unfolding only
-term-cong h x low high true true ml mh f b = (0, 0, refl)
-term-cong h x low high true false ml mh f b = cong-zero h x (ap (λ (k : ℕ). k % h) (f refl refl) ∙ mh)
-term-cong h x low high false true ml mh f b = cong-sym h x 0 (cong-zero h x (ap (λ (k : ℕ). k % h) (b refl refl) ∙ ml))
-term-cong h x low high false false ml mh f b = (0, 0, refl)
-
--- the same of an arc whose amount is a multiple of h
-term-whole : (h x : ℕ) (p q : Bool) → x % h ≡ 0 → Cong h (only p x) (only q x)
-unfolding only
-term-whole h x true true m = (0, 0, refl)
-term-whole h x true false m = cong-zero h x m
-term-whole h x false true m = cong-sym h x 0 (cong-zero h x m)
-term-whole h x false false m = (0, 0, refl)
 
 -- other amounts z bring no less back into r
 term-le : (x z low high : ℕ) (p q : Bool) → low ≤ z → z ≤ high → (p ≡ true → q ≡ false → x ≡ high) → (q ≡ true → p ≡ false → x ≡ low)
@@ -50,32 +33,11 @@ term-le x z low high false false l u f b = omega arith
 term-same : (x z : ℕ) (p q : Bool) → z ≡ x → only q x + only p z ≤ only p x + only q z
 term-same x z p q e = rw e (omega arith)
 
--- ---- the theorems
+-- ---- the theorem
 
 module _ (G : Net) (i : ℕ) (x : ℕ → ℕ) (r : ℕ → Bool) (l : i < G .arcs) (circ : Circulation G x) (cl : Closed G i x r) where
-  pub closed-whole : (h : ℕ) → WholeBounds G h → ((e : ℕ) → e < i → x e % h ≡ 0) → x i % h ≡ 0
-  closed-whole h mul below =
-      let k = sum-but (Cong h) (cong-additive h) (G .arcs) (λ e. only (r (G .tail e)) (x e)) (λ e. only (r (G .head e)) (x e)) i l
-      (λ e m ne. term e m ne (decLt e i)) in
-      zero-of-cong h (x i) (
-        k .0,
-        k .1,
-        omega (
-          arith,
-          k .2,
-          circ r,
-          only-true (r (G .head i)) (x i) (cl .inside),
-          only-false (r (G .tail i)) (x i) (cl .outside),
-        ),
-      )
-    where
-      term : (e : ℕ) → e < G .arcs → e ≢ i → Dec (e < i) → Cong h (only (r (G .tail e)) (x e)) (only (r (G .head e)) (x e))
-      term e m ne (yes b) = term-whole h (x e) _ _ (below e b)
-      term e m ne (no b) =
-          term-cong h (x e) (G .low e) (G .high e) _ _ (mul e m .0) (mul e m .1) (cl .full e m (omega arith)) (cl .bare e m (omega arith))
-
-  pub closed-greatest : (z : ℕ → ℕ) → Circulation G z → Within G z → ((e : ℕ) → e < i → z e ≡ x e) → z i ≤ x i
-  closed-greatest z circ' wz below =
+  pub closed-best : Best G i x
+  closed-best z circ' wz below =
       let T : (ℕ → ℕ) → ℕ → ℕ = λ y e. only (r (G .tail e)) (y e) in
       let H : (ℕ → ℕ) → ℕ → ℕ = λ y e. only (r (G .head e)) (y e) in
       let k = sum-but _≤_ le-additive (G .arcs) (λ e. H x e + T z e) (λ e. T x e + H z e) i l (λ e m ne. term e m ne (decLt e i)) in

@@ -1,5 +1,5 @@
 pub mod Network
 pub mod Cut
-pub mod Searching
-pub mod Pushing
 pub mod Raising
+pub mod Words
+pub mod Ways

@@ -1,3 +1,3 @@
 pub mod Network
-pub mod Search
 pub mod Raised
+pub mod Way

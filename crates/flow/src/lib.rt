@@ -1,419 +1,143 @@
-// Greatest circulations. A network has places and arcs; every arc carries an amount within its bounds, and as much leaves every
-// place as enters it. Given such amounts, each arc in turn is raised to the most that it can carry while the arcs before it stay as
-// they are.
+// Ways in a network, by words. A network has places and arcs; every arc carries an amount within its bounds, and as much leaves every
+// place as enters it. One more is brought from one place to another by a way: arcs ahead that carry one more, and arcs back that carry one
+// less.
 //
 // Source: document 000, section 4.3, finds the loads of an interval as a circulation with lower bounds, by the method of Ford and
 // Fulkerson. Changed against it:
-// - Nothing has to be found. The lags themselves are a circulation within the bounds, only not a whole one, so this starts from
-//   them. Raising an arc until no way is left makes it whole: the places then reached form a cut whose other arcs all stand at a bound.
-// - The same cut shows that no other choice has more on that arc. So the result is the greatest in the order of arcs, and the only one.
-// - The search is breadth-first, keeps what can be brought to each place, and so pushes all that its way can take at once. Arcs at a
-//   place are met by lists that fall, so that a scan stops at the first arc that may not change any more.
-//
-// What can be brought forward by an arc is its upper bound less its amount, and backward its amount less its lower bound. Both are
-// one scan, which knows an arc's near and far end and the two numbers whose difference it can take.
+// - The places stand in a line and the arcs are of two kinds: rows, which carry 0 or 1, and sets, each from a place to the one before it.
+// - What can be taken is four words: the rows that can carry one more or one less, and the sets. So are the places reached and those
+//   gone on from, and to each place the rows that are toggled on the way there. There are no amounts and no queue, and no way is
+//   walked back: an exclusive or toggles it.
+// - Where no way is found, the places reached form a cut whose arcs all stand at a bound. So an arc into it carries the most that it can.
+use table::Table;
 ghost use mathlib.Core.Path.{_≡_};
+ghost use mathlib.Core.Bool.{Bool, true};
 ghost use mathlib.Core.Logic.{_≢_};
-ghost use Prim.Native.Nat.{ℕ, _+_, _<_, _≤_};
+ghost use Prim.Native.Nat.{ℕ, _+_, _-_, _<_, _≤_};
 ghost use lib.ListN.{length};
 ghost use Rattle.numbers.specs.Lists.{at};
-ghost use Rattle.flow.specs.Network.{arcs-most, places-most, net, Circulation, Within, Ends, Linked, Ready};
-ghost use Rattle.flow.specs.Search.{reach, Wide, Room, Gain, Marks, Queue, Side, Scanned, Found};
-ghost use Rattle.flow.specs.Raised.{Shifted, Pushed, Tried, Raised, Settled};
+ghost use Rattle.numbers.specs.Word.{bit};
+ghost use Rattle.flow.specs.Network.{places-most, Net, Circulation};
+ghost use Rattle.flow.specs.Way.{Wired, Narrow, Shown, Visited, Passed, Sought};
 
-// What the arrays hold: 64 rows and 64 sets as arcs, and the places between the sets, in whole words.
-pub const ARCS: usize = 128;
+// A line of so many sets has one place more.
+pub const PLACES: usize = Table::ELEMENTS + 1;
 
-pub const PLACES: usize = 72;
-
-// What an arc with `spare` left brings to a place of rank `rk` from one where `top` is: 0 where nothing, or where it is reached already.
-fn gain(rk: u8, top: u64, spare: u64) -> u64
-    requires { ⌜ 0 < top ⌝ }
-    ensures { λ r. ⌜ Gain rk top spare r ⌝ }
-{
-    if rk != 0 {
-        return 0;
-    }
-    if spare < top {
-        return spare;
-    }
-    top
+// What can be taken: `up` and `down` are the rows that can carry one more and one less, `more` the sets that can carry one more, by the
+// place where they start, and `less` the sets that can carry one less, by the place where they end.
+pub struct Arcs {
+    pub up: u64,
+    pub down: u64,
+    pub more: u64,
+    pub less: u64,
 }
 
-// Place w is reached, as the m-th, by arc c, with d.
-fn mark(
-    rank: &mut [u8; PLACES],
-    by: &mut [u8; PLACES],
-    amount: &mut [u64; PLACES],
-    queue: &mut [u8; PLACES + 1],
-    w: usize,
-    m: usize,
-    c: usize,
-    d: u64,
-)
-    requires { ⌜ (w < places-most) × (m ≤ places-most) × (c < arcs-most) × Wide (now rank) (now by) (now amount) (now queue) ⌝ }
-    ensures { λ r. ⌜ Wide (now (rank .exit)) (now (by .exit)) (now (amount .exit)) (now (queue .exit))
-        × Marks (reach (now (rank .entry)) (now (by .entry)) (now (amount .entry)))
-        (reach (now (rank .exit)) (now (by .exit)) (now (amount .exit)))
-        (at (now (queue .entry))) (at (now (queue .exit))) w m c d ⌝ }
-{
-    rank[w] = m as u8;
-    by[w] = c as u8;
-    amount[w] = d;
-    queue[m] = w as u8;
+// Whether there is a way, and the rows that are toggled on it.
+pub struct Found {
+    pub found: bool,
+    pub rows: u64,
 }
 
-// Reaches the far ends of the arcs above i at place u that can take more. m places were reached; how many are now.
-fn scan(
-    near: &[u8; ARCS],
-    far: &[u8; ARCS],
-    upper: &[u64; ARCS],
-    lower: &[u64; ARCS],
-    first: &[u8; PLACES],
-    next: &[u8; ARCS],
-    arcs: usize,
-    i: usize,
-    u: usize,
-    m: usize,
-    rank: &mut [u8; PLACES],
-    by: &mut [u8; PLACES],
-    amount: &mut [u64; PLACES],
-    queue: &mut [u8; PLACES + 1],
-) -> usize
-    requires { ⌜ Side places-most arcs (at (now near)) (at (now far)) (at (now upper)) (at (now lower)) (at (now first)) (at (now next))
-        × (i < arcs) × (u < places-most) × (0 < at (now rank) u) × Wide (now rank) (now by) (now amount) (now queue)
-        × Queue places-most (reach (now rank) (now by) (now amount)) (at (now queue)) m ⌝ }
-    ensures { λ r. ⌜ Wide (now (rank .exit)) (now (by .exit)) (now (amount .exit)) (now (queue .exit))
-        × Scanned places-most arcs i (at (now (near .entry))) (at (now (far .entry))) (at (now (upper .entry))) (at (now (lower .entry))) u
-        (reach (now (rank .entry)) (now (by .entry)) (now (amount .entry)))
-        (reach (now (rank .exit)) (now (by .exit)) (now (amount .exit))) (at (now (queue .exit))) m r ⌝ }
+// The first digit in which two words differ.
+pub fn pick(v: u64, w: u64) -> usize
+    requires { ⌜ v ≢ w ⌝ }
+    ensures { λ r. ⌜ (r < 64) × (bit v r ≢ bit w r) ⌝ }
 {
-    let mut reached = m;
-    let top = amount[u];
-    let mut cur = first[u] as usize;
-    while i + 1 < cur {
-        let c = cur - 1;
-        let w = far[c] as usize;
-        let spare = upper[c] - lower[c];
-        let d = gain(rank[w], top, spare);
-        if d != 0 {
-            reached += 1;
-            mark(rank, by, amount, queue, w, reached, c, d);
-            cur = next[c] as usize;
-        } else {
-            cur = next[c] as usize;
+    u64::trailing_zeros(v ^ w) as usize
+}
+
+// The places seen, with place p, which is reached by a way that toggles w unless it was seen before.
+fn reach(p: usize, w: u64, seen: u64, by: &mut [u64; PLACES]) -> u64
+    requires { ⌜ (p < places-most) × (length (now by) ≡ places-most) ⌝ }
+    ensures { λ r. ⌜ (length (now (by .exit)) ≡ places-most) × Passed true p w seen r (at (now (by .entry))) (at (now (by .exit))) ⌝ }
+{
+    if (seen >> p) % 2 == 1 {
+        return seen;
+    }
+    by[p] = w;
+    seen | (1u64 << p)
+}
+
+// The places seen, with the far ends of the rows in a word, each by the way and the row itself.
+fn visit(far: &[u8; Table::ROWS], rows: u64, way: u64, seen: u64, by: &mut [u64; PLACES]) -> u64
+    requires { ⌜ ((i : ℕ) → bit rows i ≡ true → at (now far) i < places-most) × (length (now by) ≡ places-most) ⌝ }
+    ensures { λ r. ⌜ (length (now (by .exit)) ≡ places-most)
+        × Visited 64 (bit rows) (at (now (far .entry))) way seen r (at (now (by .entry))) (at (now (by .exit))) ⌝ }
+{
+    let mut all = seen;
+    let mut done: u64 = 0;
+    while done != rows {
+        let i = pick(rows, done);
+        let p = far[i] as usize;
+        all = reach(p, way | (1u64 << i), all, by);
+        done = done | (1u64 << i);
+    }
+    all
+}
+
+// The places seen, with the one before u where the set that leads there can carry one more.
+fn step_down(more: u64, u: usize, way: u64, seen: u64, by: &mut [u64; PLACES]) -> u64
+    requires { ⌜ (u < places-most) × (bit more u ≡ true → 0 < u) × (length (now by) ≡ places-most) ⌝ }
+    ensures { λ r. ⌜ (length (now (by .exit)) ≡ places-most)
+        × Passed (bit more u) (u - 1) way seen r (at (now (by .entry))) (at (now (by .exit))) ⌝ }
+{
+    if (more >> u) % 2 == 0 {
+        return seen;
+    }
+    reach(u - 1, way, seen, by)
+}
+
+// The places seen, with the one after u where the set that leads from there can carry one less.
+fn step_up(less: u64, u: usize, way: u64, seen: u64, by: &mut [u64; PLACES]) -> u64
+    requires { ⌜ (u < places-most) × (bit less u ≡ true → u + 1 < places-most) × (length (now by) ≡ places-most) ⌝ }
+    ensures { λ r. ⌜ (length (now (by .exit)) ≡ places-most)
+        × Passed (bit less u) (u + 1) way seen r (at (now (by .entry))) (at (now (by .exit))) ⌝ }
+{
+    if (less >> u) % 2 == 0 {
+        return seen;
+    }
+    reach(u + 1, way, seen, by)
+}
+
+// Whether one more can be brought from place s to place t, and the rows that are toggled on the way. Row i leads from place tail[i] to
+// place head[i]; out[v] are the rows that start at place v, and into[v] those that end there.
+pub fn find_way(
+    tail: &[u8; Table::ROWS],
+    head: &[u8; Table::ROWS],
+    out: &[u64; PLACES],
+    into: &[u64; PLACES],
+    arcs: Arcs,
+    s: usize,
+    t: usize,
+) -> Found
+    requires { ⌜ ((n : ℕ) × (K : ℕ) × Wired n K (at (now tail)) (at (now head)) (at (now out)) (at (now into)) × Narrow K arcs
+        × (s ≤ K) × (t ≤ K)) ⌝ }
+    ensures { λ r. ⌜ ((n K : ℕ) (G : Net) (may : ℕ → Bool) (x : ℕ → ℕ)
+        → Wired n K (at (now (tail .entry))) (at (now (head .entry))) (at (now (out .entry))) (at (now (into .entry)))
+        → Narrow K arcs → s ≤ K → t ≤ K
+        → Shown n K G may x (at (now (tail .entry))) (at (now (head .entry))) arcs → Circulation G x
+        → Sought n G may x s t (r .rows) (r .found)) ⌝ }
+{
+    let mut by = [0u64; PLACES];
+    let mut seen = 1u64 << s;
+    let mut done: u64 = 0;
+    while seen != done {
+        if (seen >> t) % 2 == 1 {
+            return Found {
+                found: true,
+                rows: by[t],
+            };
         }
+        let u = pick(seen, done);
+        let way = by[u];
+        let ahead = visit(head, out[u] & arcs.up, way, seen, &mut by);
+        let back = visit(tail, into[u] & arcs.down, way, ahead, &mut by);
+        let lower = step_down(arcs.more, u, way, back, &mut by);
+        seen = step_up(arcs.less, u, way, lower, &mut by);
+        done = done | (1u64 << u);
     }
-    reached
-}
-
-// Reaches places that more can be brought to from the head of arc i, by arcs above i, until its tail is reached or nothing more is.
-fn search(
-    tail: &[u8; ARCS],
-    head: &[u8; ARCS],
-    low: &[u64; ARCS],
-    high: &[u64; ARCS],
-    x: &[u64; ARCS],
-    out: &[u8; PLACES],
-    outs: &[u8; ARCS],
-    into: &[u8; PLACES],
-    intos: &[u8; ARCS],
-    arcs: usize,
-    i: usize,
-    rank: &mut [u8; PLACES],
-    by: &mut [u8; PLACES],
-    amount: &mut [u64; PLACES],
-    queue: &mut [u8; PLACES + 1],
-)
-    requires { ⌜ Ready (net arcs (now tail) (now head) (now low) (now high)) (at (now out)) (at (now outs)) (at (now into)) (at (now intos))
-        × (i < arcs) × Within (net arcs (now tail) (now head) (now low) (now high)) (at (now x)) × (at (now x) i < at (now high) i)
-        × ((w : ℕ) → at (now rank) w ≡ 0) × Wide (now rank) (now by) (now amount) (now queue) ⌝ }
-    ensures { λ r. ⌜ Wide (now (rank .exit)) (now (by .exit)) (now (amount .exit)) (now (queue .exit))
-        × Found (net arcs (now (tail .entry)) (now (head .entry)) (now (low .entry)) (now (high .entry))) i (at (now (x .entry)))
-        (reach (now (rank .exit)) (now (by .exit)) (now (amount .exit))) ⌝ }
-{
-    let start = head[i] as usize;
-    let goal = tail[i] as usize;
-    let room = high[i] - x[i];
-    mark(rank, by, amount, queue, start, 1, 0, room);
-    let mut m: usize = 1;
-    let mut q: usize = 0;
-    while q < m {
-        if rank[goal] != 0 {
-            return;
-        }
-        q += 1;
-        let u = queue[q] as usize;
-        let ahead = scan(
-            tail,
-            head,
-            high,
-            x,
-            out,
-            outs,
-            arcs,
-            i,
-            u,
-            m,
-            rank,
-            by,
-            amount,
-            queue,
-        );
-        m = scan(
-            head,
-            tail,
-            x,
-            low,
-            into,
-            intos,
-            arcs,
-            i,
-            u,
-            ahead,
-            rank,
-            by,
-            amount,
-            queue,
-        );
-    }
-}
-
-// a + d, which is at most top
-fn plus(a: u64, d: u64, top: u64) -> u64
-    requires { ⌜ a + d ≤ top ⌝ }
-    ensures { λ r. ⌜ r ≡ a + d ⌝ }
-{
-    a + d
-}
-
-// Brings d more to place v by arc c: forward where c ends in v, else backward. The place that it is brought from.
-fn shift(
-    tail: &[u8; ARCS],
-    head: &[u8; ARCS],
-    high: &[u64; ARCS],
-    x: &mut [u64; ARCS],
-    c: usize,
-    v: usize,
-    d: u64,
-) -> usize
-    requires { ⌜ (c < arcs-most) × (at (now tail) c < places-most) × (at (now head) c < places-most) × (length (now x) ≡ arcs-most)
-        × (at (now head) c ≡ v → at (now x) c + d ≤ at (now high) c) × (at (now head) c ≢ v → d ≤ at (now x) c) ⌝ }
-    ensures { λ r. ⌜ (length (now (x .exit)) ≡ arcs-most)
-        × Shifted (at (now (tail .entry))) (at (now (head .entry))) (at (now (x .entry))) (at (now (x .exit))) d c v r ⌝ }
-{
-    let end = head[c] as usize;
-    if end == v {
-        x[c] = plus(x[c], d, high[c]);
-        tail[c] as usize
-    } else {
-        x[c] = x[c] - d;
-        end
-    }
-}
-
-// Brings d more from the head of arc i to its tail, against the ranks, and by arc i back.
-fn push(
-    tail: &[u8; ARCS],
-    head: &[u8; ARCS],
-    low: &[u64; ARCS],
-    high: &[u64; ARCS],
-    x: &mut [u64; ARCS],
-    arcs: usize,
-    i: usize,
-    d: u64,
-    rank: &[u8; PLACES],
-    by: &[u8; PLACES],
-    amount: &[u64; PLACES],
-)
-    requires { ⌜ (arcs ≤ arcs-most) × Ends (net arcs (now tail) (now head) (now low) (now high))
-        × (i < arcs) × Within (net arcs (now tail) (now head) (now low) (now high)) (at (now x))
-        × Circulation (net arcs (now tail) (now head) (now low) (now high)) (at (now x))
-        × Found (net arcs (now tail) (now head) (now low) (now high)) i (at (now x)) (reach (now rank) (now by) (now amount))
-        × (0 < at (now rank) (at (now tail) i)) × (at (now x) i + d ≤ at (now high) i) × (length (now x) ≡ arcs-most)
-        × (d ≤ at (now amount) (at (now tail) i)) ⌝ }
-    ensures { λ r. ⌜ (length (now (x .exit)) ≡ arcs-most)
-        × Pushed (net arcs (now (tail .entry)) (now (head .entry)) (now (low .entry)) (now (high .entry))) i
-        (at (now (x .entry))) (at (now (x .exit))) d ⌝ }
-{
-    let start = head[i] as usize;
-    let mut v = tail[i] as usize;
-    while v != start {
-        let c = by[v] as usize;
-        v = shift(tail, head, high, x, c, v, d);
-    }
-    x[i] = plus(x[i], d, high[i]);
-}
-
-// The smaller.
-fn least(a: u64, b: u64) -> u64
-    requires { ⌜ (0 < a) × (0 < b) ⌝ }
-    ensures { λ r. ⌜ (0 < r) × (r ≤ a) × (r ≤ b) ⌝ }
-{
-    if a < b {
-        return a;
-    }
-    b
-}
-
-// Brings more by arc i, where that can be: did it?
-fn attempt(
-    tail: &[u8; ARCS],
-    head: &[u8; ARCS],
-    low: &[u64; ARCS],
-    high: &[u64; ARCS],
-    x: &mut [u64; ARCS],
-    out: &[u8; PLACES],
-    outs: &[u8; ARCS],
-    into: &[u8; PLACES],
-    intos: &[u8; ARCS],
-    arcs: usize,
-    i: usize,
-    by: &mut [u8; PLACES],
-    amount: &mut [u64; PLACES],
-    queue: &mut [u8; PLACES + 1],
-) -> bool
-    requires { ⌜ Ready (net arcs (now tail) (now head) (now low) (now high)) (at (now out)) (at (now outs)) (at (now into)) (at (now intos))
-        × (i < arcs) × Within (net arcs (now tail) (now head) (now low) (now high)) (at (now x))
-        × Circulation (net arcs (now tail) (now head) (now low) (now high)) (at (now x)) × (at (now x) i < at (now high) i)
-        × (length (now x) ≡ arcs-most) × Room (now by) (now amount) (now queue) ⌝ }
-    ensures { λ r. ⌜ (length (now (x .exit)) ≡ arcs-most) × Room (now (by .exit)) (now (amount .exit)) (now (queue .exit))
-        × Tried (net arcs (now (tail .entry)) (now (head .entry)) (now (low .entry)) (now (high .entry))) i
-        (at (now (x .entry))) (at (now (x .exit))) r ⌝ }
-{
-    let mut rank = [0u8; PLACES];
-    search(
-        tail,
-        head,
-        low,
-        high,
-        x,
-        out,
-        outs,
-        into,
-        intos,
-        arcs,
-        i,
-        &mut rank,
-        by,
-        amount,
-        queue,
-    );
-    let goal = tail[i] as usize;
-    if rank[goal] == 0 {
-        return false;
-    }
-    let room = high[i] - x[i];
-    let d = least(amount[goal], room);
-    push(tail, head, low, high, x, arcs, i, d, &rank, by, amount);
-    true
-}
-
-// Raises arc i to the most that it can carry with the arcs below it as they are. An arc that is full needs no search.
-fn raise(
-    tail: &[u8; ARCS],
-    head: &[u8; ARCS],
-    low: &[u64; ARCS],
-    high: &[u64; ARCS],
-    x: &mut [u64; ARCS],
-    out: &[u8; PLACES],
-    outs: &[u8; ARCS],
-    into: &[u8; PLACES],
-    intos: &[u8; ARCS],
-    arcs: usize,
-    i: usize,
-    by: &mut [u8; PLACES],
-    amount: &mut [u64; PLACES],
-    queue: &mut [u8; PLACES + 1],
-)
-    requires { ⌜ Ready (net arcs (now tail) (now head) (now low) (now high)) (at (now out)) (at (now outs)) (at (now into)) (at (now intos))
-        × (i < arcs) × Within (net arcs (now tail) (now head) (now low) (now high)) (at (now x))
-        × Circulation (net arcs (now tail) (now head) (now low) (now high)) (at (now x))
-        × (length (now x) ≡ arcs-most) × Room (now by) (now amount) (now queue) ⌝ }
-    ensures { λ r. ⌜ (length (now (x .exit)) ≡ arcs-most) × Room (now (by .exit)) (now (amount .exit)) (now (queue .exit))
-        × Raised (net arcs (now (tail .entry)) (now (head .entry)) (now (low .entry)) (now (high .entry))) i
-        (at (now (x .entry))) (at (now (x .exit))) ⌝ }
-{
-    while x[i] < high[i] {
-        let went = attempt(
-            tail,
-            head,
-            low,
-            high,
-            x,
-            out,
-            outs,
-            into,
-            intos,
-            arcs,
-            i,
-            by,
-            amount,
-            queue,
-        );
-        if !went {
-            return;
-        }
-    }
-}
-
-// Raises the first n arcs, one after the other.
-pub fn settle<'a>(
-    tail: &'a [u8; ARCS],
-    head: &'a [u8; ARCS],
-    low: &[u64; ARCS],
-    high: &[u64; ARCS],
-    x: &mut [u64; ARCS],
-    out: &'a [u8; PLACES],
-    outs: &'a [u8; ARCS],
-    into: &'a [u8; PLACES],
-    intos: &'a [u8; ARCS],
-    arcs: usize,
-    n: usize,
-)
-    requires { ⌜ Ready (net arcs (now tail) (now head) (now low) (now high)) (at (now out)) (at (now outs)) (at (now into)) (at (now intos))
-        × (n ≤ arcs) × Within (net arcs (now tail) (now head) (now low) (now high)) (at (now x))
-        × Circulation (net arcs (now tail) (now head) (now low) (now high)) (at (now x)) × (length (now x) ≡ arcs-most) ⌝ }
-    ensures { λ r. ⌜ (length (now (x .exit)) ≡ arcs-most)
-        × Settled n (net arcs (now (tail .entry)) (now (head .entry)) (now (low .entry)) (now (high .entry))) (at (now (x .exit))) ⌝ }
-{
-    let mut by = [0u8; PLACES];
-    let mut amount = [0u64; PLACES];
-    let mut queue = [0u8; PLACES + 1];
-    let mut i: usize = 0;
-    while i < n {
-        raise(
-            tail,
-            head,
-            low,
-            high,
-            x,
-            out,
-            outs,
-            into,
-            intos,
-            arcs,
-            i,
-            &mut by,
-            &mut amount,
-            &mut queue,
-        );
-        i += 1;
-    }
-}
-
-// Links the arcs of each end, the last first.
-pub fn link(end: &[u8; ARCS], arcs: usize, first: &mut [u8; PLACES], next: &mut [u8; ARCS])
-    requires { ⌜ (arcs ≤ arcs-most) × ((e : ℕ) → e < arcs → at (now end) e < places-most) × ((u : ℕ) → at (now first) u ≡ 0)
-        × (length (now first) ≡ places-most) × (length (now next) ≡ arcs-most) ⌝ }
-    ensures { λ r. ⌜ (length (now (first .exit)) ≡ places-most) × (length (now (next .exit)) ≡ arcs-most)
-        × Linked arcs (at (now (end .entry))) (at (now (first .exit))) (at (now (next .exit))) ⌝ }
-{
-    let mut e: usize = 0;
-    while e < arcs {
-        let u = end[e] as usize;
-        next[e] = first[u];
-        first[u] = (e + 1) as u8;
-        e += 1;
+    Found {
+        found: (seen >> t) % 2 == 1,
+        rows: by[t],
     }
 }

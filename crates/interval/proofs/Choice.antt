@@ -2,7 +2,7 @@
 -- qualifies there is what qualifies for the table, and the greatest there is the greatest.
 use mathlib.Core.Path.{_≡_, refl, sym, ap₂, subst₂}
 use mathlib.Core.List.{List}
-use Prim.Native.Nat.{ℕ, _+_, _-_, _*_, _≤_, _<_}
+use Prim.Native.Nat.{ℕ, _+_, _-_, _*_, _/_, _≤_, _<_}
 use native.Mathlib.Nat.{mul-le-mul-right, lt-of-mul-lt-mul-right}
 use native.Mathlib.Omega.{arith}
 use lib.ListN.{length}
@@ -11,7 +11,7 @@ use Rattle.numbers.specs.Word.{bit}
 use Rattle.numbers.specs.Lists.{at}
 use Rattle.numbers.specs.Rounding.{Rounded}
 use Rattle.numbers.proofs.Finite.{sumIn-eq}
-use Rattle.numbers.proofs.Rounding.{rounded-is}
+use Rattle.numbers.proofs.Rounding.{down-under, down-greatest}
 use Rattle.rules.specs.Bounds.{max-slots}
 use Rattle.rules.specs.Bus.{Table, overlap}
 use Rattle.rules.specs.Line.{lineFirst, Sets}
@@ -22,7 +22,7 @@ use Rattle.lags.specs.Lags.{Admissible, Steady}
 use Rattle.lags.proofs.Intervals.{hyperperiod-positive, rate-le, end-le}
 use Rattle.lags.proofs.Lags.{row-lag, qualify-of}
 use Rattle.promises.proofs.Words.{words-placed}
-use Rattle.loads.specs.Loads.{inSet, Lags, Qualified, Greatest}
+use Rattle.loads.specs.Loads.{inSet, Qualified, Greatest}
 use Rattle.interval.specs.Ranges.{lowestSet, highestSet}
 use Rattle.interval.specs.Interval.{Moved}
 use Rattle.interval.proofs.RowSets.{set-rows}
@@ -42,21 +42,18 @@ module _ {t : Table} (A : Admissible t) {k : ℕ} (in-range : k < intervals t) w
       let r : rate t i ≤ max-slots = omega (arith, rate-le (A .sound) i l, A .short) in
       omega (arith, mul-le-mul-right (end t k) r, end-small)
 
-  -- a row's slots after the interval are few
-  pub total-small : {had x : ℕ → ℕ} → Qualify t k had x → (i : ℕ) → i < t .rows → had i + x i ≤ max-slots
-  total-small {had} {x} Q i l =
-      let h = hyperperiod-positive (A .sound) in
-      let r = rounded-is (share t i (end t k)) (hyperperiod t) h (had i + x i) (Q .rows i l) .1 in
-      let z : had i + x i < end t k + 1 = lt-of-mul-lt-mul-right (hyperperiod t) (omega (arith, share-le i l)) in
-      omega (arith, end-small)
-
   module _ {had : ℕ → ℕ} (st : Steady t (start t k) had) (s : ℕ → ℕ) (is : (i : ℕ) → i < t .rows → s i ≡ share t i (end t k)) where
-    pub lags-of : Lags (t .rows) (hyperperiod t) s had
-    lags-of = record {
-      some = hyperperiod-positive (A .sound);
-      fits = A .short;
-      row = λ i l. (omega (arith, is i l, row-lag A in-range st i l), omega (arith, is i l, share-small i l));
-    }
+    -- no row has had more than its whole slots
+    pub had-le : (i : ℕ) → i < t .rows → had i ≤ s i / hyperperiod t
+    had-le i l =
+        down-greatest (s i) (hyperperiod t) (hyperperiod-positive (A .sound)) (had i) (omega (arith, is i l, row-lag A in-range st i l))
+
+    pub whole-small : (i : ℕ) → i < t .rows → s i / hyperperiod t ≤ max-slots
+    whole-small i l =
+        let h = hyperperiod-positive (A .sound) in
+        let z : s i / hyperperiod t < end t k + 1 =
+        lt-of-mul-lt-mul-right (hyperperiod t) (omega (arith, down-under (s i) (hyperperiod t) h, is i l, share-le i l)) in
+        omega (arith, end-small)
 
     -- ---- what qualifies
 

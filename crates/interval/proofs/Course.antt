@@ -1,51 +1,79 @@
 -- One interval as the code does it: shares, loads, slots and totals, each from what the one before it gives.
 use mathlib.Core.Path.{_≡_, sym, ap, ap₂, _∙_}
 use mathlib.Core.List.{List}
-use Prim.Native.Nat.{ℕ, _+_, _-_, _*_, _≤_, _<_}
+use Prim.Native.Nat.{ℕ, _-_, _*_, _/_, _%_, _≤_, _<_}
+use native.Mathlib.Nat.{mod-lt, mod-add-div'}
 use native.Mathlib.Omega.{arith}
 use lib.ListN.{length, take}
 use Rattle.numbers.specs.Lists.{at}
 use Rattle.rules.specs.Bounds.{max-rows, max-slots}
 use Rattle.rules.specs.Bus.{Table}
 use Rattle.rules.specs.Line.{meet}
-use Rattle.rules.specs.Loads.{hyperperiod, start, end, intervals, share}
+use Rattle.rules.specs.Loads.{hyperperiod, start, end, share}
 use Rattle.rules.specs.Interval.{SlotWords}
 use Rattle.lags.specs.Lags.{Steady}
-use Rattle.lags.proofs.Intervals.{end-far}
-use Rattle.loads.specs.Loads.{Spans, Lags, Greatest}
-use Rattle.loads.specs.Laid.{Laid}
-use Rattle.loads.specs.declared.Network.{Network}
-use Rattle.slots.specs.Chained.{all-heads, Chained}
+use Rattle.lags.proofs.Intervals.{hyperperiod-positive, end-far, end-le}
+use Rattle.loads.specs.Loads.{last, digit, none, share-most, Spans, Parts, Greatest}
+use Rattle.loads.specs.State.{Laid}
+use Rattle.loads.specs.declared.Size.{Size}
+use Rattle.loads.proofs.Choice.{greatest-shift}
+use Rattle.slots.specs.Chained.{ChainedRows}
 use Rattle.slots.specs.Filled.{FilledSlots}
-use Rattle.interval.specs.Interval.{Added}
+use Rattle.interval.specs.declared.Layout.{Layout}
+use Rattle.interval.specs.Interval.{Given}
 use Rattle.interval.specs.Ready.{Ready, Due, Advanced}
-use Rattle.interval.proofs.Choice.{total-small, lags-of, chosen-qualify, moved-of}
-use Rattle.interval.proofs.RowSets.{list-length, ranged-low, ranged-high, ranged-spans}
-use Rattle.interval.proofs.Ready.{ready-words, ready-share}
+use Rattle.interval.proofs.Choice.{share-small, had-le, whole-small, moved-of}
+use Rattle.interval.proofs.RowSets.{list-length, ranged-low, ranged-high, ranged-spans, ranged-listed}
+use Rattle.interval.proofs.Ready.{ready-ends, ready-words, ready-share}
 
-module _ {t : Table} {rows sets top hyper : ℕ} {first second rate from to : List ℕ} {net : Network} {head next : List ℕ}
-    (R : Ready t rows sets top hyper first second rate from to net head next) where
+module _ {t : Table} {size : Size} {top : ℕ} {second rate words : List ℕ} {L : Layout} (R : Ready t size top second rate words L) where
   -- ---- what is laid, for the code's counts
 
-  pub few-rows : rows ≤ max-rows
+  pub few-rows : size .rows ≤ max-rows
   few-rows = omega (arith, R .row-count, R .admissible .sound .rows-high)
 
-  -- a byte holds each of the line's elements
-  pub low-top : top < all-heads
-  low-top = omega (arith, R .top-end, R .admissible .sound .elements-high)
+  pub hyper-some : 0 < size .hyper
+  hyper-some = omega (arith, hyperperiod-positive (R .admissible .sound), R .hyper-is)
 
-  pub spans-laid : Spans rows sets (at from) (at to)
-  spans-laid = rw (R .row-count) (ranged-spans (R .admissible) (R .list) (R .room) (R .ranged))
+  spans-laid : Spans (t .rows) (size .sets) (at (L .tail)) (last (L .head))
+  spans-laid = ranged-spans (R .admissible) (R .list) (R .room) (R .laid .ranged)
 
-  pub network-laid : Laid rows sets (at from) (at to) net
-  network-laid = rw (R .row-count) (R .laid)
+  heads-laid : (i : ℕ) → i < t .rows → 0 < at (L .head) i
+  heads-laid i l = omega (arith, R .laid .ranged .highest .row i l)
 
-  pub chains-laid : Chained rows (at first) head next
-  chains-laid = rw (R .row-count) (R .chained)
+  network-laid : Laid (t .rows) (size .sets) (L .tail) (L .head) (L .out) (L .into) words
+  network-laid = record {
+    ends = record {
+      spans = spans-laid;
+      heads = heads-laid;
+      wired = record {
+        few-rows = spans-laid .few-rows;
+        few-places = omega (arith, spans-laid .few-sets);
+        ends = λ i l. let r = spans-laid .row i l in (omega (arith, r), omega (arith, r, heads-laid i l));
+        starting = λ v i l. R .laid .starting v i (omega (arith, spans-laid .few-sets));
+        ending = λ v i l. R .laid .ending v i (omega (arith, spans-laid .few-sets));
+      };
+    };
+    listed = ranged-listed (R .admissible) (R .list) (R .room) (R .laid .ranged);
+  }
+
+  pub all-laid : Laid (size .rows) (size .sets) (L .tail) (L .head) (L .out) (L .into) words
+  all-laid = rw (R .row-count) network-laid
+
+  pub rows-chained : ChainedRows (size .rows) (at (R .first)) (at second) top (L .heads) (L .next)
+  rows-chained = record {
+    few = few-rows;
+    low = omega (arith, R .top-end, R .admissible .sound .elements-high);
+    line = ready-ends R;
+    chained = rw (R .row-count) (R .laid .chained);
+  }
 
   module _ {k b e : ℕ} {totals : List ℕ} (D : Due t k b e totals) where
     pub ends-after : b ≤ e
     ends-after = omega (arith, end-far (R .admissible .sound) k (D .in-range))
+
+    pub interval-short : e - b ≤ max-slots
+    interval-short = omega (arith, D .ends, end-le (R .admissible .sound) k (D .in-range), R .admissible .short)
 
     -- ---- the shares
 
@@ -55,36 +83,67 @@ module _ {t : Table} {rows sets top hyper : ℕ} {first second rate from to : Li
     steady : Steady t (start t k) (at totals)
     steady = rw (D .begins) at (D .steady)
 
-    -- ---- the loads
+    pub shares-fit : (i : ℕ) → i < size .rows → at rate i * e ≤ share-most
+    shares-fit i l =
+        let m : i < t .rows = omega (arith, R .row-count) in
+        omega (arith, row-share i m, share-small (R .admissible) (D .in-range) i m)
 
-    pub lags-fit : Lags rows hyper (λ i. at rate i * e) (at totals)
-    lags-fit = rw (R .row-count, R .hyper-is) (lags-of (R .admissible) (D .in-range) steady (λ i. at rate i * e) row-share)
+    -- ---- the loads, from the shares' whole slots and the parts above them
 
-    module _ {x : ℕ → ℕ} (G : Greatest rows sets (at from) (at to) hyper (λ i. at rate i * e) (at totals) x) where
-      chosen : Greatest (t .rows) (length (take sets (R .words))) (at from) (at to) (hyperperiod t) (λ i. at rate i * e) (at totals) x
-      chosen = rw (list-length (R .room) (R .ranged)) (rw (R .row-count, R .hyper-is) at G)
+    module _ (whole part : List ℕ) (parted : (i : ℕ) → i < size .rows
+        → (at whole i ≡ at rate i * e / size .hyper) × (at part i ≡ at rate i * e % size .hyper)) where
+      pub parts-fit : Parts (size .rows) (size .hyper) (at part)
+      parts-fit = record {
+        some = hyper-some;
+        fits = omega (arith, R .hyper-is, R .admissible .short);
+        row = λ i l. omega (arith, parted i l .1, mod-lt (at rate i * e) hyper-some);
+      }
 
-      pub totals-fit : (i : ℕ) → i < rows → at totals i + x i ≤ max-slots
-      totals-fit i l =
-          total-small (R .admissible) (D .in-range)
-          (chosen-qualify (R .admissible) (D .in-range) steady (λ i. at rate i * e) row-share (R .list) (at from) (at to)
-          (ranged-low (R .room) (R .ranged)) (ranged-high (R .room) (R .ranged)) chosen)
-          i (omega (arith, R .row-count))
+      pub whole-fit : (i : ℕ) → i < size .rows → (at totals i ≤ at whole i) × (at whole i ≤ max-slots)
+      whole-fit i l =
+          let m : i < t .rows = omega (arith, R .row-count) in
+          let w : at whole i ≡ at rate i * e / hyperperiod t = rw (R .hyper-is) at (parted i l .0) in (
+            omega (arith, w, had-le (R .admissible) (D .in-range) steady (λ i. at rate i * e) row-share i m),
+            omega (arith, w, whole-small (R .admissible) (D .in-range) steady (λ i. at rate i * e) row-share i m),
+          )
 
-      -- ---- the slots and the totals
+      module _ (rounded : ℕ) (x now : ℕ → ℕ)
+          (C : Greatest (size .rows) (size .sets) (at (L .tail)) (last (L .head)) (size .hyper) (at part) none (digit rounded))
+          (B : Given (size .rows) rounded (at whole) (at totals) x now) where
+        shifted : Greatest (size .rows) (size .sets) (at (L .tail)) (last (L .head)) (size .hyper) (λ i. at rate i * e) (at totals) x
+        shifted =
+            greatest-shift (size .rows) (size .sets) (at (L .tail)) (last (L .head)) (size .hyper) (λ i. at rate i * e) (at totals) (at part)
+            (at whole) x (digit rounded) hyper-some
+            (λ i l. omega (
+              arith,
+              mod-add-div' (at rate i * e) (size .hyper),
+              parted i l .1,
+              ap (λ (w : ℕ). w * size .hyper) (parted i l .0),
+            ))
+            (B .loads) C
 
-      pub advanced-of : {now was out : List ℕ} → length now ≡ max-rows
-          → FilledSlots rows (at first) (at second) x (e - b) was out → Added rows (at totals) x (at now) → Advanced t k totals now was out
-      advanced-of {now} {was} {out} n F A =
-          let long : e - b ≡ end t k - start t k = ap₂ _-_ (D .ends) (D .begins) in
-          let W : SlotWords (t .rows) (meet (at first) (at second)) (at first) x (end t k - start t k) (take (end t k - start t k) out) =
-          rw (R .row-count, long) at (F .words) in
-          record {
-            size = n;
-            moved =
-                moved-of (R .admissible) (D .in-range) steady (λ i. at rate i * e) row-share (R .list) (at from) (at to)
-                (ranged-low (R .room) (R .ranged)) (ranged-high (R .room) (R .ranged)) chosen
-                (at now) (take (end t k - start t k) out) (ready-words R W)
-                (λ i l. A .rows i (omega (arith, R .row-count))) (λ i l. A .spare i (omega (arith, R .row-count)));
-            kept = rw long at (F .kept);
-          }
+        chosen : Greatest (t .rows) (length (take (size .sets) words)) (at (L .tail)) (last (L .head)) (hyperperiod t) (λ i. at rate i * e)
+            (at totals) x
+        chosen = rw (list-length (R .room) (R .laid .ranged)) (rw (R .row-count, R .hyper-is) at shifted)
+
+        -- ---- the slots and the totals
+
+        pub advanced-of : {after was out : List ℕ} → ((i : ℕ) → now i ≡ at after i) → length after ≡ max-rows
+            → FilledSlots (size .rows) (at (R .first)) (at second) x (e - b) was out → Advanced t k totals after was out
+        advanced-of {after} {was} {out} q n F =
+            let long : e - b ≡ end t k - start t k = ap₂ _-_ (D .ends) (D .begins) in
+            let W : SlotWords (t .rows) (meet (at (R .first)) (at second)) (at (R .first)) x (end t k - start t k)
+            (take (end t k - start t k) out) =
+            rw (R .row-count, long) at (F .words) in
+            record {
+              size = n;
+              moved =
+                  moved-of (R .admissible) (D .in-range) steady (λ i. at rate i * e) row-share (R .list) (at (L .tail)) (last (L .head))
+                  (ranged-low (R .room) (R .laid .ranged)) (ranged-high (R .room) (R .laid .ranged)) chosen
+                  (at after) (take (end t k - start t k) out) (ready-words R W)
+                  (λ i l.
+                  let m : i < size .rows = omega (arith, R .row-count) in
+                  sym (q i) ∙ B .rows i m ∙ sym (B .loads i m))
+                  (λ i l. sym (q i) ∙ B .spare i (omega (arith, R .row-count)));
+              kept = rw long at (F .kept);
+            }

@@ -1,26 +1,51 @@
--- The totals with each row's load, as a loop over the rows adds it. What the loop keeps is what it gives, for the rows passed.
-use mathlib.Core.Path.{_≡_, refl, ap, _∙_}
-use mathlib.Core.Logic.{⊎-elim}
-use mathlib.Core.List.{List}
-use Prim.Native.Nat.{ℕ, suc, _+_, _<_}
-use native.Mathlib.Nat.{not-suc-le-zero}
+-- The totals with each row's load, as a loop over the rows gives it. What the loop keeps is what it gives, for the rows passed.
+use mathlib.Core.Path.{_≡_, refl, sym, ap, _∙_}
+use Prim.Native.Nat.{ℕ, zero, suc, _+_, _-_, _/_, _%_, _^_, _≤_, _<_}
+use native.Mathlib.Decide.{ℕ-discrete}
 use native.Mathlib.Omega.{arith}
-use lib.ListN.{length, set}
-use lib.Seq.{getD-set-same, getD-set-other}
-use Rattle.numbers.specs.Lists.{at}
-use Rattle.numbers.proofs.Finite.{below}
-use Rattle.interval.specs.Interval.{Added}
+use lib.Dec.{eqb}
+use Rattle.numbers.specs.Word.{bit}
+use Rattle.numbers.proofs.Finite.{only-true, only-false}
+use Rattle.numbers.proofs.Word.{bit-shr}
+use Rattle.flow.specs.Network.{Put}
+use Rattle.loads.specs.Loads.{digit}
+use Rattle.interval.specs.Interval.{Given}
 
-pub added-none : (had x : ℕ → ℕ) → Added 0 had x had
-added-none had x = record { rows = λ i l. absurd (not-suc-le-zero l); spare = λ i l. refl }
+-- the rows below m have been given, and the others are as they were
+pub record Giving (m top : ℕ) (whole had x now : ℕ → ℕ) : Type 0 where
+  pub given : Given m top whole had x now
+  pub left : (i : ℕ) → m ≤ i → x i ≡ whole i
 
-pub added-put : {i : ℕ} {had x : ℕ → ℕ} (xs : List ℕ) (v : ℕ) → Added i had x (at xs) → i < length xs → v ≡ at xs i + x i
-    → Added (i + 1) had x (at (set xs i v))
-added-put {i} {had} {x} xs v A h e = record {
-  rows = λ j l.
-      ⊎-elim
-      (λ (q : j ≡ i). rw q (getD-set-same xs i v 0 h ∙ e ∙ ap (λ (k : ℕ). k + x i) (A .spare i (omega arith))))
-      (λ (m : j < i). getD-set-other xs i j v 0 (λ q. omega arith) ∙ A .rows j m)
-      (below (let z : j < suc i = omega arith in z));
-  spare = λ j l. getD-set-other xs i j v 0 (λ q. omega arith) ∙ A .spare j (omega arith);
+pub giving-none : (top : ℕ) (whole had : ℕ → ℕ) → Giving 0 top whole had whole had
+giving-none top whole had = record {
+  given = record { rows = λ i l. absurd (omega arith); loads = λ i l. absurd (omega arith); spare = λ i l. refl };
+  left = λ i l. refl;
 }
+
+pub giving-next : (m top : ℕ) (whole had x now x' now' : ℕ → ℕ) → Giving m top whole had x now → had m ≤ whole m
+    → Put x m (whole m + digit top m - had m) x' → Put now m (whole m + digit top m) now' → Giving (m + 1) top whole had x' now'
+giving-next m top whole had x now x' now' G le p q = record {
+  given = record {
+    rows = λ i l. row i l (ℕ-discrete i m);
+    loads = λ i l. load i l (ℕ-discrete i m);
+    spare = λ i l. q .1 i (omega arith) ∙ G .given .spare i (omega arith);
+  };
+  left = λ i l. p .1 i (omega arith) ∙ G .left i (omega arith);
+}
+  where
+    row : (i : ℕ) → i < m + 1 → Dec (i ≡ m) → now' i ≡ whole i + digit top i
+    row i l (yes e) = rw e (q .0)
+    row i l (no e) = q .1 i e ∙ G .given .rows i (omega arith)
+
+    load : (i : ℕ) → i < m + 1 → Dec (i ≡ m) → had i + x' i ≡ whole i + digit top i
+    load i l (yes e) = rw e (omega (arith, p .0))
+    load i l (no e) = ap (λ (u : ℕ). had i + u) (p .1 i e) ∙ G .given .loads i (omega arith)
+
+-- `(w >> i) % 2`
+pub digit-is : (w i : ℕ) → digit w i ≡ w / 2 ^ i % 2
+digit-is w i = go (w / 2 ^ i % 2) (omega arith) (sym (bit-shr w i))
+  where
+    go : (r : ℕ) → r < 2 → bit w i ≡ eqb r 1 → digit w i ≡ r
+    go zero l e = only-false (bit w i) 1 e
+    go (suc zero) l e = only-true (bit w i) 1 e
+    go (suc (suc r)) l e = absurd (omega arith)

@@ -1,34 +1,42 @@
 -- What holds of the arrays that are laid out for a table's intervals.
 use mathlib.Core.Path.{_≡_, refl, sym}
 use mathlib.Core.List.{List}
-use Prim.Native.Nat.{ℕ, _*_, _≤_, _<_}
+use Prim.Native.Nat.{ℕ, _+_, _*_, _≤_, _<_}
 use native.Mathlib.Omega.{arith}
 use Rattle.numbers.specs.Lists.{at}
 use Rattle.rules.specs.Bus.{Table, overlap}
-use Rattle.rules.specs.Line.{lineFirst, meet}
+use Rattle.rules.specs.Line.{lineFirst, lineSecond, meet}
 use Rattle.rules.specs.Loads.{share}
 use Rattle.rules.specs.Interval.{SlotWords}
 use Rattle.rules.proofs.Interval.{words-as}
 use Rattle.ring.proofs.OnLine.{line-low, line-ordered, line-high, overlap-meet}
-use Rattle.loads.specs.declared.Network.{Network}
+use Rattle.table.specs.Columns.{ByRow}
+use Rattle.lags.specs.Lags.{Admissible}
+use Rattle.loads.specs.declared.Size.{Size}
+use Rattle.interval.specs.declared.Layout.{Layout}
 use Rattle.interval.specs.Ready.{Ready}
 
-module _ {t : Table} {rows sets top hyper : ℕ} {first second rate from to : List ℕ} {net : Network} {head next : List ℕ}
-    (R : Ready t rows sets top hyper first second rate from to net head next) where
+-- the ends of a row on the line
+pub ends-on-line : {t : Table} {first second : List ℕ} → Admissible t → ByRow (t .rows) (lineFirst t) first
+    → ByRow (t .rows) (lineSecond t) second → (i : ℕ) → i < t .rows
+    → (1 ≤ at first i) × (at first i < at second i) × (at second i ≤ t .elements + 1)
+ends-on-line {t} A F S i m =
+    let f = F .row i m in
+    let s = S .row i m in (
+      omega (arith, line-low t (A .sound) (A .clear) i),
+      omega (arith, line-ordered t (A .sound) (A .clear) i m),
+      omega (arith, line-high t (A .sound) (A .clear) i m),
+    )
+
+module _ {t : Table} {size : Size} {top : ℕ} {second rate words : List ℕ} {L : Layout} (R : Ready t size top second rate words L) where
   -- ---- the ends
 
-  pub ready-ends : (i : ℕ) → i < rows → (1 ≤ at first i) × (at first i < at second i) × (at second i ≤ top)
+  pub ready-ends : (i : ℕ) → i < size .rows → (1 ≤ at (R .first) i) × (at (R .first) i < at second i) × (at second i ≤ top)
   ready-ends i l =
-      let A = R .admissible in
-      let m : i < t .rows = omega (arith, R .row-count) in
-      let f = R .firsts .row i m in
-      let s = R .seconds .row i m in (
-        omega (arith, line-low t (A .sound) (A .clear) i),
-        omega (arith, line-ordered t (A .sound) (A .clear) i m),
-        omega (arith, line-high t (A .sound) (A .clear) i m, R .top-end),
-      )
+      let e = ends-on-line (R .admissible) (R .firsts) (R .seconds) i (omega (arith, R .row-count)) in
+      (e .0, e .1, omega (arith, e .2, R .top-end))
 
-  meets : (i j : ℕ) → i < t .rows → j < t .rows → meet (at first) (at second) i j ≡ overlap t i j
+  meets : (i j : ℕ) → i < t .rows → j < t .rows → meet (at (R .first)) (at second) i j ≡ overlap t i j
   unfolding meet
   meets i j l m =
       let A = R .admissible in
@@ -36,10 +44,10 @@ module _ {t : Table} {rows sets top hyper : ℕ} {first second rate from to : Li
       (sym (overlap-meet t (A .sound) (A .clear) i j l m))
 
   -- words for the line of the arrays are words for the table
-  pub ready-words : {x : ℕ → ℕ} {l : ℕ} {ws : List ℕ} → SlotWords (t .rows) (meet (at first) (at second)) (at first) x l ws
+  pub ready-words : {x : ℕ → ℕ} {l : ℕ} {ws : List ℕ} → SlotWords (t .rows) (meet (at (R .first)) (at second)) (at (R .first)) x l ws
       → SlotWords (t .rows) (overlap t) (lineFirst t) x l ws
   ready-words {x} {l} {ws} W =
-      words-as (t .rows) (meet (at first) (at second)) (overlap t) (at first) (lineFirst t) x x meets (R .firsts .row) (λ i h. refl) l ws W
+      words-as (t .rows) (meet (at (R .first)) (at second)) (overlap t) (at (R .first)) (lineFirst t) x x meets (R .firsts .row) (λ i h. refl) l ws W
 
   -- ---- the shares
 

@@ -1,32 +1,35 @@
 -- Rows and the listed overlap sets of an admitted table: a row is in exactly the sets from its lowest to its highest.
-use mathlib.Core.Path.{_≡_, refl, _∙_}
+use mathlib.Core.Path.{_≡_, refl, sym, ap, _∙_}
 use mathlib.Core.List.{List}
-use mathlib.Core.Bool.{Bool}
-use Prim.Native.Nat.{ℕ, _≤_, _<_}
+use mathlib.Core.Bool.{Bool, _&&_}
+use Prim.Native.Nat.{ℕ, zero, suc, _+_, _-_, _≤_, _<_}
+use native.Mathlib.Decide.{decLt}
 use native.Mathlib.Omega.{arith}
-use lib.Dec.{T, leb}
+use lib.Dec.{T, leb, ltb}
 use lib.ListN.{length, take, length-take}
 use lib.Seq.{getD-take}
-use borrow.Author.Tests.{le-leb, leb-true}
+use borrow.Author.Tests.{le-leb, leb-true, lt-ltb, le-ltb}
 use Rattle.numbers.specs.Finite.{lowest, highest}
 use Rattle.numbers.specs.Word.{bit}
 use Rattle.numbers.specs.Lists.{at}
-use Rattle.numbers.proofs.Truth.{both, fst, snd, same, is-true, of-true}
-use Rattle.numbers.proofs.Finite.{lowest-has, lowest-under, lowest-eq, highest-lt, highest-has, highest-above, highest-eq}
+use Rattle.numbers.proofs.Truth.{both, fst, snd, same, is-true, is-false, of-true}
+use Rattle.numbers.proofs.Finite.{lowest-has, lowest-under, lowest-eq, highest-lt, highest-has, highest-above, highest-none, highest-eq}
 use Rattle.rules.specs.Bus.{Table}
-use Rattle.rules.specs.Line.{lineFirst, lineSecond, meet, SetList, Sets}
-use Rattle.ring.proofs.OnLine.{line-ordered}
+use Rattle.rules.specs.Line.{lineFirst, lineSecond, meet, Least, SetList, Sets}
+use Rattle.ring.proofs.OnLine.{line-low, line-ordered, line-high}
+use Rattle.sets.proofs.Overlap.{closed}
 use Rattle.sets.proofs.List.{sets-few, listed, consecutive}
 use Rattle.sets.proofs.Transfer.{list-agree}
 use Rattle.lags.specs.Lags.{Admissible}
-use Rattle.loads.specs.Loads.{covers, inSet, Spans}
+use Rattle.loads.specs.Loads.{covers, inSet, last, Spans}
 use Rattle.promises.proofs.Words.{overlap-agrees}
 use Rattle.interval.specs.Ranges.{lowestSet, highestSet, Ranged}
 use Rattle.table.proofs.ByRow.{by-row-only}
 
 -- ---- only one answer fits
 
-pub ranged-only : {n K : ℕ} {ws from to low high : List ℕ} → Ranged n K ws from to → Ranged n K ws low high → (from ≡ low) × (to ≡ high)
+pub ranged-only : {n K : ℕ} {ws tail head tail' head' : List ℕ} → Ranged n K ws tail head → Ranged n K ws tail' head'
+    → (tail ≡ tail') × (head ≡ head')
 ranged-only R Q = (by-row-only (R .lowest) (Q .lowest), by-row-only (R .highest) (Q .highest))
 
 -- ---- a row's sets
@@ -43,6 +46,36 @@ module _ {t : Table} (A : Admissible t) {ws : List ℕ} (S : Sets t ws) where
 
   pub few-sets : length ws ≤ t .rows
   few-sets = sets-few (t .rows) (lineFirst t) (lineSecond t) (line-ordered t (A .sound) (A .clear)) (A .sound .rows-low) ws on-line
+
+  -- The sets' least second ends ascend, from 2 on, and the last is at most M + 1.
+  rise : (k : ℕ) → k < length ws → (e : ℕ) × Least (lineSecond t) (bit (at ws k)) e × (k + 2 ≤ e) × (e ≤ t .elements + 1)
+  rise k h = go k h (end k h)
+    where
+      end : (k : ℕ) → k < length ws → (e : ℕ) × Least (lineSecond t) (bit (at ws k)) e × (2 ≤ e) × (e ≤ t .elements + 1)
+      end k h =
+          let c = closed (t .rows) (lineFirst t) (lineSecond t) (line-ordered t (A .sound) (A .clear)) (A .sound .rows-low) (on-line .each k h) in
+          let j = c .2 .reached in
+          let l = on-line .each k h .rows (j .0) (j .1) in (
+            c .0,
+            c .2,
+            omega (arith, j .2, line-low t (A .sound) (A .clear) (j .0), line-ordered t (A .sound) (A .clear) (j .0) l),
+            omega (arith, j .2, line-high t (A .sound) (A .clear) (j .0) l),
+          )
+
+      go : (k : ℕ) → k < length ws → ((e : ℕ) × Least (lineSecond t) (bit (at ws k)) e × (2 ≤ e) × (e ≤ t .elements + 1))
+          → (e : ℕ) × Least (lineSecond t) (bit (at ws k)) e × (k + 2 ≤ e) × (e ≤ t .elements + 1)
+      go zero h c = (c .0, c .1, omega (arith, c .2), c .3)
+      go (suc k) h c =
+          let p = go k (omega arith) (end k (omega arith)) in
+          (c .0, c .1, omega (arith, p .2, on-line .order k (suc k) (p .0) (c .0) (omega arith) h (p .1) (c .1)), c .3)
+
+  -- so there are no more sets than elements
+  pub few-elements : length ws ≤ t .elements
+  few-elements = go (length ws) refl
+    where
+      go : (K : ℕ) → length ws ≡ K → length ws ≤ t .elements
+      go zero e = omega arith
+      go (suc K) e = let r = rise K (omega arith) in omega (arith, r .2, r .3)
 
   in-some : (i : ℕ) → i < t .rows → (k : ℕ) × (k < length ws) × T (bit (at ws k) i)
   in-some = listed (t .rows) (lineFirst t) (lineSecond t) (line-ordered t (A .sound) (A .clear)) (A .sound .rows-low) ws on-line
@@ -81,27 +114,58 @@ module _ {t : Table} (A : Admissible t) {ws : List ℕ} (S : Sets t ws) where
     pub spans : Spans (t .rows) (length ws) a b
     spans = record {
       few-rows = A .sound .rows-high;
-      few-sets = omega (arith, few-sets, A .sound .rows-high);
+      few-sets = omega (arith, few-elements, A .sound .elements-high);
       row = λ i l. (within i (b i) l (at-highest i l .0) (at-highest i l .1) .0, at-highest i l .0);
     }
 
 -- ---- the ranges of an array's rows, where the list stands at the front of an array of words
 
-module _ {n K : ℕ} {ws from to : List ℕ} (room : K ≤ length ws) (R : Ranged n K ws from to) where
+pub highest-most : (K : ℕ) (p : ℕ → Bool) → highest K p ≤ K
+highest-most zero p = omega (arith, highest-none zero p (λ i l. absurd (omega arith)))
+highest-most (suc K) p = let z = highest-lt (suc K) p (omega arith) in omega arith
+
+pub highest-after : (K m : ℕ) (p : ℕ → Bool) → K ≤ suc m → suc (highest K p) ≤ suc m
+highest-after zero m p l = omega (arith, highest-most zero p)
+highest-after (suc K) m p l = omega (arith, highest-lt (suc K) p (omega arith))
+
+module _ {n K : ℕ} {ws tail head : List ℕ} (room : K ≤ length ws) (R : Ranged n K ws tail head) where
   pub list-length : length (take K ws) ≡ K
   list-length = omega (arith, length-take K ws)
 
-  pub ranged-low : (i : ℕ) → i < n → at from i ≡ lowestSet (length (take K ws)) (take K ws) i
+  pub ranged-low : (i : ℕ) → i < n → at tail i ≡ lowestSet (length (take K ws)) (take K ws) i
   ranged-low i l =
       rw list-length
       (R .lowest .row i l ∙ lowest-eq K (λ k. bit (at ws k) i) (λ k. bit (at (take K ws) k) i) (λ k m. rw (getD-take K ws k 0 m)))
 
-  pub ranged-high : (i : ℕ) → i < n → at to i ≡ highestSet (length (take K ws)) (take K ws) i
+  pub ranged-high : (i : ℕ) → i < n → last head i ≡ highestSet (length (take K ws)) (take K ws) i
   ranged-high i l =
       rw list-length
-      (R .highest .row i l ∙ highest-eq K (λ k. bit (at ws k) i) (λ k. bit (at (take K ws) k) i) (λ k m. rw (getD-take K ws k 0 m)))
+      (omega (
+        arith,
+        R .highest .row i l,
+        highest-eq K (λ k. bit (at ws k) i) (λ k. bit (at (take K ws) k) i) (λ k m. rw (getD-take K ws k 0 m)),
+      ))
 
-pub ranged-spans : {t : Table} {K : ℕ} {ws from to : List ℕ} → Admissible t → Sets t (take K ws) → K ≤ length ws
-    → Ranged (t .rows) K ws from to → Spans (t .rows) K (at from) (at to)
-ranged-spans {from = from} {to = to} A S room R =
-    rw (list-length room R) at (spans A S (at from) (at to) (ranged-low room R) (ranged-high room R))
+module _ {t : Table} {K : ℕ} {ws tail head : List ℕ} (A : Admissible t) (S : Sets t (take K ws)) (room : K ≤ length ws)
+    (R : Ranged (t .rows) K ws tail head) where
+  pub ranged-spans : Spans (t .rows) K (at tail) (last head)
+  ranged-spans = rw (list-length room R) at (spans A S (at tail) (last head) (ranged-low room R) (ranged-high room R))
+
+  -- a set's word has the rows that its place says
+  pub ranged-listed : (k i : ℕ) → k < K → bit (at ws k) i ≡ (ltb i (t .rows) && inSet (at tail) (last head) k i)
+  ranged-listed k i l =
+      let e : at (take K ws) k ≡ at ws k = getD-take K ws k 0 l in
+      let h : k < length (take K ws) = omega (arith, list-length room R) in
+      ap (λ (w : ℕ). bit w i) (sym e) ∙ go h (decLt i (t .rows))
+    where
+      go : k < length (take K ws) → Dec (i < t .rows)
+          → bit (at (take K ws) k) i ≡ (ltb i (t .rows) && inSet (at tail) (last head) k i)
+      go h (yes m) =
+          set-rows A S (at tail) (last head) (ranged-low room R) (ranged-high room R) i k m h
+          ∙ sym (ap (λ (b : Bool). b && inSet (at tail) (last head) k i) (lt-ltb i (t .rows) m))
+      go h (no m) =
+          is-false (bit (at (take K ws) k) i) (λ u. omega (arith, S .each k h .rows i u))
+          ∙ sym (ap (λ (b : Bool). b && inSet (at tail) (last head) k i) (le-ltb i (t .rows) (omega arith)))
+
+pub sets-limit : {t : Table} (K : ℕ) (ws : List ℕ) → Admissible t → Sets t (take K ws) → K ≤ length ws → K ≤ t .elements
+sets-limit K ws A S room = omega (arith, few-elements A S, length-take K ws)

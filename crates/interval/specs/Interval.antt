@@ -2,7 +2,7 @@
 --
 --   Moved t k had now ws    interval k takes rows that have had `had` slots to `now`, writing the words ws, by the loads that are greatest
 --                           in the order of rows among those that qualify
---   Added n had x now       n rows have had the slots x more
+--   Given n top whole had x now   n rows that have had `had` slots get x more: with their whole slots, those in the word `top` one more
 --
 -- Only one ws fits, and only one `now` (proofs/Moved).
 use mathlib.Core.Path.{_≡_}
@@ -13,6 +13,7 @@ use Rattle.rules.specs.Bus.{Table, overlap}
 use Rattle.rules.specs.Line.{lineFirst}
 use Rattle.rules.specs.Loads.{start, end}
 use Rattle.rules.specs.Interval.{Qualify, moves, SlotWords}
+use Rattle.loads.specs.Loads.{digit}
 
 -- Row 0's load is the greatest that any qualifying loads have, among those row 1's, and so on.
 pub record Moved (t : Table) (k : ℕ) (had now : ℕ → ℕ) (ws : List ℕ) : Type 0 where
@@ -24,6 +25,7 @@ pub record Moved (t : Table) (k : ℕ) (had now : ℕ → ℕ) (ws : List ℕ) :
   pub moved : (i : ℕ) → i < t .rows → now i ≡ had i + loads i
   pub spare : (i : ℕ) → t .rows ≤ i → now i ≡ had i
 
-pub record Added (n : ℕ) (had x now : ℕ → ℕ) : Type 0 where
-  pub rows : (i : ℕ) → i < n → now i ≡ had i + x i
+pub record Given (n top : ℕ) (whole had x now : ℕ → ℕ) : Type 0 where
+  pub rows : (i : ℕ) → i < n → now i ≡ whole i + digit top i
+  pub loads : (i : ℕ) → i < n → had i + x i ≡ whole i + digit top i
   pub spare : (i : ℕ) → n ≤ i → now i ≡ had i

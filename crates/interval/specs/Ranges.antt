@@ -2,11 +2,11 @@
 --
 --   lowestSet K ws i        the lowest of K sets that row i is in, or K where it is in none
 --   highestSet K ws i       the highest, or 0 where it is in none
---   Ranged n K ws from to   the arrays hold the lowest and the highest set of each of n rows
+--   Ranged n K ws tail head the arrays hold the places where each of n rows starts, before its lowest set, and ends, after its highest
 --
 -- Only one pair of arrays fits (proofs/RowSets, `ranged-only`).
 use mathlib.Core.List.{List}
-use Prim.Native.Nat.{ℕ}
+use Prim.Native.Nat.{ℕ, suc}
 use Rattle.numbers.specs.Finite.{lowest, highest}
 use Rattle.numbers.specs.Word.{bit}
 use Rattle.numbers.specs.Lists.{at}
@@ -18,6 +18,6 @@ lowestSet K ws i = lowest K (λ k. bit (at ws k) i)
 abbrev pub highestSet : ℕ → List ℕ → ℕ → ℕ
 highestSet K ws i = highest K (λ k. bit (at ws k) i)
 
-pub record Ranged (n K : ℕ) (ws from to : List ℕ) : Type 0 where
-  pub lowest : ByRow n (lowestSet K ws) from
-  pub highest : ByRow n (highestSet K ws) to
+pub record Ranged (n K : ℕ) (ws tail head : List ℕ) : Type 0 where
+  pub lowest : ByRow n (lowestSet K ws) tail
+  pub highest : ByRow n (λ i. suc (highestSet K ws i)) head

@@ -1,8 +1,10 @@
 -- What one interval needs of a table, laid out once for all of them, and what it gives.
 --
---   Ready t rows sets top hyper first second rate from to net head next
---                           the table may be admitted; the arrays hold its rows' ends on the line, their rates and their sets, and the
---                           network and the chains are laid for these
+--   layout ..               the layout of these arrays
+--   LaidOut n K words first L   the places and the chains of n rows are laid for K sets and the rows' first ends
+--   Ready t size top second rate words L
+--                           the table may be admitted; the arrays hold its rows' second ends on the line, their rates and the sets'
+--                           words, and L is laid for these
 --   Due t k b e had         interval k is one of the table's, from slot b up to slot e, and totals `had` keep step at b
 --   Advanced t k had now was out
 --                           interval k is done: `now` are the totals after it, and `out`, which held `was`, has its words at the front
@@ -13,36 +15,43 @@ use mathlib.Core.List.{List}
 use Prim.Native.Nat.{ℕ, _+_, _-_, _≤_, _<_}
 use lib.ListN.{length, take}
 use Rattle.numbers.specs.Lists.{at}
-use Rattle.rules.specs.Bounds.{max-rows}
+use Rattle.rules.specs.Bounds.{max-elements, max-rows}
 use Rattle.rules.specs.Bus.{Table}
 use Rattle.rules.specs.Line.{lineFirst, lineSecond, Sets}
 use Rattle.rules.specs.Loads.{hyperperiod, start, end, intervals}
 use Rattle.rules.specs.Loads as loads
 use Rattle.table.specs.Columns.{ByRow}
 use Rattle.lags.specs.Lags.{Admissible, Steady}
-use Rattle.loads.specs.Laid.{Laid}
-use Rattle.loads.specs.declared.Network.{Network}
+use Rattle.flow.specs.Way.{ByPlace}
+use Rattle.loads.specs.declared.Size.{Size}
 use Rattle.slots.specs.Chained.{Chained}
 use Rattle.slots.specs.Filled.{Kept}
 use Rattle.interval.specs.Ranges.{Ranged}
 use Rattle.interval.specs.Interval.{Moved}
+use Rattle.interval.specs.declared.Layout.{Layout}
 
--- `words` are those of the table's overlap sets; an interval needs only each row's lowest and highest set.
-pub record Ready (t : Table) (rows sets top hyper : ℕ) (first second rate from to : List ℕ) (net : Network)
-    (head next : List ℕ) : Type 0 where
+abbrev pub layout : (tail head out into heads next : List ℕ) → Layout
+layout tail head out into heads next =
+    record { tail = tail; head = head; out = out; into = into; heads = heads; next = next }
+
+pub record LaidOut (n K : ℕ) (words first : List ℕ) (L : Layout) : Type 0 where
+  pub ranged : Ranged n K words (L .tail) (L .head)
+  pub starting : ByPlace n max-elements (at (L .tail)) (at (L .out))
+  pub ending : ByPlace n max-elements (at (L .head)) (at (L .into))
+  pub chained : Chained n (at first) (L .heads) (L .next)
+
+pub record Ready (t : Table) (size : Size) (top : ℕ) (second rate words : List ℕ) (L : Layout) : Type 0 where
   pub admissible : Admissible t
-  pub row-count : rows ≡ t .rows
+  pub row-count : size .rows ≡ t .rows
   pub top-end : top ≡ t .elements + 1
-  pub hyper-is : hyper ≡ hyperperiod t
+  pub hyper-is : size .hyper ≡ hyperperiod t
+  pub first : List ℕ
   pub firsts : ByRow (t .rows) (lineFirst t) first
   pub seconds : ByRow (t .rows) (lineSecond t) second
   pub rates : ByRow (t .rows) (loads.rate t) rate
-  pub words : List ℕ
-  pub room : sets ≤ length words
-  pub list : Sets t (take sets words)
-  pub ranged : Ranged (t .rows) sets words from to
-  pub laid : Laid (t .rows) sets (at from) (at to) net
-  pub chained : Chained (t .rows) (at first) head next
+  pub room : size .sets ≤ length words
+  pub list : Sets t (take (size .sets) words)
+  pub laid : LaidOut (t .rows) (size .sets) words first L
 
 pub record Due (t : Table) (k b e : ℕ) (had : List ℕ) : Type 0 where
   pub in-range : k < intervals t

@@ -1,19 +1,19 @@
 // One planning interval of an admitted table: from totals that keep step at its first slot to its loads, its words and the totals after it
 // (document 01, "Loads of one interval, and its slots").
+use flow::PLACES;
+use loads::Size;
+use slots::Chains;
+use table::Table;
 ghost use mathlib.Core.Path.{_≡_};
 ghost use Prim.Native.Nat.{ℕ, _+_, _-_, _≤_, _<_};
 ghost use lib.ListN.{length};
 ghost use Rattle.numbers.specs.Lists.{at};
-ghost use Rattle.rules.specs.Bounds.{max-rows, max-slots};
+ghost use Rattle.rules.specs.Bounds.{max-elements, max-rows, max-slots};
 ghost use Rattle.rules.specs.Bus as bus;
-ghost use Rattle.loads.specs.Laid.{network, Lent};
+ghost use Rattle.slots.specs.Chained.{all-heads};
 ghost use Rattle.interval.specs.Ranges.{lowestSet, highestSet, Ranged};
-ghost use Rattle.interval.specs.Interval.{Added};
-ghost use Rattle.interval.specs.Ready.{Ready, Due, Advanced};
-use flow::ARCS;
-use flow::PLACES;
-use slots::Chains;
-use table::Table;
+ghost use Rattle.interval.specs.Interval.{Given};
+ghost use Rattle.interval.specs.Ready.{layout, LaidOut, Ready, Due, Advanced};
 
 // ---- the sets of each row
 
@@ -47,122 +47,121 @@ fn highest_set(words: &[u64; Table::ROWS], sets: usize, i: usize) -> u8
     0
 }
 
-// The lowest and the highest set of each row; 0 past the last row.
-pub struct Ranges {
-    pub from: [u8; Table::ROWS],
-    pub to: [u8; Table::ROWS],
+// The places where each row starts, before its lowest set, and ends, after its highest; 0 past the last row.
+struct Ends {
+    tail: [u8; Table::ROWS],
+    head: [u8; Table::ROWS],
 }
 
-pub fn ranges_of(rows: usize, sets: usize, words: &[u64; Table::ROWS]) -> Ranges
-    requires { ⌜ (rows ≤ max-rows) × (sets ≤ max-rows) ⌝ }
-    ensures { λ r. ⌜ Ranged rows sets (now (words .entry)) (r .from) (r .to) ⌝ }
+fn ends_of(rows: usize, sets: usize, words: &[u64; Table::ROWS]) -> Ends
+    requires { ⌜ (rows ≤ max-rows) × (sets ≤ max-elements) ⌝ }
+    ensures { λ r. ⌜ Ranged rows sets (now (words .entry)) (r .tail) (r .head) ⌝ }
 {
-    let mut from = [0u8; Table::ROWS];
-    let mut to = [0u8; Table::ROWS];
+    let mut tail = [0u8; Table::ROWS];
+    let mut head = [0u8; Table::ROWS];
     let mut i: usize = 0;
     while i < rows {
-        from[i] = lowest_set(words, sets, i);
-        to[i] = highest_set(words, sets, i);
+        tail[i] = lowest_set(words, sets, i);
+        head[i] = highest_set(words, sets, i) + 1;
         i += 1;
     }
-    Ranges { from, to }
+    Ends { tail, head }
+}
+
+// What the intervals of a table share: the places where its rows start and end, the rows that start and end at each place, and the chains
+// of rows by their first ends.
+pub struct Layout {
+    pub tail: [u8; Table::ROWS],
+    pub head: [u8; Table::ROWS],
+    pub out: [u64; PLACES],
+    pub into: [u64; PLACES],
+    pub heads: [u8; Chains::HEADS],
+    pub next: [u8; Table::ROWS],
+}
+
+// Lays this out, once for a table.
+pub fn lay<'a>(
+    rows: usize,
+    sets: usize,
+    words: &'a [u64; Table::ROWS],
+    first: &'a [u8; Table::ROWS],
+) -> Layout
+    requires { ⌜ (rows ≤ max-rows) × (sets ≤ max-elements) × ((i : ℕ) → i < rows → at (now first) i < all-heads) ⌝ }
+    ensures { λ r. ⌜ LaidOut rows sets (now (words .entry)) (now (first .entry)) r ⌝ }
+{
+    let ends = ends_of(rows, sets, words);
+    let tail = ends.tail;
+    let head = ends.head;
+    let out = choice::sort_rows(&tail, rows);
+    let into = choice::sort_rows(&head, rows);
+    let chains = slots::chain(first, rows);
+    let heads = chains.head;
+    let next = chains.next;
+    Layout {
+        tail,
+        head,
+        out,
+        into,
+        heads,
+        next,
+    }
 }
 
 // ---- the totals
 
-// Adds the loads to the totals.
-fn add_loads(totals: &mut [u64; Table::ROWS], load: &[u64; Table::ROWS], rows: usize)
-    requires { ⌜ (rows ≤ max-rows) × ((i : ℕ) → i < rows → at (now totals) i + at (now load) i ≤ max-slots)
-        × (length (now totals) ≡ max-rows) ⌝ }
-    ensures { λ r. ⌜ (length (now (totals .exit)) ≡ max-rows)
-        × Added rows (at (now (totals .entry))) (at (now (load .entry))) (at (now (totals .exit))) ⌝ }
+// Gives each row its whole slots, and one more to those in the word `top`: `load` holds the whole slots, and then what a row gets beside
+// those it has had.
+fn give(top: u64, rows: usize, load: &mut [u64; Table::ROWS], totals: &mut [u64; Table::ROWS])
+    requires { ⌜ (rows ≤ max-rows) × ((i : ℕ) → i < rows → (at (now totals) i ≤ at (now load) i) × (at (now load) i ≤ max-slots))
+        × (length (now load) ≡ max-rows) × (length (now totals) ≡ max-rows) ⌝ }
+    ensures { λ r. ⌜ (length (now (load .exit)) ≡ max-rows) × (length (now (totals .exit)) ≡ max-rows)
+        × Given rows top (at (now (load .entry))) (at (now (totals .entry))) (at (now (load .exit))) (at (now (totals .exit))) ⌝ }
 {
     let mut i: usize = 0;
     while i < rows {
-        totals[i] = totals[i] + load[i];
+        let all = load[i] + (top >> i) % 2;
+        load[i] = all - totals[i];
+        totals[i] = all;
         i += 1;
     }
 }
 
 // ---- the interval
 
-// Does one interval of a table, which runs from slot `start` up to slot `end`: writes its words to the front of `words`, and takes the
-// totals on. From `rows` to `next` all is laid once for the table.
-// From `x` to `last` all is lent for the work: what it holds before and after says nothing.
+// Does one interval of a table, which runs from slot `start` up to slot `end`: writes its words to the front of `plan`, and takes the
+// totals on. From `tail` to `next` all is laid once for the table.
 pub fn advance<'a>(
     start: usize,
     end: usize,
-    rows: usize,
-    sets: usize,
+    size: Size,
     top: usize,
-    hyper: u64,
-    first: &'a [u8; Table::ROWS],
     second: &'a [u8; Table::ROWS],
     rate: &'a [u64; Table::ROWS],
-    from: &[u8; Table::ROWS],
-    to: &[u8; Table::ROWS],
-    tails: &'a [u8; ARCS],
-    heads: &'a [u8; ARCS],
-    out: &'a [u8; PLACES],
-    outs: &'a [u8; ARCS],
-    into: &'a [u8; PLACES],
-    intos: &'a [u8; ARCS],
-    head: &[u8; Chains::HEADS],
-    next: &[u8; Table::ROWS],
+    words: &'a [u64; Table::ROWS],
+    tail: &'a [u8; Table::ROWS],
+    head: &'a [u8; Table::ROWS],
+    out: &'a [u64; PLACES],
+    into: &'a [u64; PLACES],
+    heads: &'a [u8; Chains::HEADS],
+    next: &'a [u8; Table::ROWS],
     totals: &mut [u64; Table::ROWS],
-    x: &mut [u64; ARCS],
-    low: &mut [u64; ARCS],
-    high: &mut [u64; ARCS],
-    load: &mut [u64; Table::ROWS],
-    last: &mut [u8],
-    words: &mut [u64],
+    plan: &mut [u64],
 )
     requires { ⌜ ((t : bus.Table) × (k : ℕ)
-        × Ready t rows sets top hyper (now first) (now second) (now rate) (now from) (now to)
-        (network (now tails) (now heads) (now out) (now outs) (now into) (now intos)) (now head) (now next)
+        × Ready t size top (now second) (now rate) (now words)
+        (layout (now tail) (now head) (now out) (now into) (now heads) (now next))
         × Due t k start end (now totals))
-        × (length (now totals) ≡ max-rows) × Lent (now x) (now low) (now high) (now load)
-        × (end - start ≤ length (now last)) × (end - start ≤ length (now words)) ⌝ }
+        × (length (now totals) ≡ max-rows) × (end - start ≤ length (now plan)) ⌝ }
     ensures { λ r. ⌜ ((t : bus.Table) (k : ℕ)
-        → Ready t rows sets top hyper (now (first .entry)) (now (second .entry)) (now (rate .entry)) (now (from .entry)) (now (to .entry))
-        (network (now (tails .entry)) (now (heads .entry)) (now (out .entry)) (now (outs .entry)) (now (into .entry)) (now (intos .entry)))
-        (now (head .entry)) (now (next .entry))
+        → Ready t size top (now (second .entry)) (now (rate .entry)) (now (words .entry))
+        (layout (now (tail .entry)) (now (head .entry)) (now (out .entry)) (now (into .entry)) (now (heads .entry)) (now (next .entry)))
         → Due t k start end (now (totals .entry))
-        → Advanced t k (now (totals .entry)) (now (totals .exit)) (now (words .entry)) (now (words .exit)))
-        × Lent (now (x .exit)) (now (low .exit)) (now (high .exit)) (now (load .exit))
-        × (length (now (last .exit)) ≡ length (now (last .entry))) ⌝ }
+        → Advanced t k (now (totals .entry)) (now (totals .exit)) (now (plan .entry)) (now (plan .exit))) ⌝ }
 {
-    loads::choose(
-        tails,
-        heads,
-        out,
-        outs,
-        into,
-        intos,
-        from,
-        to,
-        rows,
-        sets,
-        hyper,
-        rate,
-        end as u64,
-        totals,
-        x,
-        low,
-        high,
-        load,
-    );
-    slots::fill(
-        first,
-        second,
-        head,
-        next,
-        load,
-        rows,
-        top,
-        end - start,
-        last,
-        words,
-    );
-    add_loads(totals, load, rows);
+    let mut load = [0u64; Table::ROWS];
+    let mut part = [0u64; Table::ROWS];
+    choice::part_shares(rate, end as u64, size, &mut load, &mut part);
+    let rounded = choice::choose(tail, head, out, into, words, size, &part);
+    give(rounded, size.rows, &mut load, totals);
+    slots::fill(second, heads, next, &load, top, end - start, plan);
 }

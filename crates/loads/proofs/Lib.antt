@@ -1,3 +1,6 @@
 pub mod Line
-pub mod Filling
 pub mod Choice
+pub mod Settling
+pub mod Comparing
+pub mod Turning
+pub mod States

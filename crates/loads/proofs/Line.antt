@@ -11,7 +11,7 @@ use Rattle.numbers.specs.Finite.{sum, sumIn, only}
 use Rattle.numbers.proofs.Finite.{only-true, only-false, only-zero, only-comm, sum-eq, sum-add, sum-split, sum-but, eq-additive, sumIn-add}
 use Rattle.flow.specs.Network.{Net, Circulation}
 use Rattle.loads.specs.Loads.{covers, inSet}
-use Rattle.loads.specs.Laid.{Lines}
+use Rattle.loads.specs.Line.{Lines}
 
 -- ---- where a row is
 

@@ -1,2 +1,3 @@
 pub mod Loads
-pub mod Laid
+pub mod Line
+pub mod State

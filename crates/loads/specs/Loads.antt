@@ -2,18 +2,25 @@
 --
 --   covers a b k            a row of the sets a, .., b belongs to set k
 --   inSet a b k             the rows of set k
---   share-most, lag-most    no row's share, and no set's lag, is above these, in units of 1 / h
+--   last head i             the last set of a row that ends at place head i, which is after it
+--   digit w i               1 where row i is in the word w, else 0
+--   none                    no slots were had
+--   share-most, part-most   no row's share, and no set's sum of parts, is above these, in units of 1 / h
 --   Spans n K a b           n rows and K sets, few enough, and every row's sets are among them
---   Lags n h share had      no row has had more slots than its share, which is in units of 1 / h
+--   Parts n h f             h is one that a table can have, and f are parts of a slot, in units of 1 / h
+--   Summed n K a b f s      s are the sets' sums of f
 --   Qualified               x are loads that qualify: with the slots already had, every row's and every set's sum is its share rounded
 --   Greatest                of all that qualify, x are the loads in which row 0's is greatest, among those row 1's, and so on
 use mathlib.Core.Path.{_≡_}
 use mathlib.Core.Bool.{Bool, _&&_}
-use Prim.Native.Nat.{ℕ, _+_, _*_, _≤_, _<_}
+use mathlib.Core.List.{List}
+use Prim.Native.Nat.{ℕ, _+_, _-_, _*_, _≤_, _<_}
 use lib.Dec.{leb}
-use Rattle.numbers.specs.Finite.{sumIn}
+use Rattle.numbers.specs.Finite.{sumIn, only}
+use Rattle.numbers.specs.Lists.{at}
 use Rattle.numbers.specs.Rounding.{Rounded}
-use Rattle.rules.specs.Bounds.{max-rows, max-slots}
+use Rattle.numbers.specs.Word.{bit}
+use Rattle.rules.specs.Bounds.{max-elements, max-rows, max-slots}
 
 abbrev pub covers : ℕ → ℕ → ℕ → Bool
 covers a b k = leb a k && leb k b
@@ -21,22 +28,34 @@ covers a b k = leb a k && leb k b
 abbrev pub inSet : (a b : ℕ → ℕ) → ℕ → ℕ → Bool
 inSet a b k i = covers (a i) (b i) k
 
-pub record Spans (n K : ℕ) (a b : ℕ → ℕ) : Type 0 where
-  pub few-rows : n ≤ max-rows
-  pub few-sets : K ≤ max-rows
-  pub row : (i : ℕ) → i < n → (a i ≤ b i) × (b i < K)
+abbrev pub last : List ℕ → ℕ → ℕ
+last head i = at head i - 1
+
+abbrev pub digit : ℕ → ℕ → ℕ
+digit w i = only (bit w i) 1
+
+abbrev pub none : ℕ → ℕ
+none i = 0
 
 -- A row's share is its part of at most max-slots slots, of at most max-slots units each.
 abbrev pub share-most : ℕ
 share-most = max-slots * max-slots
 
-abbrev pub lag-most : ℕ
-lag-most = max-rows * share-most
+abbrev pub part-most : ℕ
+part-most = max-rows * max-slots
 
-pub record Lags (n h : ℕ) (share had : ℕ → ℕ) : Type 0 where
+pub record Spans (n K : ℕ) (a b : ℕ → ℕ) : Type 0 where
+  pub few-rows : n ≤ max-rows
+  pub few-sets : K ≤ max-elements
+  pub row : (i : ℕ) → i < n → (a i ≤ b i) × (b i < K)
+
+pub record Parts (n h : ℕ) (f : ℕ → ℕ) : Type 0 where
   pub some : 0 < h
   pub fits : h ≤ max-slots
-  pub row : (i : ℕ) → i < n → (had i * h ≤ share i) × (share i ≤ share-most)
+  pub row : (i : ℕ) → i < n → f i < h
+
+abbrev pub Summed : (n K : ℕ) (a b f s : ℕ → ℕ) → Type 0
+Summed n K a b f s = (k : ℕ) → k < K → s k ≡ sumIn n (inSet a b k) f
 
 pub record Qualified (n K : ℕ) (a b : ℕ → ℕ) (h : ℕ) (share had x : ℕ → ℕ) : Type 0 where
   pub rows : (i : ℕ) → i < n → Rounded (had i + x i) (share i) h

@@ -132,7 +132,7 @@ stretch-pow (suc k) (suc a) (suc b) h =
 
 -- ---- the bits fix the word
 
-low-eq : (v w : ℕ) → bit v 0 ≡ bit w 0 → v % 2 ≡ w % 2
+pub low-eq : (v w : ℕ) → bit v 0 ≡ bit w 0 → v % 2 ≡ w % 2
 low-eq v w e =
     low-digits (λ a b. eqb a 1 ≡ eqb b 1 → a ≡ b) (λ q. refl) (λ q. absurd (along (sym q) tt)) (λ q. absurd (along q tt)) (λ q. refl) v w
     (sym (bit-low v) ∙ e ∙ bit-low w)

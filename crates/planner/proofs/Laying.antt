@@ -1,13 +1,13 @@
 -- Intervals that can be planned, and what they share.
 use mathlib.Core.Path.{_≡_, refl, sym, ap, _∙_}
 use mathlib.Core.List.{List}
-use Prim.Native.Nat.{ℕ, _+_, _-_, _≤_}
+use Prim.Native.Nat.{ℕ, _+_, _-_, _≤_, _<_}
 use native.Mathlib.Nat.{le-refl}
 use native.Mathlib.Omega.{arith}
 use lib.ListN.{length, replicate}
 use Rattle.numbers.specs.Lists.{at}
 use Rattle.numbers.proofs.Lists.{zeros-at}
-use Rattle.rules.specs.Bounds.{max-rows}
+use Rattle.rules.specs.Bounds.{max-elements, max-rows}
 use Rattle.rules.specs.Bus.{Table}
 use Rattle.rules.specs.Loads.{end, intervals}
 use Rattle.rules.specs.Planner.{due, Off}
@@ -17,13 +17,11 @@ use Rattle.lags.proofs.States.{not-off}
 use Rattle.outline.specs.Time.{Begins}
 use Rattle.verdict.specs.declared.Analysis.{Analysis}
 use Rattle.verdict.specs.Analysed.{Accepted}
-use Rattle.loads.specs.Loads.{Spans}
-use Rattle.loads.specs.Laid.{Laid}
-use Rattle.loads.specs.declared.Network.{Network}
-use Rattle.slots.specs.Chained.{Chained}
-use Rattle.interval.specs.Ranges.{Ranged}
-use Rattle.interval.specs.Ready.{Ready}
-use Rattle.interval.proofs.RowSets.{ranged-spans}
+use Rattle.slots.specs.Chained.{all-heads}
+use Rattle.interval.specs.declared.Layout.{Layout}
+use Rattle.interval.specs.Ready.{LaidOut, Ready}
+use Rattle.interval.proofs.RowSets.{sets-limit}
+use Rattle.interval.proofs.Ready.{ends-on-line}
 use Rattle.planner.specs.declared.Stage.the-variants.{Due}
 use Rattle.planner.specs.declared.Planner.{Planner}
 use Rattle.planner.specs.State.{stageOf, plannerOf, slotOf}
@@ -77,32 +75,36 @@ module _ {t : Table} {a : Analysis} (A : Accepted t a) where
 
   -- ---- what the intervals share
 
-  module _ {from to : List ℕ} (R : Ranged (a .outline .rows) (a .outline .sets) (a .outline .words) from to) where
-    listed : a .outline .sets ≤ length (a .outline .words)
-    listed = omega (arith, few-sets A, A .outline .size)
+  listed : a .outline .sets ≤ length (a .outline .words)
+  listed = omega (arith, few-sets A, A .outline .size)
 
-    ranged : Ranged (t .rows) (a .outline .sets) (a .outline .words) from to
-    ranged = rw (A .outline .rows) at R
+  -- no more sets than elements
+  pub low-sets : a .outline .sets ≤ max-elements
+  low-sets =
+      omega (
+        arith,
+        sets-limit (a .outline .sets) (a .outline .words) (A .admissible) (A .outline .list) listed,
+        A .admissible .sound .elements-high,
+      )
 
-    pub ranges-span : Spans (a .outline .rows) (a .outline .sets) (at from) (at to)
-    ranges-span = rw (A .outline .rows) (ranged-spans (A .admissible) (A .outline .list) listed ranged)
+  pub firsts-low : (i : ℕ) → i < a .outline .rows → at (a .outline .first) i < all-heads
+  firsts-low i h =
+      let e = ends-on-line (A .admissible) (A .outline .first) (A .outline .second) i (omega (arith, A .outline .rows)) in
+      omega (arith, e, A .admissible .sound .elements-high)
 
-    pub ready-of : {net : Network} {head next : List ℕ} → Laid (a .outline .rows) (a .outline .sets) (at from) (at to) net
-        → Chained (a .outline .rows) (at (a .outline .first)) head next
-        → Ready t (a .outline .rows) (a .outline .sets) (a .outline .elements + 1) (a .outline .time .hyper) (a .outline .first)
-        (a .outline .second) (a .rate) from to net head next
-    ready-of L C = record {
-      admissible = A .admissible;
-      row-count = A .outline .rows;
-      top-end = ap (λ (m : ℕ). m + 1) (A .outline .elements);
-      hyper-is = hyper-is A;
-      firsts = A .outline .first;
-      seconds = A .outline .second;
-      rates = A .rate;
-      words = a .outline .words;
-      room = listed;
-      list = A .outline .list;
-      ranged = ranged;
-      laid = rw (A .outline .rows) at L;
-      chained = rw (A .outline .rows) at C;
-    }
+  pub ready-of : {L : Layout} → LaidOut (a .outline .rows) (a .outline .sets) (a .outline .words) (a .outline .first) L
+      → Ready t (record { rows = a .outline .rows; sets = a .outline .sets; hyper = a .outline .time .hyper }) (a .outline .elements + 1)
+      (a .outline .second) (a .rate) (a .outline .words) L
+  ready-of L = record {
+    admissible = A .admissible;
+    row-count = A .outline .rows;
+    top-end = ap (λ (m : ℕ). m + 1) (A .outline .elements);
+    hyper-is = hyper-is A;
+    first = a .outline .first;
+    firsts = A .outline .first;
+    seconds = A .outline .second;
+    rates = A .rate;
+    room = listed;
+    list = A .outline .list;
+    laid = rw (A .outline .rows) at L;
+  }

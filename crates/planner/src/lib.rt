@@ -6,7 +6,7 @@
 // A planner is kept by the caller and any state may be handed in. So the slot that it has reached is held to the hyperperiod first, then
 // its spare totals, and then its totals row by row, before any product is taken. Arrays are lent where they can be: the supervisor's
 // stack is small.
-use flow::ARCS;
+use loads::Size;
 use outline::Time;
 use table::Answer;
 use table::Table;
@@ -86,8 +86,7 @@ fn stage_after(end: u64, hyper: u64, next: u64) -> Stage
 // ---- intervals
 
 // Plans the intervals from slot `from` up to slot `until` of an admitted table, for rows that have had `totals`: writes their words to the
-// front of `plan`, each interval's to its own stretch, and gives the totals after the last. What the intervals share is laid out once,
-// and so are the arrays that are lent to each of them for its work.
+// front of `plan`, each interval's to its own stretch, and gives the totals after the last. What the intervals share is laid out once.
 fn plan_intervals(
     table: Analysis,
     from: u64,
@@ -103,18 +102,12 @@ fn plan_intervals(
     let sets = table.outline.sets;
     let top = table.outline.elements + 1;
     let time = table.outline.time;
-    let ranges = interval::ranges_of(rows, sets, &table.outline.words);
-    let lowest = ranges.from;
-    let highest = ranges.to;
-    let net = loads::lay(&lowest, &highest, rows, sets);
-    let chains = slots::chain(&table.outline.first, rows);
-    let head = chains.head;
-    let next = chains.next;
-    let mut x = [0u64; ARCS];
-    let mut low = [0u64; ARCS];
-    let mut high = [0u64; ARCS];
-    let mut load = [0u64; Table::ROWS];
-    let mut last = [0u8; Table::SLOTS];
+    let layout = interval::lay(rows, sets, &table.outline.words, &table.outline.first);
+    let size = Size {
+        rows,
+        sets,
+        hyper: time.hyper,
+    };
     let mut after = totals;
     let mut slot = from;
     let mut at: usize = 0;
@@ -123,29 +116,18 @@ fn plan_intervals(
         interval::advance(
             slot as usize,
             end as usize,
-            rows,
-            sets,
+            size,
             top,
-            time.hyper,
-            &table.outline.first,
             &table.outline.second,
             &table.rate,
-            &lowest,
-            &highest,
-            &net.tail,
-            &net.head,
-            &net.out,
-            &net.outs,
-            &net.into,
-            &net.intos,
-            &head,
-            &next,
+            &table.outline.words,
+            &layout.tail,
+            &layout.head,
+            &layout.out,
+            &layout.into,
+            &layout.heads,
+            &layout.next,
             &mut after,
-            &mut x,
-            &mut low,
-            &mut high,
-            &mut load,
-            &mut last,
             &mut plan[at..],
         );
         at += (end - slot) as usize;

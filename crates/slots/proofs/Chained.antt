@@ -1,7 +1,7 @@
 -- Chains of the rows that start at one element: how they are laid, from the last row down, and that only one answer fits.
 --
 --   link-only                 only one link fits
---   rest n r                  how many rows may be left on the chain from r on
+--   rest r                    how many rows may be left on the chain from r on
 --   chain-start, chain-more, chain-end
 --                             no row is chained; one more is, the one before those that are; all are
 --   head-only, next-only      only one head and one next fit
@@ -41,11 +41,11 @@ pub link-row : {n : ℕ} {f : ℕ → ℕ} {e i r : ℕ} → Link n f e i r → 
 link-row {n} {r = r} L = ⊎-elim (λ a. a) (λ (a : n < r). L .starts (omega arith) .1) (le-or-lt r n)
 
 -- at most so many rows are left on a chain: none where r is 0
-abbrev pub rest : ℕ → ℕ → ℕ
-rest n r = min (max-rows * r) (n + 1 - r)
+abbrev pub rest : ℕ → ℕ
+rest r = min (max-rows * r) (max-rows + 1 - r)
 
 -- each link leads to a later row
-pub rest-less : {n : ℕ} {f : ℕ → ℕ} {e i r s : ℕ} → Link n f e i s → n ≤ max-rows → 0 < r → r ≤ i → r ≤ n → rest n s < rest n r
+pub rest-less : {n : ℕ} {f : ℕ → ℕ} {e i r s : ℕ} → Link n f e i s → n ≤ max-rows → 0 < r → r ≤ i → r ≤ n → rest s < rest r
 rest-less {n} {i = i} {r = r} {s = s} L few some on le =
     ⊎-elim (λ (a : s ≤ 0). omega arith) (λ (a : 0 < s). let p = L .starts a in omega arith) (le-or-lt s 0)
 

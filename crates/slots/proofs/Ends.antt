@@ -1,27 +1,27 @@
 -- The last second end in each slot tells whether the slot is free, as rows are taken by ascending first end.
 --
+--   Last n g P s z  z is the greatest second end of the rows in slot s, 0 where none is there
 --   free-among      a slot is free for a row just when no row there overlaps it, where all rows there are taken before it
 --   free-last       just when the last second end there is at most the row's first end
---   last-none, last-put    the last ends where no row has a slot, and after a row is put into one
+--   last-none, last-put, last-as
+--                   the last end where no row has the slot; after a row is put there; the same in other words
 use mathlib.Core.Path.{_≡_, refl, sym, ap, _∙_}
 use mathlib.Core.Logic.{_⊎_, inl, inr, ⊎-elim}
-use mathlib.Core.List.{List}
-use mathlib.Core.Bool.{Bool, false, not, _&&_}
+use mathlib.Core.Bool.{Bool, false, not, _&&_, _||_}
 use Prim.Native.Nat.{ℕ, _≤_, _<_}
 use native.Mathlib.Omega.{arith}
 use lib.Dec.{T, leb, eqb, leb→le, le→leb, eqb→eq, eqb-refl}
-use lib.ListN.{length, set}
-use lib.Seq.{getD-set-same, getD-set-other}
 use Rattle.numbers.specs.Finite.{any}
-use Rattle.numbers.specs.Lists.{at}
-use Rattle.numbers.proofs.Truth.{both, fst, snd, orl, orr, or-cases, decide, refuted, refutes, same, along, of-false, eqb-of, le-or-lt}
+use Rattle.numbers.proofs.Truth.{both, fst, snd, orr, or-cases, refuted, refutes, same, along, of-false, le-or-lt}
 use Rattle.numbers.proofs.Finite.{any-of, any-eq, least}
 use Rattle.rules.specs.Line.{meet}
-use Rattle.rules.specs.Interval.{before, hinders, free, moves}
+use Rattle.rules.specs.Interval.{before, hinders, free}
 use Rattle.rules.proofs.Interval.{before-le}
 use Rattle.sets.proofs.Overlap.{meet-is, meet-of}
-use Rattle.slots.specs.Walk.{Last}
-use Rattle.slots.proofs.Scan.{put, moves-put}
+
+pub record Last (n : ℕ) (g : ℕ → ℕ) (P : ℕ → ℕ → Bool) (s z : ℕ) : Type 0 where
+  pub over : (j : ℕ) → T (P j s) → g j ≤ z
+  pub reached : (z ≡ 0) ⊎ ((j : ℕ) × (j < n) × T (P j s) × (g j ≡ z))
 
 -- ---- is a slot free
 
@@ -62,47 +62,17 @@ module _ (n : ℕ) (g : ℕ → ℕ) where
   pub last-none : (P : ℕ → ℕ → Bool) (s : ℕ) → ((j : ℕ) → P j s ≡ false) → Last n g P s 0
   last-none P s h = record { over = λ j t. absurd (of-false (h j) t); reached = inl refl }
 
-  -- row i is put into slot s, where no row ends later than it does
-  pub last-put : (l : ℕ) (words last : List ℕ) (s i : ℕ) → i < n → s < length words → s < length last → at last s ≤ g i
-      → ((u : ℕ) → u < l → Last n g (moves words) u (at last u))
-      → (u : ℕ) → u < l → Last n g (moves (put words s i)) u (at (set last s (g i)) u)
-  last-put l words last s i hi hw hl le all u m =
-      ⊎-elim (λ a. here (eqb→eq u s a)) (λ a. other a) (decide (eqb u s))
-    where
-      was : (j : ℕ) → T (moves (put words s i) j u) → T (moves words j u) ⊎ T (eqb u s && eqb j i)
-      was j h = or-cases (moves words j u) (eqb u s && eqb j i) (along (moves-put words s i hw j u) h)
+module _ {n : ℕ} {g : ℕ → ℕ} {P Q : ℕ → ℕ → Bool} {s z y : ℕ} (L : Last n g P s z) where
+  pub last-as : y ≡ z → ((j : ℕ) → Q j s ≡ P j s) → Last n g Q s y
+  last-as e h = record {
+    over = λ j t. omega (arith, L .over j (along (h j) t));
+    reached = ⊎-elim (λ q. inl (e ∙ q)) (λ r. inr (r .0, r .1, along (sym (h (r .0))) (r .2), r .3 ∙ sym e)) (L .reached);
+  }
 
-      here : u ≡ s → Last n g (moves (put words s i)) u (at (set last s (g i)) u)
-      here q =
-          let v : at (set last s (g i)) u ≡ g i = ap (at (set last s (g i))) q ∙ getD-set-same last s (g i) 0 hl in
-          record {
-            over = λ j h.
-                ⊎-elim
-                (λ a. omega (arith, v, all u m .over j a, ap (at last) q))
-                (λ a. omega (arith, v, ap g (eqb→eq j i (snd (eqb u s) (eqb j i) a))))
-                (was j h);
-            reached = inr (
-              i,
-              hi,
-              along (sym (moves-put words s i hw i u))
-                  (orr (moves words i u) (eqb u s && eqb i i) (both (eqb u s) (eqb i i) (eqb-of u s q) (eqb-refl i))),
-              sym v,
-            );
-          }
-
-      other : (T (eqb u s) → ⊥) → Last n g (moves (put words s i)) u (at (set last s (g i)) u)
-      other a =
-          let v : at (set last s (g i)) u ≡ at last u = getD-set-other last s u (g i) 0 (λ q. a (eqb-of u s q)) in
-          let k = all u m in
-          record {
-            over = λ j h. omega (arith, v, k .over j (⊎-elim (λ b. b) (λ b. absurd (a (fst (eqb u s) (eqb j i) b))) (was j h)));
-            reached =
-                ⊎-elim (λ z. inl (v ∙ z))
-                (λ r. inr (
-                  r .0,
-                  r .1,
-                  along (sym (moves-put words s i hw (r .0) u)) (orl (moves words (r .0) u) (eqb u s && eqb (r .0) i) (r .2)),
-                  r .3 ∙ sym v,
-                ))
-                (k .reached);
-          }
+  -- row i is put into the slot, where no row ends later than it does
+  pub last-put : {i : ℕ} → i < n → z ≤ g i → y ≡ g i → ((j : ℕ) → Q j s ≡ (P j s || eqb j i)) → Last n g Q s y
+  last-put {i} d le e h = record {
+    over = λ j t.
+        ⊎-elim (λ a. omega (arith, L .over j a)) (λ a. omega (arith, ap g (eqb→eq j i a))) (or-cases (P j s) (eqb j i) (along (h j) t));
+    reached = inr (i, d, along (sym (h i)) (orr (P i s) (eqb i i) (eqb-refl i)), sym e);
+  }

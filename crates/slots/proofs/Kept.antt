@@ -1,16 +1,14 @@
--- A lent slice of which only the first l places change, and how it is cleared.
-use mathlib.Core.Path.{_≡_, refl, ap, _∙_}
+-- A lent slice of which only the first l places change.
+use mathlib.Core.Path.{_≡_, refl, sym, ap, _∙_}
 use mathlib.Core.Logic.{⊎-elim}
 use mathlib.Core.List.{List}
-use Prim.Native.Nat.{ℕ, suc, _+_, _≤_, _<_}
-use native.Mathlib.Nat.{not-suc-le-zero}
+use Prim.Native.Nat.{ℕ, _+_, _-_, _≤_, _<_}
 use native.Mathlib.Omega.{arith}
-use lib.ListN.{length, set, length-set}
-use lib.Seq.{getD-set-same, getD-set-other, drop-set-lt}
+use lib.ListN.{length, set, drop, length-set, length-drop}
+use lib.Seq.{drop-set-lt, getD-drop, ext-getD}
 use Rattle.numbers.specs.Lists.{at}
-use Rattle.numbers.proofs.Finite.{below}
+use Rattle.numbers.proofs.Truth.{le-or-lt}
 use Rattle.slots.specs.Filled.{Kept}
-use Rattle.slots.specs.Walk.{Cleared}
 
 pub kept-none : (l : ℕ) (was : List ℕ) → Kept l was was
 kept-none l was = record { rest = refl; long = refl }
@@ -22,20 +20,18 @@ pub kept-set : {l : ℕ} {was now : List ℕ} (s v : ℕ) → Kept l was now →
 kept-set {l} {was} {now} s v K h =
     record { rest = drop-set-lt l now s v h ∙ K .rest; long = length-set now s v ∙ K .long }
 
--- ---- clearing
-
-pub cleared-none : (l : ℕ) (was : List ℕ) → Cleared l was 0 was
-cleared-none l was = record { zeros = λ u h. absurd (not-suc-le-zero h); kept = kept-none l was }
-
-pub cleared-more : {l s : ℕ} {was now : List ℕ} → Cleared l was s now → s < l → s < length now → Cleared l was (s + 1) (set now s 0)
-cleared-more {l} {s} {was} {now} C h m = record {
-  zeros = λ u k.
-      ⊎-elim
-      (λ (e : u ≡ s). ap (at (set now s 0)) e ∙ getD-set-same now s 0 0 m)
-      (λ (d : u < s). getD-set-other now s u 0 0 (λ q. let z : ⊥ = omega arith in z) ∙ C .zeros u d)
-      (below (let d : u < suc s = omega arith in d));
-  kept = kept-set s 0 (C .kept) h;
+-- place by place
+pub kept-of : (l : ℕ) (was now : List ℕ) → length now ≡ length was → ((s : ℕ) → l ≤ s → at now s ≡ at was s) → Kept l was now
+kept-of l was now e h = record {
+  rest = ext-getD 0 (drop l now) (drop l was) (length-drop l now ∙ ap (λ (k : ℕ). k - l) e ∙ sym (length-drop l was))
+      (λ i m. getD-drop l now i 0 ∙ h (l + i) (omega arith) ∙ sym (getD-drop l was i 0));
+  long = e;
 }
 
-pub cleared-all : {l s : ℕ} {was now : List ℕ} → Cleared l was s now → l ≤ s → Cleared l was l now
-cleared-all C h = record { zeros = λ u d. C .zeros u (omega arith); kept = C .kept }
+-- the first place is cleared, where there is one
+pub kept-cleared : (l : ℕ) (was now : List ℕ) → (0 < l → now ≡ set was 0 0) → (l ≡ 0 → now ≡ was) → Kept l was now
+kept-cleared l was now some none =
+    ⊎-elim
+    (λ (a : l ≤ 0). rw (none (omega arith)) (kept-none l was))
+    (λ (a : 0 < l). rw (some a) (kept-set 0 0 (kept-none l was) a))
+    (le-or-lt l 0)

@@ -3,6 +3,10 @@ pub mod Chained
 pub mod Upto
 pub mod Scan
 pub mod Ends
+pub mod Stretches
+pub mod Parted
+pub mod Stretched
 pub mod Walk
+pub mod Course
 pub mod Placed
 pub mod Filled

@@ -1,5 +1,7 @@
--- Rows that are given their slots one after another, for any test o whether two rows overlap.
+-- Rows that are given their slots one after another, for any test o whether two rows overlap. P i s says that row i has slot s.
 --
+--   chosen p k s            slot s is one of the first k that have p
+--   Upto n o f x l D P      the rows of D have their slots, and no other row has any
 --   upto-none, upto-step, upto-words    no row has its slots; one more row has; all have, and the words are those of the interval
 use mathlib.Core.Path.{_≡_, sym, ap, ap₂, _∙_, subst}
 use mathlib.Core.Logic.{⊎-elim}
@@ -11,12 +13,17 @@ use lib.Dec.{T, ltb, eqb, ltb→lt, eqb→eq, eqb-refl}
 use lib.ListN.{length, take}
 use lib.Seq.{length-take-le, getD-take}
 use borrow.Author.Tests.{lt-ltb}
+use Rattle.numbers.specs.Finite.{count}
 use Rattle.numbers.specs.Word.{bit}
-use Rattle.numbers.proofs.Truth.{fst, orr, decide, is-true, is-false, along}
+use Rattle.numbers.proofs.Truth.{fst, orr, decide, is-true, is-false, along, and-under}
 use Rattle.rules.specs.Interval.{before, free, moves, SlotWords}
 use Rattle.rules.proofs.Interval.{before-asym, before-self, moves-lt, free-eq, chosen-eq}
-use Rattle.numbers.proofs.Truth.{and-under}
-use Rattle.slots.specs.Walk.{chosen, Upto}
+
+abbrev pub chosen : (ℕ → Bool) → ℕ → ℕ → Bool
+chosen p k s = p s && ltb (count s p) k
+
+pub record Upto (n : ℕ) (o : ℕ → ℕ → Bool) (f x : ℕ → ℕ) (l : ℕ) (D : ℕ → Bool) (P : ℕ → ℕ → Bool) : Type 0 where
+  pub so : (i s : ℕ) → s < l → P i s ≡ (D i && chosen (free n o f P i) (x i) s)
 
 module _ (n : ℕ) (o : ℕ → ℕ → Bool) (f x : ℕ → ℕ) (l : ℕ) where
   pub upto-none : (P : ℕ → ℕ → Bool) → ((i s : ℕ) → s < l → P i s ≡ false) → Upto n o f x l (λ j. false) P
@@ -61,18 +68,19 @@ module _ (n : ℕ) (o : ℕ → ℕ → Bool) (f x : ℕ → ℕ) (l : ℕ) wher
           ∙ ap (λ (b : Bool). b && chosen (free n o f Q j) (x j) s)
           (sym (ap (λ (b : Bool). D j || b) (is-false (eqb j i) h) ∙ or-false (D j)))
 
-  -- all rows have their slots: the first l of the words, with nothing past them, are those of the interval
-  pub upto-words : (out : List ℕ) → l ≤ length out → Upto n o f x l (λ j. ltb j n) (moves out) → SlotWords n o f x l (take l out)
-  upto-words out h U = record {
+  -- all rows have their slots: the first l words, which show who has which slot, are those of the interval
+  pub upto-words : (P : ℕ → ℕ → Bool) (out : List ℕ) → l ≤ length out → ((i s : ℕ) → s < l → moves out i s ≡ P i s)
+      → Upto n o f x l (λ j. ltb j n) P → SlotWords n o f x l (take l out)
+  upto-words P out h shown U = record {
     size = length-take-le l out h;
     rows = λ i s w.
         let m : s < l = omega (arith, moves-lt (take l out) i s w, length-take-le l out h) in
-        ltb→lt i n (fst (ltb i n) (chosen (free n o f (moves out) i) (x i) s) (along (front i s m ∙ U .so i s m) w));
+        ltb→lt i n (fst (ltb i n) (chosen (free n o f P i) (x i) s) (along (front i s m ∙ U .so i s m) w));
     earliest = λ i s d m.
-        front i s m ∙ U .so i s m ∙ ap (λ (b : Bool). b && chosen (free n o f (moves out) i) (x i) s) (lt-ltb i n d)
-        ∙ chosen-eq (free n o f (moves out) i) (free n o f (moves (take l out)) i) (x i) l s m
-        (λ u k. free-eq n o f (moves out) (moves (take l out)) i u (λ j b w. sym (front j u k)));
+        front i s m ∙ U .so i s m ∙ ap (λ (b : Bool). b && chosen (free n o f P i) (x i) s) (lt-ltb i n d)
+        ∙ chosen-eq (free n o f P i) (free n o f (moves (take l out)) i) (x i) l s m
+        (λ u k. free-eq n o f P (moves (take l out)) i u (λ j b w. sym (front j u k)));
   }
     where
-      front : (i s : ℕ) → s < l → moves (take l out) i s ≡ moves out i s
-      front i s m = ap (λ (w : ℕ). bit w i) (getD-take l out s 0 m)
+      front : (i s : ℕ) → s < l → moves (take l out) i s ≡ P i s
+      front i s m = ap (λ (w : ℕ). bit w i) (getD-take l out s 0 m) ∙ shown i s m

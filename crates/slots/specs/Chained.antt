@@ -1,21 +1,23 @@
 -- The rows of a table, chained by the element at which they start: what `chain` gives.
 --
---   all-heads                    how many heads there are: one for each element that a byte can hold
+--   all-heads                    how many heads there are: one for each element of two lines, and one that is not used
 --   Link n first e i r           r is 1 + the lowest row from i on that starts at element e, 0 where none does
 --   ChainedFrom n first i head next
 --                                the rows from i on are chained: head links to the lowest of them at each element, next links on from each
 --   Chained n first head next    all rows are chained
+--   ChainedRows n first second top head next
+--                                n rows on a line of the elements 1 to top, chained
 --
 -- Only one head and one next fit (proofs/Chained).
 use mathlib.Core.Path.{_≡_}
 use mathlib.Core.List.{List}
-use Prim.Native.Nat.{ℕ, _+_, _-_, _≤_, _<_}
+use Prim.Native.Nat.{ℕ, _+_, _-_, _*_, _≤_, _<_}
 use lib.ListN.{length}
 use Rattle.numbers.specs.Lists.{at}
-use Rattle.rules.specs.Bounds.{max-rows}
+use Rattle.rules.specs.Bounds.{max-elements, max-rows}
 
 abbrev pub all-heads : ℕ
-all-heads = 256
+all-heads = 2 * (max-elements + 1) + 1
 
 pub record Link (n : ℕ) (first : ℕ → ℕ) (e i r : ℕ) : Type 0 where
   pub starts : 0 < r → (i < r) × (r ≤ n) × (first (r - 1) ≡ e)
@@ -30,3 +32,9 @@ pub record ChainedFrom (n : ℕ) (first : ℕ → ℕ) (i : ℕ) (head next : Li
 
 abbrev pub Chained : (n : ℕ) → (ℕ → ℕ) → List ℕ → List ℕ → Type 0
 Chained n first head next = ChainedFrom n first 0 head next
+
+pub record ChainedRows (n : ℕ) (first second : ℕ → ℕ) (top : ℕ) (head next : List ℕ) : Type 0 where
+  pub few : n ≤ max-rows
+  pub low : top < all-heads
+  pub line : (i : ℕ) → i < n → (1 ≤ first i) × (first i < second i) × (second i ≤ top)
+  pub chained : Chained n first head next

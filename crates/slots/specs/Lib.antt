@@ -1,3 +1,3 @@
 pub mod Filled
-pub mod Walk
 pub mod Chained
+pub mod Stretches

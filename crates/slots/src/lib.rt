@@ -1,18 +1,22 @@
 // The slots of one interval (document 01, "Loads of one interval, and its slots"; source document 000, section 4.1, Algorithm 1, POBase).
 //
 // POBase sorts the rows by first end. Here the elements of the line are walked in order, and the rows that start at each are taken by row
-// number: the same order, with no sorted copy. Chains, laid once for a table, lead from each element to its rows, so that an interval costs
-// its elements, its rows and the slots looked at. As in POBase a slot is free for a row just when its last second end is at most the row's
-// first end. For a slot that no row has that is 0 here and 1 there; elements start at 1, so either will do.
+// number: the same order, with no sorted copy. Chains, laid once for a table, lead from each element to its rows. As in POBase a slot is
+// free for a row just when its last second end is at most the row's first end. For a slot that no row has that is 0 here and 1 there;
+// elements start at 1, so either will do.
+//
+// Slots are scanned by stretches: neighbouring slots that hold the same rows. A row takes a stretch whole, or parts it where its load is
+// used up inside, so there is at most one stretch more than rows, however long the interval is. Of the rows that start at one element each
+// scans on from where the row before it stopped: every slot up to there has a last end past the element.
 use table::Table;
 ghost use mathlib.Core.Path.{_≡_};
 ghost use Prim.Native.Nat.{ℕ, _+_, _≤_, _<_};
-ghost use lib.ListN.{length};
+ghost use lib.ListN.{length, set};
 ghost use Rattle.numbers.specs.Lists.{at};
-ghost use Rattle.rules.specs.Bounds.{max-rows};
-ghost use Rattle.slots.specs.Chained.{all-heads, Chained};
-ghost use Rattle.slots.specs.Filled.{Kept, FilledSlots};
-ghost use Rattle.slots.specs.Walk.{taken, Cleared, Walked};
+ghost use Rattle.rules.specs.Bounds.{max-rows, max-slots};
+ghost use Rattle.slots.specs.Chained.{all-heads, Chained, ChainedRows};
+ghost use Rattle.slots.specs.Filled.{FilledSlots};
+ghost use Rattle.slots.specs.Stretches.{most-stretches, Tiles, Parted, Repeated, Spread};
 
 // The rows that start at each element, by row number. `head[e]` leads to the lowest row that starts at element e, `next[i]` from row i to
 // the next one that starts where it does: each is 1 + the row, or 0 where there is none.
@@ -22,20 +26,30 @@ pub struct Chains {
 }
 
 impl Chains {
-    // A head for each element that a byte can hold.
-    pub const HEADS: usize = 256;
+    // A line's elements are numbered from 1, and it has one more than its ring. There is room for two lines, one after the other.
+    pub const HEADS: usize = 2 * (Table::ELEMENTS + 1) + 1;
 }
 
-// Each byte has a head.
+// Each row parts one stretch at most.
+const STRETCHES: usize = Table::ROWS + 1;
+
+// A byte as an index.
 fn wide(x: u8) -> usize
-    ensures { λ r. ⌜ (r ≡ x) × (r < all-heads) ⌝ }
+    ensures { λ r. ⌜ r ≡ x ⌝ }
+{
+    x as usize
+}
+
+// A slot's number as an index.
+fn slot(x: u16) -> usize
+    ensures { λ r. ⌜ r ≡ x ⌝ }
 {
     x as usize
 }
 
 // Chains the rows by their first ends.
 pub fn chain(first: &[u8; Table::ROWS], rows: usize) -> Chains
-    requires { ⌜ rows ≤ max-rows ⌝ }
+    requires { ⌜ (rows ≤ max-rows) × ((i : ℕ) → i < rows → at (now first) i < all-heads) ⌝ }
     ensures { λ r. ⌜ Chained rows (at (now (first .entry))) (r .head) (r .next) ⌝ }
 {
     let mut head = [0u8; Chains::HEADS];
@@ -50,101 +64,129 @@ pub fn chain(first: &[u8; Table::ROWS], rows: usize) -> Chains
     Chains { head, next }
 }
 
-// Clears the first `slots` words, and the last end of each slot.
-fn clear(slots: usize, last: &mut [u8], words: &mut [u64])
-    requires { ⌜ (slots ≤ length (now last)) × (slots ≤ length (now words)) ⌝ }
-    ensures { λ _. ⌜ Cleared slots (now (last .entry)) slots (now (last .exit))
-        × Cleared slots (now (words .entry)) slots (now (words .exit)) ⌝ }
+// Parts stretch `k`, which begins at slot `start`, where it has more than `most` slots: those past them become stretch `new`. Gives how
+// many slots the stretch then has.
+fn part(
+    end: &mut [u16; STRETCHES],
+    last: &mut [u8; STRETCHES],
+    after: &mut [u8; STRETCHES],
+    words: &mut [u64],
+    k: usize,
+    start: usize,
+    most: usize,
+    new: usize,
+) -> usize
+    requires { ⌜ (length (now end) ≡ most-stretches) × (length (now last) ≡ most-stretches) × (length (now after) ≡ most-stretches)
+        × (k < most-stretches) × (new < most-stretches) × (start ≤ at (now end) k) × (at (now end) k ≤ max-slots)
+        × (at (now end) k ≤ length (now words)) ⌝ }
+    ensures { λ r. ⌜ Parted k start most new r
+        (now (end .entry)) (now (last .entry)) (now (after .entry)) (now (words .entry))
+        (now (end .exit)) (now (last .exit)) (now (after .exit)) (now (words .exit)) ⌝ }
 {
-    let mut s: usize = 0;
-    while s < slots {
-        last[s] = 0;
-        words[s] = 0;
+    let to = end[k];
+    let size = slot(to) - start;
+    if size <= most {
+        return size;
+    }
+    let middle = start + most;
+    end[new] = to;
+    last[new] = last[k];
+    after[new] = after[k];
+    words[middle] = words[start];
+    end[k] = middle as u16;
+    after[k] = new as u8;
+    most
+}
+
+// Writes the word at slot `from` to the slots after it, up to slot `to`.
+fn repeat(from: usize, to: usize, words: &mut [u64])
+    requires { ⌜ (from < to) × (to ≤ length (now words)) ⌝ }
+    ensures { λ _. ⌜ Repeated from to (now (words .entry)) (now (words .exit)) ⌝ }
+{
+    let word = words[from];
+    let mut s = from + 1;
+    while s < to {
+        words[s] = word;
         s += 1;
     }
 }
 
-// Gives the rows that start at `element` their slots, by row number: each takes the earliest in which no row taken before overlaps it, as
-// many as its load. `last` holds the last second end in each slot.
-fn place(
-    first: &[u8; Table::ROWS],
-    second: &[u8; Table::ROWS],
-    head: &[u8; Chains::HEADS],
-    next: &[u8; Table::ROWS],
-    load: &[u64; Table::ROWS],
-    rows: usize,
-    element: usize,
-    slots: usize,
-    last: &mut [u8],
-    words: &mut [u64],
-)
-    requires { ⌜ (rows ≤ max-rows) × (element < all-heads) × Chained rows (at (now first)) (now head) (now next)
-        × ((i : ℕ) → i < rows → at (now first) i < at (now second) i)
-        × Walked rows (at (now first)) (at (now second)) (at (now load)) slots (taken rows (at (now first)) element 0)
-        (now last) (now words) ⌝ }
-    ensures { λ _. ⌜ Walked rows (at (now (first .entry))) (at (now (second .entry))) (at (now (load .entry))) slots
-        (taken rows (at (now (first .entry))) (element + 1) 0) (now (last .exit)) (now (words .exit))
-        × Kept slots (now (words .entry)) (now (words .exit)) × (length (now (last .exit)) ≡ length (now (last .entry))) ⌝ }
+// Writes the word of each stretch, which stands at its first slot, to all of its slots.
+fn spread(end: &[u16; STRETCHES], after: &[u8; STRETCHES], slots: usize, words: &mut [u64])
+    requires { ⌜ ((of begin : ℕ → ℕ) × Tiles slots of begin (now end) (now after)) × (slots ≤ length (now words)) ⌝ }
+    ensures { λ _. ⌜ ((of begin : ℕ → ℕ) → Tiles slots of begin (now (end .entry)) (now (after .entry))
+        → Spread slots of begin (now (words .entry)) (now (words .exit))) ⌝ }
 {
-    let mut r = head[element];
-    while r != 0 {
-        let i = (r - 1) as usize;
-        let row = 1u64 << i;
-        let start = first[i];
-        let end = second[i];
-        let mut left = load[i];
-        let mut s: usize = 0;
-        'slots: while s < slots {
-            if left == 0 {
-                break 'slots;
-            }
-            if last[s] <= start {
-                words[s] = words[s] | row;
-                last[s] = end;
-                left -= 1;
-            }
-            s += 1;
-        }
-        r = next[i];
+    let mut k: usize = 0;
+    let mut s: usize = 0;
+    while s < slots {
+        let to = slot(end[k]);
+        repeat(s, to, words);
+        k = wide(after[k]);
+        s = to;
     }
 }
 
-// Writes the words of an interval of `slots` slots to the front of `words`, for rows on a line of the elements 1 to `top`, chained by their
-// first ends. `last` is lent for the work: nothing is said of what it then holds. `rows` is not read, as the chains hold no other rows.
+// Clears the word of the stretch that is all slots.
+fn clear(slots: usize, words: &mut [u64])
+    requires { ⌜ slots ≤ length (now words) ⌝ }
+    ensures { λ _. ⌜ (0 < slots → now (words .exit) ≡ set (now (words .entry)) 0 0)
+        × (slots ≡ 0 → now (words .exit) ≡ now (words .entry)) ⌝ }
+{
+    if 0 < slots {
+        words[0] = 0;
+    }
+}
+
+// Writes the words of an interval of `slots` slots to the front of `words`, for any rows on a line of the elements 1 to `top` that are
+// chained so. For each stretch `end` has the slot after its last, `after` the stretch that follows and `last` the last second end there;
+// its word stands at its first slot. The scan has come to stretch k, which begins at slot s. Row i leaves stretch i + 1 of one it parts.
 pub fn fill(
-    first: &[u8; Table::ROWS],
     second: &[u8; Table::ROWS],
     head: &[u8; Chains::HEADS],
     next: &[u8; Table::ROWS],
     load: &[u64; Table::ROWS],
-    rows: usize,
     top: usize,
     slots: usize,
-    last: &mut [u8],
     words: &mut [u64],
 )
-    requires { ⌜ (rows ≤ max-rows) × (top < all-heads) × (slots ≤ length (now last)) × (slots ≤ length (now words))
-        × ((i : ℕ) → i < rows
-        → (1 ≤ at (now first) i) × (at (now first) i < at (now second) i) × (at (now second) i ≤ top))
-        × Chained rows (at (now first)) (now head) (now next) ⌝ }
-    ensures { λ _. ⌜ FilledSlots rows (at (now (first .entry))) (at (now (second .entry))) (at (now (load .entry))) slots
-        (now (words .entry)) (now (words .exit)) × (length (now (last .exit)) ≡ length (now (last .entry))) ⌝ }
+    requires { ⌜ ((n : ℕ) × (first : ℕ → ℕ) × ChainedRows n first (at (now second)) top (now head) (now next))
+        × (slots ≤ max-slots) × (slots ≤ length (now words)) ⌝ }
+    ensures { λ _. ⌜ ((n : ℕ) (first : ℕ → ℕ)
+        → ChainedRows n first (at (now (second .entry))) top (now (head .entry)) (now (next .entry))
+        → FilledSlots n first (at (now (second .entry))) (at (now (load .entry))) slots (now (words .entry)) (now (words .exit))) ⌝ }
 {
-    clear(slots, last, words);
+    let mut end = [0u16; STRETCHES];
+    let mut last = [0u8; STRETCHES];
+    let mut after = [0u8; STRETCHES];
+    end[0] = slots as u16;
+    clear(slots, words);
+    let mut k: usize = 0;
+    let mut s: usize = 0;
     let mut element: usize = 1;
     while element < top {
-        place(
-            first,
-            second,
-            head,
-            next,
-            load,
-            rows,
-            element,
-            slots,
-            last,
-            words,
-        );
+        let mut r = head[element];
+        while r != 0 {
+            let i = (r - 1) as usize;
+            let row = 1u64 << i;
+            let mut left = load[i] as usize;
+            'slots: while s < slots {
+                if left == 0 {
+                    break 'slots;
+                }
+                if wide(last[k]) <= element {
+                    left -= part(&mut end, &mut last, &mut after, words, k, s, left, i + 1);
+                    words[s] = words[s] | row;
+                    last[k] = second[i];
+                }
+                s = slot(end[k]);
+                k = wide(after[k]);
+            }
+            r = next[i];
+        }
+        k = 0;
+        s = 0;
         element += 1;
     }
+    spread(&end, &after, slots, words);
 }

@@ -1,78 +1,84 @@
 -- `advance` does the interval: each of its calls is met by what the calls before it give.
 use borrow.Author.Needs.{needs}
+use mathlib.Core.Path.{refl}
 use mathlib.Core.List.{List}
 use Prim.Native.Nat.{ℕ}
 use Rattle.numbers.specs.Lists.{at}
-use Rattle.interval.proofs.Ready.{ready-ends}
 use Rattle.interval.proofs.Course.{
   few-rows,
-  low-top,
-  spans-laid,
-  network-laid,
-  chains-laid,
+  hyper-some,
+  all-laid,
+  rows-chained,
   ends-after,
-  lags-fit,
-  totals-fit,
+  interval-short,
+  shares-fit,
+  parts-fit,
+  whole-fit,
   advanced-of,
 }
 use Rattle.interval.proofs.advance.Statement.{statement}
 use Rattle.interval.proofs.advance.Tie as tie
 
--- the function's entry, from where the loads are chosen
-abbrev start : tie.After-choose → tie.Start
-start d = d .before .before .before .before .before .before .before .before
+-- the function's entry, from where the shares are parted
+abbrev start : tie.After-part-shares → tie.Start
+start d = d .before .before .before .before
 
--- the loads that are chosen
-abbrev chosen : tie.After-choose → List ℕ
-chosen d = d .choose .last .1 .1 .1 .1 .1 .1 .1 .1 .1 .1 .1 .1 .1 .1 .1 .1 .1 .0
+-- the whole slots of the shares, and the parts above them
+abbrev whole : tie.After-part-shares → List ℕ
+whole d = d .part-shares .last .1 .1 .1 .0
+
+abbrev part : tie.After-part-shares → List ℕ
+part d = d .part-shares .last .1 .1 .1 .1 .0
+
+part-shares-requires : tie.Need-part-shares-requires
+part-shares-requires c κs =
+    let p = c .before .before .before .pre in
+    let R = p .0 .2 in
+    (few-rows R, hyper-some R, shares-fit R (p .0 .3), refl, refl)
 
 choose-requires : tie.Need-choose-requires
 choose-requires c κs =
-    let p = c .before .before .before .before .before .before .before .pre in
-    let R = p .0 .2 in
-    (spans-laid R, network-laid R, lags-fit R (p .0 .3), p .2)
+    let d = c .before in
+    let p = start d .pre in
+    (all-laid (p .0 .2), parts-fit (p .0 .2) (p .0 .3) (whole d) (part d) (d .part-shares .ensures .2))
+
+give-requires : tie.Need-give-requires
+give-requires c κs =
+    let d = c .before .before .before .before in
+    let p = start d .pre in
+    (few-rows (p .0 .2), whole-fit (p .0 .2) (p .0 .3) (whole d) (part d) (d .part-shares .ensures .2), d .part-shares .ensures .0, p .1)
 
 sub-fill : tie.Need-sub-fill
 sub-fill c =
-    let p = start (c .before) .pre in
+    let p = start (c .before .before .before .before .before .before) .pre in
     ends-after (p .0 .2) (p .0 .3)
 
 fill-requires : tie.Need-fill-requires
 fill-requires c κs =
-    let p = start (c .before .before .before) .pre in
+    let p = start (c .before .before .before .before .before .before .before) .pre in
     let R = p .0 .2 in
-    (few-rows R, low-top R, p .3, p .4, ready-ends R, chains-laid R)
-
-add-loads-requires : tie.Need-add-loads-requires
-add-loads-requires c κs =
-    let d = c .before .before .before .before .before .before .before .before .before .before in
-    let p = start d .pre in
-    (few-rows (p .0 .2), totals-fit (p .0 .2) (p .0 .3) {x = at (chosen d)} (d .choose .ensures .1), p .1)
+    ((_, _, rows-chained R), interval-short R (p .0 .3), p .2)
 
 same-length : tie.Need-same-length
 same-length c = search needs
 
-same-length-2 : tie.Need-same-length-2
-same-length-2 c = search needs
-
 returns : tie.Need-returns
-returns c =
-    let f = c .before .before .before .before .before .before .before in
-    let d = f .before .before .before .before in
-    let a = c .add-loads .ensures in (
-      λ t k R D. advanced-of R D {x = at (chosen d)} (d .choose .ensures .1) (a .0) (f .fill .ensures .0) (a .1),
-      d .choose .ensures .0,
-      f .fill .ensures .1,
-    )
+returns c t k R D =
+    let f = c .before .before in
+    let g = f .before .before .before in
+    let h = g .before .before .before in
+    let d = h .before .before in
+    advanced-of R D (whole d) (part d) (d .part-shares .ensures .2) (h .choose .result) (at (g .give .last .1 .1 .0)) (at (g .give .last .1 .1 .1 .0)) (h .choose .ensures) (g .give .ensures .2) (λ i. refl)
+    (g .give .ensures .1) (f .fill .ensures _ _ (rows-chained R))
 
 pub advance-spec : {M : Type 1} → statement M
 advance-spec =
     tie.close
     (tie.spec
+    part-shares-requires
     choose-requires
+    give-requires
     sub-fill
     fill-requires
-    add-loads-requires
     same-length
-    same-length-2
     returns)

@@ -1,5 +1,6 @@
 -- `chain` meets its contract: the rows from row i on are chained.
-use Prim.Native.Nat.{_≤_}
+use Prim.Native.Nat.{_-_, _≤_, _<_}
+use Rattle.slots.specs.Chained.{all-heads}
 use native.Mathlib.Omega.{arith}
 use borrow.Author.Needs.{needs}
 use Rattle.numbers.specs.Lists.{at}
@@ -26,8 +27,13 @@ element-copy-out-wide c = omega arith
 wide-requires : tie.Need-wide-requires Inv-loop μ-loop
 wide-requires c κs = search needs
 
+-- the row's first end has a head
+low : (c : tie.After-wide Inv-loop μ-loop)
+    → at (c .before .before .before .before .args .first .now) (c .before .before .before .loop .i - 1) < all-heads
+low c = c .before .before .before .before .pre .1 (c .before .before .before .loop .i - 1) (omega arith)
+
 array-read-next : tie.Need-array-read-next Inv-loop μ-loop
-array-read-next c = omega arith
+array-read-next c = omega (arith, low c)
 
 sub-next : tie.Need-sub-next Inv-loop μ-loop
 sub-next c = omega arith
@@ -39,7 +45,7 @@ cast-head : tie.Need-cast-head Inv-loop μ-loop
 cast-head c = omega arith
 
 array-write-head : tie.Need-array-write-head Inv-loop μ-loop
-array-write-head c = omega arith
+array-write-head c = omega (arith, low c)
 
 sub-i : tie.Need-sub-i Inv-loop μ-loop
 sub-i c = omega arith
@@ -48,9 +54,11 @@ loop-less : tie.Need-loop-less Inv-loop μ-loop
 loop-less c = omega arith
 
 loop-again : tie.Need-loop-again Inv-loop μ-loop
-loop-again c =
-    let z = c .wide .ensures in
-    (omega arith, chain-more (c .before .before .before .loop .inv .1) (omega arith) (omega arith) (omega arith) (z .0) (z .1))
+loop-again c = (
+  omega arith,
+  chain-more (c .before .before .before .loop .inv .1) (omega arith) (omega arith) (omega arith) (c .wide .ensures)
+      (omega (arith, low c)),
+)
 
 returns : tie.Need-returns Inv-loop μ-loop
 returns c = chain-end (c .before .loop .inv .1) (omega arith)
