@@ -6,7 +6,6 @@ ghost use mathlib.Core.Path.{_≡_};
 ghost use mathlib.Core.Bool.{not, _&&_};
 ghost use mathlib.Core.List.{[], _∷_};
 ghost use Prim.Native.Nat.{_+_, _*_, _/_, _%_, _≤_, _<_, min};
-ghost use lib.ListN.{length};
 ghost use Rattle.numbers.specs.Lists.{at as item, each};
 ghost use Rattle.decimal.specs.Puts.{limit, Puts};
 ghost use Rattle.cases.specs.Tables.{low, high, rowBytes, fileBytes};

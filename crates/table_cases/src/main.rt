@@ -3,8 +3,8 @@
 //     read NAME: room / bytes                          the reader on a file of these bytes; it is lent `room` numbers
 //     write NAME: elements rows room / numbers         the writer on these; it is lent `room` bytes
 //
-// For each a line is printed: the call, the name, number and place, what the reader returned of M and the row count, and then all of the lent
-// memory, which held 9s before.
+// For each a line is printed: the call, the name, number and place, what the reader returned of M and the row count, and then all of the
+// lent memory, which held 9s before.
 use cases::find;
 use cases::print;
 use libc::STDIN_FILENO;

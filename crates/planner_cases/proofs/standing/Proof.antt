@@ -1,9 +1,7 @@
 -- standing: the loop goes up to 8.
 use native.Mathlib.Omega.{arith}
 use borrow.Author.Needs.{needs}
-use mathlib.Core.Path.{_≡_}
 use Prim.Native.Nat.{_-_, _≤_}
-use lib.ListN.{length}
 use Rattle.planner_cases.proofs.standing.Statement.{statement}
 use Rattle.planner_cases.proofs.standing.Tie as tie
 
