@@ -120,7 +120,7 @@ fn high_byte(x: u64) -> u8
 }
 
 // The number at place `k`, 0 past the end.
-fn number_at(xs: &[u64], k: usize) -> u64
+pub fn number_at(xs: &[u64], k: usize) -> u64
     ensures { λ r. ⌜ r ≡ item (now (xs .entry)) k ⌝ }
 {
     if k < xs.len() { xs[k] } else { 0 }
