@@ -6,7 +6,6 @@ ghost use mathlib.Core.Path.{_≡_};
 ghost use mathlib.Core.Bool.{not, _&&_};
 ghost use mathlib.Core.List.{[], _∷_};
 ghost use Prim.Native.Nat.{_+_, _*_, _/_, _%_, _≤_, _<_, min};
-ghost use lib.ListN.{length};
 ghost use Rattle.numbers.specs.Lists.{at as item, each};
 ghost use Rattle.decimal.specs.Puts.{limit, Puts};
 ghost use Rattle.cases.specs.Tables.{low, high, rowBytes, fileBytes};
@@ -121,7 +120,7 @@ fn high_byte(x: u64) -> u8
 }
 
 // The number at place `k`, 0 past the end.
-fn number_at(xs: &[u64], k: usize) -> u64
+pub fn number_at(xs: &[u64], k: usize) -> u64
     ensures { λ r. ⌜ r ≡ item (now (xs .entry)) k ⌝ }
 {
     if k < xs.len() { xs[k] } else { 0 }

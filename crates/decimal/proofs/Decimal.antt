@@ -1,12 +1,12 @@
 -- Laws of decimal text: its digits one by one, that it reads back as its number, and that no other plain text does.
-use mathlib.Core.Path.{_≡_, refl, sym, ap, ap₂, _∙_}
+use mathlib.Core.Path.{_≡_, refl, sym, ap, _∙_}
 use mathlib.Core.Logic.{⊎-elim}
 use mathlib.Core.List.{List, [], _∷_, _++_, append-assoc, append-nil}
-use mathlib.Core.Bool.{Bool, true, false}
+use mathlib.Core.Bool.{true, false}
 use Prim.Native.Nat.{ℕ, zero, suc, _+_, _-_, _*_, _/_, _%_, _^_, _≤_, _<_}
 use native.Mathlib.Nat.{pow-suc}
 use native.Mathlib.Omega.{arith}
-use lib.Dec.{T, ltb, lt→ltb, ltb→lt}
+use lib.Dec.{ltb, lt→ltb, ltb→lt}
 use lib.ListN.{length, length-append}
 use Rattle.numbers.proofs.Truth.{is-true, is-false, le-or-lt}
 use Rattle.rules.specs.Text.{zero-byte, digit, spell, decimal}

@@ -4,17 +4,22 @@
 --                                place after the text
 --   limit                        places are below it, so that none wraps
 --   field-most                   no number takes more bytes, with the space before it
+--   lineOf w xs                  the line of the word w and the numbers xs
 use mathlib.Core.Path.{_≡_}
 use mathlib.Core.List.{List}
 use Prim.Native.Nat.{ℕ, _+_}
 use lib.ListN.{length}
 use lib.Seq.{sets}
+use Rattle.rules.specs.Text.{Line}
 
 abbrev pub limit : ℕ
 limit = 0x100000000
 
 abbrev pub field-most : ℕ
 field-most = 21
+
+abbrev pub lineOf : List ℕ → List ℕ → Line
+lineOf w xs = record { word = w; numbers = xs }
 
 pub record Puts (text was : List ℕ) (at : ℕ) (now : List ℕ) (next : ℕ) : Type 0 where
   pub holds : now ≡ sets was at text

@@ -6,7 +6,7 @@ ghost use mathlib.Core.List.{[], _∷_};
 ghost use Prim.Native.Nat.{_+_, _*_, _<_, _≤_};
 ghost use lib.ListN.{length};
 ghost use Rattle.rules.specs.Text.{space, decimal, fields, textOf};
-ghost use Rattle.decimal.specs.Puts.{limit, field-most, Puts};
+ghost use Rattle.decimal.specs.Puts.{limit, field-most, lineOf, Puts};
 
 fn put_byte(b: u8, out: &mut [u8], at: usize) -> usize
     requires { ⌜ at < limit ⌝ }
@@ -69,7 +69,7 @@ fn put_fields(numbers: &[u64], out: &mut [u8], at: usize) -> usize
 // A line: a word, numbers, and a newline.
 pub fn put_line(word: &[u8], numbers: &[u64], out: &mut [u8], at: usize) -> usize
     requires { ⌜ at + length (now word) + field-most * length (now numbers) < limit ⌝ }
-    ensures { λ r. ⌜ Puts (textOf (record { word = now (word .entry); numbers = now (numbers .entry) })) (now (out .entry)) at (now (out .exit)) r
+    ensures { λ r. ⌜ Puts (textOf (lineOf (now (word .entry)) (now (numbers .entry)))) (now (out .entry)) at (now (out .exit)) r
         × (r ≤ at + length (now (word .entry)) + field-most * length (now (numbers .entry)) + 1) ⌝ }
 {
     let named = put_bytes(word, out, at);

@@ -3,7 +3,7 @@ use mathlib.Core.Path.{_≡_, refl, subst}
 use mathlib.Core.Logic.{_≢_, ⊎-elim}
 use mathlib.Core.Bool.{true, false}
 use mathlib.Core.List.{List, _++_, append-assoc}
-use Prim.Native.Nat.{ℕ, _+_, _*_, _≤_, _<_}
+use Prim.Native.Nat.{ℕ, _+_, _*_, _<_}
 use native.Mathlib.Decide.{ℕ-discrete}
 use native.Mathlib.Omega.{arith}
 use lib.ListN.{length}
@@ -17,7 +17,6 @@ use Rattle.rules.specs.Loads.{hyperperiod}
 use Rattle.rules.specs.Planner.{Stage, due, finished, Planner, Off}
 use Rattle.rules.specs.Refusals.{
   Check,
-  Answers,
   no-cut,
   file-checks,
   line-checks,

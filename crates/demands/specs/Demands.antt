@@ -6,9 +6,10 @@
 --   Demand-2           verdict, loads, sets and standings are document 01's, and tables are read and written back
 --   Demand-3           every admitted table gets a plan that carries it
 --
--- Each call's contract (`Read`, `Written`, `IsVerdict`, `Listed`, `PlanAnswer`, `StepAnswer`, `StandingsAnswer`, `MovedInPlace`) relates what the
--- call is given to what it answers. That the call returns, and that its answer stands in this relation, is proved of its function; a clause
--- below speaks of every answer that the contract allows. `was` and `now` are what a lent slice holds before and after, `f` is the file.
+-- Each call's contract (`Read`, `Written`, `IsVerdict`, `Listed`, `PlanAnswer`, `StepAnswer`, `StandingsAnswer`, `MovedInPlace`) relates
+-- what the call is given to what it answers. That the call returns, and that its answer stands in this relation, is proved of its
+-- function; a clause below speaks of every answer that the contract allows. `was` and `now` are what a lent slice holds before and after,
+-- `f` is the file.
 use mathlib.Core.Path.{_≡_}
 use mathlib.Core.Logic.{_↔_, _≢_}
 use mathlib.Core.List.{List}

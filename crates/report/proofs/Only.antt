@@ -20,6 +20,10 @@ use Rattle.report.proofs.Printed.{carried}
 plan-only : (t : Table) (ws vs : List ℕ) → ChosenPlan t ws → ChosenPlan t vs → ws ≡ vs
 plan-only t ws vs A B = run-only (intervals t) (A .1) (B .1) .1
 
+abbrev admitted-lines : Table → List ℕ → List ℕ → List Line
+admitted-lines t ws vs =
+    verdict 0 0 ∷ (values (line.cut t) (shortest t) (hyperperiod t) (reported t ws) ++ (set-lines ws ++ slot-lines vs))
+
 module _ (input : List ℕ) where
   abbrev answers : ℕ → ℕ → Type 0
   answers n p = Answers (verdict-checks (take max-input input)) n p
@@ -37,8 +41,7 @@ module _ (input : List ℕ) where
       let f = take max-input input in
       let s : ws ≡ xs = sets-only (carried f a .sound .rows-low) (rw e at S) (rw g at R) in
       let v : vs ≡ ys = plan-only (fileTable f) vs ys (rw e at W) (rw g at X) in
-      ap₂ (λ (ks zs : List ℕ). verdict 0 0 ∷ (values (line.cut t) (shortest t) (hyperperiod t) (reported t ks) ++ (set-lines ks ++ slot-lines zs))) s v
-      ∙ ap (λ (w : Table). verdict 0 0 ∷ (values (line.cut w) (shortest w) (hyperperiod w) (reported w xs) ++ (set-lines xs ++ slot-lines ys))) (e ∙ sym g)
+      ap₂ (admitted-lines t) s v ∙ ap (λ (w : Table). admitted-lines w xs ys) (e ∙ sym g)
 
   pub rendered-only : (was now then : List ℕ) (m n : ℕ) → Rendered input was now m → Rendered input was then n → (now ≡ then) × (m ≡ n)
   rendered-only was now then m n A B =

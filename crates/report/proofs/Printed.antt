@@ -28,7 +28,7 @@ use Rattle.promises.proofs.Demands.{plan-size}
 use Rattle.table.specs.declared.Answer.{Answer}
 use Rattle.planner.specs.Answers.{PlanAnswer}
 use Rattle.planner.proofs.Chosen.{chosen-run}
-use Rattle.rules.specs.Text.{Line, textOf, text}
+use Rattle.rules.specs.Text.{textOf, text}
 use Rattle.decimal.specs.Puts.{Puts}
 use Rattle.decimal.proofs.Puts.{puts-more}
 use Rattle.rules.specs.Program.{verdict, values, set-lines, slot-lines, max-input, Printed, refused, admitted}
@@ -149,7 +149,8 @@ module _ (f : List ℕ) (r : Verdict) (J : IsVerdict f r) where
       module _ (c l h x s : ℕ) (e : r ≡ Admitted c l h x s) {two three now : List ℕ} {b d size : ℕ} where
         pub rendered-admitted : PutsLines (values c l h x) 4 one a two b
             → ((ws : List ℕ) × Sets (fileTable f) ws × PutsLines (set-lines ws) max-rows two b three d)
-            → ((ws : List ℕ) × WholePlan (fileTable f) ws × ChosenPlan (fileTable f) ws × PutsLines (slot-lines ws) max-slots three d now size)
+            → ((ws : List ℕ) × WholePlan (fileTable f) ws × ChosenPlan (fileTable f) ws
+            × PutsLines (slot-lines ws) max-slots three d now size)
             → Rendered input was now size
         rendered-admitted A S P =
             let joined = text-first (verdict n p) (values c l h x ++ (set-lines (S .0) ++ slot-lines (P .0)))

@@ -14,7 +14,7 @@ ghost use Rattle.rules.specs.Line.{Sets};
 ghost use Rattle.rules.specs.Loads.{hyperperiod};
 ghost use Rattle.rules.specs.Planner.{WholePlan};
 ghost use Rattle.rules.specs.Refusals.{Answers, verdict-checks};
-ghost use Rattle.decimal.specs.Puts.{limit};
+ghost use Rattle.decimal.specs.Puts.{limit, lineOf};
 ghost use Rattle.rules.specs.Program.{verdict, values, set, slot, set-lines, slot-lines};
 ghost use Rattle.report.specs.Rendered.{max-line, PutsLine, PutsLines, ChosenPlan, Rendered};
 
@@ -29,7 +29,7 @@ pub const SIZE: usize = 64 * (5 + Table::ROWS + Table::SLOTS);
 // A line of one number.
 fn put_value(word: &[u8], x: u64, out: &mut [u8], at: usize) -> usize
     requires { ⌜ (length (now word) ≤ 8) × (at + max-line ≤ limit) ⌝ }
-    ensures { λ r. ⌜ PutsLine (record { word = now (word .entry); numbers = x ∷ [] }) (now (out .entry)) at (now (out .exit)) r ⌝ }
+    ensures { λ r. ⌜ PutsLine (lineOf (now (word .entry)) (x ∷ [])) (now (out .entry)) at (now (out .exit)) r ⌝ }
 {
     put_line(word, &[x], out, at)
 }
@@ -77,7 +77,7 @@ fn put_sets(words: &[u64], out: &mut [u8], at: usize) -> usize
     next
 }
 
-pub fn put_slots(words: &[u64], out: &mut [u8], at: usize) -> usize
+fn put_slots(words: &[u64], out: &mut [u8], at: usize) -> usize
     requires { ⌜ at + max-line * length (now words) ≤ limit ⌝ }
     ensures { λ r. ⌜ PutsLines (slot-lines (now (words .entry))) (length (now (words .entry))) (now (out .entry)) at (now (out .exit)) r ⌝ }
 {

@@ -19,8 +19,8 @@ abbrev pub last-place : ℕ
 last-place = max-rows - 1
 
 -- A header that passes has no more rows than a table may have, so a place past it is one of theirs.
-small-by : (f : List ℕ) (cs : List Check) (n p : ℕ) → (fileTable f .rows ≤ max-rows → Fit last-number last-place cs) → Answers (header-checks f ++ cs) n p
-    → (n ≤ last-number) × (p ≤ last-place)
+small-by : (f : List ℕ) (cs : List Check) (n p : ℕ) → (fileTable f .rows ≤ max-rows → Fit last-number last-place cs)
+    → Answers (header-checks f ++ cs) n p → (n ≤ last-number) × (p ≤ last-place)
 unfolding header-checks None Fit
 small-by f cs n p fit r =
     ⊎-elim

@@ -5,7 +5,6 @@ use mathlib.Core.List.{List, [], _∷_}
 use Prim.Native.Nat.{ℕ, _≤_, _<_}
 use native.Mathlib.Omega.{arith}
 use lib.ListN.{length, set}
-use Rattle.rules.specs.TableFile.{fileTable}
 use Rattle.rules.specs.Refusals.{Check, Answers, short-output, verdict-checks}
 use Rattle.rules.specs.Calls.{Call, lent}
 use Rattle.rules.proofs.Answers.{None, Numbered, applied, passed, done, stopped, joined, answered, none-of, none-left, numbered-join}

@@ -1,6 +1,5 @@
 -- grow: no digit, one too many, or one more.
 use native.Mathlib.Omega.{arith}
-use mathlib.Core.Path.{sym, _∙_}
 use Rattle.cases.proofs.Reading.{grown-low, grown-high, grown-more}
 use borrow.Author.Needs.{needs}
 use Rattle.cases.proofs.grow.Statement.{statement}

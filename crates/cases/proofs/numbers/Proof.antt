@@ -1,7 +1,6 @@
 -- numbers: byte by byte; what is left to read gives the rest of the numbers.
 use native.Mathlib.Omega.{arith}
 use borrow.Author.Needs.{needs}
-use mathlib.Core.Path.{_≡_}
 use Prim.Native.Nat.{_-_, _<_}
 use lib.ListN.{length}
 use Rattle.cases.proofs.Reading.{Front, front-start, front-next, front-end}

@@ -55,12 +55,14 @@ same-length c = search needs
 returns : tie.Need-returns
 returns c =
     let a = c .before .before .before .before .before in
-    let b = a .before .before .before .before .before in
-    let n = b .before .before .before .before in
+    let p = a .before .before in
+    let b = p .before .before .before in
+    let f = b .before .before in
+    let n = f .before .before in
     let z = n .before .before .before .args in
-    row-puts (z .xs .now) (z .k) (n .number-at .ensures) (b .before .before .before .number-at2 .ensures) (b .before .before .number-at3 .ensures)
-    (b .before .number-at4 .ensures)
-    (b .low-byte .ensures) (a .before .before .before .before .high-byte .ensures) (a .before .before .before .low-byte2 .ensures) (a .before .before .high-byte2 .ensures)
+    row-puts (z .xs .now) (z .k)
+    (n .number-at .ensures) (f .before .number-at2 .ensures) (f .number-at3 .ensures) (b .before .number-at4 .ensures)
+    (b .low-byte .ensures) (p .before .before .high-byte .ensures) (p .before .low-byte2 .ensures) (p .high-byte2 .ensures)
     (a .before .low-byte3 .ensures) (a .low-byte4 .ensures) (c .before .before .put-bytes .ensures)
 
 pub put-row-spec : {M : Type 1} → statement M

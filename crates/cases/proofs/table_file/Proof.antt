@@ -36,9 +36,12 @@ returns : tie.Need-returns
 returns c =
     let P = c .before .before .put-rows .ensures in
     let h = c .before .before .before .before .before .before in
-    let l = h .before .before .before .before .before .before in
-    puts-more (head-puts (l .before .before .before .args .xs .now) (h .before .before .before .before .before .number-at .ensures) (h .before .before .before .before .low-byte .ensures) (l .least .ensures)
-    (h .before .before .before .low-byte2 .ensures) (h .put-bytes .ensures)) (rw (l .least .ensures) at P)
+    let m = h .before .before .before in
+    let e = m .before in
+    let l = e .before .before in
+    let xs = l .before .before .before .args .xs .now in
+    let H = head-puts xs (e .before .number-at .ensures) (e .low-byte .ensures) (l .least .ensures) (m .low-byte2 .ensures) in
+    puts-more (H (h .put-bytes .ensures)) (rw (l .least .ensures) at P)
 
 pub table-file-spec : {M : Type 1} → statement M
 table-file-spec =

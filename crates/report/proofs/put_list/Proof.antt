@@ -15,14 +15,17 @@ use Rattle.report.proofs.put_list.Tie as tie
 abbrev entry : tie.After-list-of-sets → tie.Start
 entry z = z .before .before .before .before
 
+abbrev file : tie.After-list-of-sets → List ℕ
+file z = entry z .args .file .now
+
 abbrev count : tie.After-list-of-sets → ℕ
 count z = z .list-of-sets .result .sets
 
 abbrev list : tie.After-list-of-sets → List ℕ
 list z = take (count z) (z .list-of-sets .last .1 .0)
 
-found : (z : tie.After-list-of-sets) → Sets (fileTable (entry z .args .file .now)) (list z) × (length (list z) ≡ count z) × (count z ≤ max-rows)
-found z = listed (entry z .args .file .now) (entry z .pre .0) (omega arith) (z .list-of-sets .ensures)
+found : (z : tie.After-list-of-sets) → Sets (fileTable (file z)) (list z) × (length (list z) ≡ count z) × (count z ≤ max-rows)
+found z = listed (file z) (entry z .pre .0) (omega arith) (z .list-of-sets .ensures)
 
 slice-aggregate-list-of-sets : tie.Need-slice-aggregate-list-of-sets
 slice-aggregate-list-of-sets c = search needs

@@ -16,12 +16,18 @@ use Rattle.report.proofs.put_plan.Tie as tie
 abbrev entry : tie.After-whole-plan → tie.Start
 entry z = z .before .before .before .before
 
-abbrev plan : tie.After-whole-plan → List ℕ
-plan z = take (entry z .args .hyper) (z .whole-plan .last .1 .0)
+abbrev file : tie.After-whole-plan → List ℕ
+file z = entry z .args .file .now
 
-found : (z : tie.After-whole-plan) → WholePlan (fileTable (entry z .args .file .now)) (plan z)
-    × ChosenPlan (fileTable (entry z .args .file .now)) (plan z) × (length (plan z) ≡ entry z .args .hyper) × (entry z .args .hyper ≤ max-slots)
-found z = planned (entry z .args .file .now) (entry z .pre .0) (omega arith) (entry z .pre .1) (z .whole-plan .ensures)
+abbrev hyper : tie.After-whole-plan → ℕ
+hyper z = entry z .args .hyper
+
+abbrev plan : tie.After-whole-plan → List ℕ
+plan z = take (hyper z) (z .whole-plan .last .1 .0)
+
+found : (z : tie.After-whole-plan) → WholePlan (fileTable (file z)) (plan z) × ChosenPlan (fileTable (file z)) (plan z)
+    × (length (plan z) ≡ hyper z) × (hyper z ≤ max-slots)
+found z = planned (file z) (entry z .pre .0) (omega arith) (entry z .pre .1) (z .whole-plan .ensures)
 
 slice-aggregate-whole-plan : tie.Need-slice-aggregate-whole-plan
 slice-aggregate-whole-plan c = search needs
@@ -32,7 +38,7 @@ whole-plan-requires c κs = search needs
 array-share-prefix-plan : tie.Need-array-share-prefix-plan
 array-share-prefix-plan c =
     let z = c .before in
-    omega (arith, length-take (entry z .args .hyper) (z .whole-plan .last .1 .0), found z .2)
+    omega (arith, length-take (hyper z) (z .whole-plan .last .1 .0), found z .2)
 
 slice-aggregate-put-slots : tie.Need-slice-aggregate-put-slots
 slice-aggregate-put-slots c = sym (found (c .before .before) .2)

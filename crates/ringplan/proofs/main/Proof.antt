@@ -28,7 +28,9 @@ array-share-prefix-out : tie.Need-array-share-prefix-out
 array-share-prefix-out c = omega (arith, c .before .render .ensures .fits, c .before .render .kept)
 
 slice-aggregate-write-all : tie.Need-slice-aggregate-write-all
-slice-aggregate-write-all c = sym (length-take-le _ _ (omega (arith, c .before .before .render .ensures .fits, c .before .before .render .kept)))
+slice-aggregate-write-all c =
+    let r = c .before .before .render in
+    sym (length-take-le _ _ (omega (arith, r .ensures .fits, r .kept)))
 
 write-all-requires : tie.Need-write-all-requires
 write-all-requires c κs = search needs

@@ -8,7 +8,8 @@ use Rattle.table.proofs.columns.columns_of.Statement.{statement}
 use Rattle.table.proofs.columns.columns_of.Tie as tie
 
 abbrev Inv-loop : tie.InvT-loop
-Inv-loop file table cost₀ period₀ first₀ second₀ i₀ cost period first second i = (i ≤ table .rows) × Decoding (fileTable file) i cost period first second
+Inv-loop file table cost₀ period₀ first₀ second₀ i₀ cost period first second i =
+    (i ≤ table .rows) × Decoding (fileTable file) i cost period first second
 
 abbrev μ-loop : tie.MeasureT-loop
 μ-loop file table cost₀ period₀ first₀ second₀ i₀ cost period first second i = table .rows - i

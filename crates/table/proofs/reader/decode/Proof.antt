@@ -56,7 +56,8 @@ refuse-requires-2 c κs = search needs
 returns-2 : tie.Need-returns-2
 returns-2 c =
     let z = c .before .before .before in
-    rw (c .refuse2 .ensures) (decodes-row _ _ (none (z .before .before .before .before .before .before .before)) (rows z) (c .before .if2 .taken))
+    let e = z .before .before .before .before .before .before in
+    rw (c .refuse2 .ensures) (decodes-row _ _ (none (e .before)) (rows z) (c .before .if2 .taken))
 
 returns-3 : tie.Need-returns-3
 returns-3 c =

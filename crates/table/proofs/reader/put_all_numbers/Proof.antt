@@ -16,7 +16,8 @@ use Rattle.table.proofs.reader.put_all_numbers.Statement.{statement}
 use Rattle.table.proofs.reader.put_all_numbers.Tie as tie
 
 abbrev Inv-loop : tie.InvT-loop
-Inv-loop rows cost period first second out₀ i₀ out i = (i ≤ rows) × Filled out₀ out (rowNumbers * i) (each i (memoryRow (columnTable 0 rows cost period first second)))
+Inv-loop rows cost period first second out₀ i₀ out i =
+    (i ≤ rows) × Filled out₀ out (rowNumbers * i) (each i (memoryRow (columnTable 0 rows cost period first second)))
 
 abbrev μ-loop : tie.MeasureT-loop
 μ-loop rows cost period first second out₀ i₀ out i = rows - i

@@ -13,7 +13,8 @@ use Rattle.table.proofs.writer.check_numbers.Tie as tie
 
 sized : (z : tie.After-size-fault)
     → let a = z .before .before .args in
-    Answers (size-checks (memoryTable (a .elements) (a .rows) (a .numbers .now)) (length (a .numbers .now)) (rowNumbers * a .rows)) (z .size-fault .result) 0
+    let cs = size-checks (memoryTable (a .elements) (a .rows) (a .numbers .now)) (length (a .numbers .now)) (rowNumbers * a .rows) in
+    Answers cs (z .size-fault .result) 0
 sized z = rw zero-add at (z .size-fault .ensures)
 
 -- the sizes have passed

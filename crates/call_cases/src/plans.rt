@@ -1,0 +1,155 @@
+// The cases of the planner:
+//
+//     CALL NAME: room / interval / four totals / elements (cost,period,first,second) ..
+//
+// A call is plan, step or standings, or step_finished or standings_finished of a planner that has finished. It is lent `room` words.
+// For each a line is printed: the call, the name, number and place, then what the call left: the stage, the first four totals, and all of
+// the lent words, which were 9 before; or the first four standings.
+use crate::byte_at;
+use cases::find;
+use cases::number_at;
+use cases::print;
+use cases::table_file;
+use libc::STDOUT_FILENO;
+use planner::Planner;
+use planner::Stage;
+use table::Table;
+
+// as many words as a call is lent at most, and what they hold before it
+const WORDS: usize = 64;
+
+const KEPT: u64 = 9;
+
+// ---- the calls
+
+fn print_answer(heading: &[u8], number: u32, place: u32) {
+    print(heading, &[number as u64, place as u64]);
+}
+
+fn print_words(words: &[u64]) {
+    print(b" words", words);
+}
+
+fn print_stage(stage: Stage) {
+    match stage {
+        Stage::Due(k) => {
+            print(b" due", &[k]);
+        }
+        Stage::Finished => {
+            io::write_all(STDOUT_FILENO, b" finished");
+        }
+    }
+}
+
+fn print_totals(totals: [u64; Table::ROWS]) {
+    print(b" totals", &[totals[0], totals[1], totals[2], totals[3]]);
+}
+
+fn plan(heading: &[u8], file: &[u8], words: &mut [u64]) {
+    let r = planner::whole_plan(file, words);
+    print_answer(heading, r.number, r.place);
+    print_words(words);
+}
+
+fn step(heading: &[u8], planner: Planner, file: &[u8], words: &mut [u64]) {
+    let r = planner.step(file, words);
+    print_answer(heading, r.answer.number, r.answer.place);
+    let after = r.planner;
+    let stage = after.stage;
+    let totals = after.totals;
+    print_stage(stage);
+    print_totals(totals);
+    print_words(words);
+}
+
+// A standing where h is 8: so many ahead, or behind.
+fn standing(x: i64) {
+    let mut n: u64 = 0;
+    while n < 8 {
+        if numbers::less(n, 0) == x {
+            print(b"", &[n]);
+            return;
+        }
+        if numbers::less(0, n) == x {
+            io::write_all(STDOUT_FILENO, b" -");
+            io::print_decimal(STDOUT_FILENO, n);
+            return;
+        }
+        n += 1;
+    }
+    io::write_all(STDOUT_FILENO, b" past");
+}
+
+fn standings(heading: &[u8], planner: Planner, file: &[u8]) {
+    let r = planner.standings(file);
+    print_answer(heading, r.answer.number, r.answer.place);
+    let values = r.values;
+    standing(values[0]);
+    standing(values[1]);
+    standing(values[2]);
+    standing(values[3]);
+}
+
+// ---- a case
+
+// The calls are told apart by a letter each.
+fn call(heading: &[u8], planner: Planner, file: &[u8], words: &mut [u64]) {
+    if byte_at(heading, 0) == b'p' {
+        plan(heading, file, words);
+        return;
+    }
+    if byte_at(heading, 2) == b'e' {
+        step(heading, planner, file, words);
+        return;
+    }
+    standings(heading, planner, file);
+}
+
+fn stage_of(heading: &[u8], k: u64) -> Stage {
+    if find(heading, 0, b'_') < find(heading, 0, b' ') {
+        return Stage::Finished;
+    }
+    Stage::Due(k)
+}
+
+fn planner_of(stage: Stage, given: &[u64]) -> Planner {
+    let mut totals = [0u64; Table::ROWS];
+    totals[0] = number_at(given, 2);
+    totals[1] = number_at(given, 3);
+    totals[2] = number_at(given, 4);
+    totals[3] = number_at(given, 5);
+    Planner {
+        stage: stage,
+        totals: totals,
+    }
+}
+
+// The call on the front of the file and of the words.
+fn front(
+    heading: &[u8],
+    planner: Planner,
+    file: &[u8],
+    size: usize,
+    words: &mut [u64],
+    room: usize,
+) {
+    if size > file.len() {
+        return;
+    }
+    if room > words.len() {
+        return;
+    }
+    call(heading, planner, &file[..size], &mut words[..room]);
+}
+
+pub(crate) fn run(heading: &[u8], given: &[u64]) {
+    if given.len() < 6 {
+        return;
+    }
+    let mut file = [0u8; 64];
+    let size = table_file(&given[6..], &mut file);
+    let mut words = [KEPT; WORDS];
+    let room = number_at(given, 0) as usize;
+    let planner = planner_of(stage_of(heading, number_at(given, 1)), given);
+    front(heading, planner, &file, size, &mut words, room);
+}

@@ -1,0 +1,148 @@
+// The cases of the reader and the writer:
+//
+//     read NAME: room / bytes                          the reader on a file of these bytes; it is lent `room` numbers
+//     write NAME: elements rows room / numbers         the writer on these; it is lent `room` bytes
+//
+// For each a line is printed: the call, the name, number and place, what the reader returned of M and the row count, and then all of the
+// lent memory, which held 9s before.
+use cases::number_at;
+use cases::print;
+
+// as much as a call is given, and is lent, at most
+const MOST: usize = 400;
+
+const KEPT: u8 = 9;
+
+fn wide(x: u16) -> u64 {
+    x as u64
+}
+
+fn wide_byte(x: u8) -> u64 {
+    x as u64
+}
+
+fn print_one(x: u64) {
+    print(b"", &[x]);
+}
+
+fn print_numbers(numbers: &[u16]) {
+    let mut i: usize = 0;
+    while i < numbers.len() {
+        print_one(wide(numbers[i]));
+        i += 1;
+    }
+}
+
+fn print_bytes(bytes: &[u8]) {
+    let mut i: usize = 0;
+    while i < bytes.len() {
+        print_one(wide_byte(bytes[i]));
+        i += 1;
+    }
+}
+
+// ---- the reader
+
+fn read(heading: &[u8], file: &[u8], out: &mut [u16]) {
+    let r = table::read(file, out);
+    print(
+        heading,
+        &[
+            r.answer.number as u64,
+            r.answer.place as u64,
+            r.table.elements as u64,
+            r.table.rows as u64,
+        ],
+    );
+    print_numbers(out);
+}
+
+fn put_bytes(given: &[u64], out: &mut [u8]) {
+    let mut i: usize = 0;
+    while i < out.len() {
+        out[i] = (number_at(given, i) % 256) as u8;
+        i += 1;
+    }
+}
+
+fn read_front(heading: &[u8], file: &[u8], size: usize, out: &mut [u16], room: usize) {
+    if size > file.len() {
+        return;
+    }
+    if room > out.len() {
+        return;
+    }
+    read(heading, &file[..size], &mut out[..room]);
+}
+
+pub(crate) fn read_case(heading: &[u8], given: &[u64]) {
+    if given.len() < 1 {
+        return;
+    }
+    let mut file = [0u8; MOST];
+    put_bytes(&given[1..], &mut file);
+    let mut out = [KEPT as u16; MOST];
+    read_front(
+        heading,
+        &file,
+        given.len() - 1,
+        &mut out,
+        number_at(given, 0) as usize,
+    );
+}
+
+// ---- the writer
+
+fn write(heading: &[u8], elements: u64, rows: u64, numbers: &[u16], out: &mut [u8]) {
+    let answer = table::write(elements, rows, numbers, out);
+    print(heading, &[answer.number as u64, answer.place as u64]);
+    print_bytes(out);
+}
+
+fn put_numbers(given: &[u64], out: &mut [u16]) {
+    let mut i: usize = 0;
+    while i < out.len() {
+        out[i] = (number_at(given, i) % 65536) as u16;
+        i += 1;
+    }
+}
+
+fn write_front(
+    heading: &[u8],
+    given: &[u64],
+    numbers: &[u16],
+    size: usize,
+    out: &mut [u8],
+    room: usize,
+) {
+    if size > numbers.len() {
+        return;
+    }
+    if room > out.len() {
+        return;
+    }
+    write(
+        heading,
+        number_at(given, 0),
+        number_at(given, 1),
+        &numbers[..size],
+        &mut out[..room],
+    );
+}
+
+pub(crate) fn write_case(heading: &[u8], given: &[u64]) {
+    if given.len() < 3 {
+        return;
+    }
+    let mut numbers = [0u16; MOST];
+    put_numbers(&given[3..], &mut numbers);
+    let mut out = [KEPT; MOST];
+    write_front(
+        heading,
+        given,
+        &numbers,
+        given.len() - 3,
+        &mut out,
+        number_at(given, 2) as usize,
+    );
+}
