@@ -15,8 +15,8 @@
 #include <stdint.h>
 
 /* The version of these functions. The second number grows where something is added, the first where something changes. */
-#define RINGPLAN_VERSION_MAJOR 1
-#define RINGPLAN_VERSION_MINOR 1
+#define RINGPLAN_VERSION_MAJOR 2
+#define RINGPLAN_VERSION_MINOR 0
 
 #ifdef __cplusplus
 extern "C" {
@@ -35,7 +35,7 @@ enum {
     RING_WRONG_COST = 9,        /* the cost is 0 or above the period; place: the row */
     RING_NO_CUT = 10,           /* every element has some row through it */
     RING_LONG_HYPERPERIOD = 11, /* the least common multiple of the periods is above 4096 slots */
-    RING_TIED_SETS = 12,        /* two overlap sets end alike; proved never to be given */
+    /* 12 is retired and never given: two overlap sets can't end alike */
     RING_LIGHT_ROW = 13,        /* periods differ, and the row's cost is too small for it; place: the row */
     RING_OVER_BOUND = 14,       /* an overlap set asks for more than the bus can carry; place: the set */
     RING_OFF_STATE = 15,        /* not given by these functions */
@@ -68,7 +68,7 @@ enum {
 uint32_t ring_values(const uint8_t *file, size_t file_bytes, uint32_t *values, size_t room);
 
 /* The overlap sets of a table, one word a set: bit i is set if row i belongs to it. It fills as many words as there are sets; 64 are always
- * enough. A table that is refused with 13 or 14 has its list too, which shows what set 14 speaks of. Gives 0 to 12, and 17. */
+ * enough. A table that is refused with 13 or 14 has its list too, which shows what set 14 speaks of. Gives 0 to 11, and 17. */
 uint32_t ring_sets(const uint8_t *file, size_t file_bytes, uint64_t *sets, size_t room);
 
 /* The whole plan of an admitted table: word s of `plan` has bit i set if row i moves in slot s. It fills as many words as the hyperperiod

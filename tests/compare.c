@@ -310,7 +310,7 @@ int main(int argc, char **argv) {
     printf("refusals:");
     for (unsigned n = 1; n < 18; n++) printf(" %u:%u", n, seen[n]);
     printf("\n");
-    /* 12 is never given, and 15 and 16 are the planner's */
+    /* 12 is retired, and 15 and 16 are the planner's */
     for (unsigned n = 1; n < 18; n++)
         if (!seen[n] && n != 12 && n != 15 && n != 16) {
             printf("compare: refusal %u was never seen\n", n);

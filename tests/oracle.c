@@ -1,5 +1,7 @@
 #include "oracle.h"
 
+#include <stdio.h>
+#include <stdlib.h>
 #include <string.h>
 
 /* ---- the bus */
@@ -89,8 +91,8 @@ static unsigned least_second(const struct verdict *v, uint64_t set) {
     return least;
 }
 
-/* Lists the sets by ascending least second end; 0 where two of them tie. */
-static int list_sets(struct verdict *v) {
+/* Lists the sets by ascending least second end. Two of them can't tie; the run stops where they do. */
+static void list_sets(struct verdict *v) {
     struct search s = {.table = &v->table, .v = v};
     uint64_t all = 0;
     for (unsigned i = 0; i < v->table.rows; i++) {
@@ -107,8 +109,10 @@ static int list_sets(struct verdict *v) {
             v->set[j - 1] = w;
         }
     for (unsigned i = 1; i < v->sets; i++)
-        if (least_second(v, v->set[i]) == least_second(v, v->set[i - 1])) return 0;
-    return 1;
+        if (least_second(v, v->set[i]) == least_second(v, v->set[i - 1])) {
+            fprintf(stderr, "oracle: two overlap sets have the same least second end\n");
+            exit(1);
+        }
 }
 
 /* ---- the verdict */
@@ -174,7 +178,7 @@ void oracle_verdict(const uint8_t *f, size_t length, struct verdict *v) {
     }
     v->hyper = (unsigned)h;
     v->interval = (unsigned)l;
-    if (!list_sets(v)) { refuse(v, 12, 0); return; }
+    list_sets(v);
     if (!equal)
         for (unsigned i = 0; i < t->rows; i++)
             if (t->row[i].cost * l < t->row[i].period) { refuse_listed(v, 13, i); return; }

@@ -87,7 +87,7 @@ written-answered M n xs room =
     then not-test (eq-test (length xs) (rowNumbers * n))
     then none) (row-tests (memoryTable M n xs))) (lt-test room (headerSize + rowSize * n) then none))
 
--- ---- 10 to 12, and what is decided by the list of sets
+-- ---- 10 and 11, and what is decided by the list of sets
 
 line-answered : (t : Table) → Sound t → (ds : List Check) → ((ws : List ℕ) → Sets t ws → Tests ds) → Answered (line-checks t ++ ds)
 unfolding line-checks
@@ -97,7 +97,7 @@ line-answered t S ds more =
     (λ h.
     let clear : cut t ≢ t .elements + 1 = λ e. h (no-cut-test t .of (cut-none t .1 e)) in
     let e = sets-exist t S (omega (arith, cut-high t, clear)) in
-    by-tests (tests-join (line-tests t (S .rows-low) (e .0) (e .1)) (more (e .0) (e .1))))
+    by-tests (tests-join (line-tests t) (more (e .0) (e .1))))
     (decide (no-cut-test t .test))
 
 module _ (f : List ℕ) where

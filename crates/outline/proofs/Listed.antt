@@ -15,7 +15,7 @@ use Rattle.outline.specs.declared.Outline.{Outline}
 use Rattle.outline.specs.Outlined.{outline-checks, Outlined}
 use Rattle.outline.proofs.Outlined.{outline-numbered, outline-list-only, outlined-none, found-count}
 
--- 17, after 1 to 12
+-- 17, after 1 to 11
 abbrev no-room : List ℕ → ℕ → Check
 no-room f room = short-output ((ws : List ℕ) × Sets (fileTable f) ws × (room < length ws))
 

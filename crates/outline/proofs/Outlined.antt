@@ -1,5 +1,5 @@
--- Refusals 1 to 12, and that only one outline fits. Past the file's checks a table has a cut or 10 is given, and a hyperperiod of at
--- most 4096 slots or 11 is given; 12 is never given.
+-- Refusals 1 to 11, and that only one outline fits. Past the file's checks a table has a cut or 10 is given, and a hyperperiod of at
+-- most 4096 slots or 11 is given.
 use mathlib.Core.Path.{_≡_, refl, sym, ap, _∙_}
 use mathlib.Core.Logic.{_≢_, ⊎-elim}
 use mathlib.Core.List.{List, [], _∷_}
@@ -14,7 +14,7 @@ use Rattle.rules.specs.Bus.{Table}
 use Rattle.rules.specs.TableFile.{fileTable}
 use Rattle.rules.specs.Line.{cut, lineFirst, lineSecond, Sets}
 use Rattle.rules.specs.Loads.{hyperperiod}
-use Rattle.rules.specs.Refusals.{Check, Answers, no-cut, long-hyperperiod, tied-sets, file-checks, line-checks}
+use Rattle.rules.specs.Refusals.{Check, Answers, no-cut, long-hyperperiod, file-checks, line-checks}
 use Rattle.rules.proofs.Answers.{
   None,
   Numbered,
@@ -41,7 +41,7 @@ use Rattle.outline.specs.declared.time.Time.{Time}
 use Rattle.outline.specs.declared.Outline.{Outline}
 use Rattle.outline.specs.Time.{Timed}
 use Rattle.outline.specs.Outlined.{Found, blank, outline-checks, Outlined}
-use Rattle.outline.proofs.Sets.{Ends, own-ends, ends-on-line, line-list, sets-untied}
+use Rattle.outline.proofs.Sets.{Ends, own-ends, ends-on-line, line-list}
 
 -- ---- one shape for number and place
 
@@ -58,7 +58,7 @@ answers-at cs r n p e a = rw (e .0, e .1) a
 pub answers-zero : (cs : List Check) (r : Answer) → r .number ≡ 0 → Answers cs (r .number) (r .place) → Answers cs 0 (r .place)
 answers-zero cs r e a = rw e at a
 
--- ---- refusals 10 to 12
+-- ---- refusals 10 and 11
 
 module _ (t : Table) where
   pub line-numbered : Numbered (line-checks t)
@@ -71,17 +71,17 @@ module _ (t : Table) where
   pub cut-refused : t .elements < cut t → Answers (line-checks t) (no-cut t .number) 0
   unfolding line-checks
   cut-refused l =
-      applied (no-cut t) (long-hyperperiod t ∷ tied-sets t ∷ []) _ _ (cut-none t .1 (omega (arith, cut-high t))) refl refl
+      applied (no-cut t) (long-hyperperiod t ∷ []) _ _ (cut-none t .1 (omega (arith, cut-high t))) refl refl
 
   pub long-refused : cut t ≤ t .elements → max-slots < hyperperiod t → Answers (line-checks t) (long-hyperperiod t .number) 0
   unfolding line-checks
   long-refused l h =
-      passed (no-cut t) (long-hyperperiod t ∷ tied-sets t ∷ []) _ _ (has-cut l)
-      (applied (long-hyperperiod t) (tied-sets t ∷ []) _ _ h refl refl)
+      passed (no-cut t) (long-hyperperiod t ∷ []) _ _ (has-cut l)
+      (applied (long-hyperperiod t) [] _ _ h refl refl)
 
-  pub line-none : Sound t → cut t ≤ t .elements → hyperperiod t ≤ max-slots → None (line-checks t)
+  pub line-none : cut t ≤ t .elements → hyperperiod t ≤ max-slots → None (line-checks t)
   unfolding line-checks None
-  line-none s l h = (has-cut l, ((λ a. omega arith), (sets-untied t s l, tt)))
+  line-none l h = (has-cut l, ((λ a. omega arith), tt))
 
   pub none-line : None (line-checks t) → (cut t ≤ t .elements) × (hyperperiod t ≤ max-slots)
   unfolding line-checks None
@@ -90,7 +90,7 @@ module _ (t : Table) where
     ⊎-elim (λ l. l) (λ l. absurd (a .1 .0 l)) (le-or-lt (hyperperiod t) max-slots),
   )
 
--- ---- files that pass 1 to 12
+-- ---- files that pass 1 to 11
 
 module _ (f : List ℕ) where
   pub outline-numbered : Numbered (outline-checks f)
@@ -114,7 +114,7 @@ outlined-refused r h a = record { answers = a; found = λ e. absurd (h e); refus
 
 pub outlined-found : (t : Table) (o : Outline) → (o .answer .number ≡ 0) × (o .answer .place ≡ 0) → Found t o → Outlined (line-checks t) t o
 outlined-found t o d F = record {
-  answers = rw (d .0, d .1) (answered (line-checks t) (line-none t (F .timed .sound) (F .clear) (F .timed .short)));
+  answers = rw (d .0, d .1) (answered (line-checks t) (line-none t (F .clear) (F .timed .short)));
   found = λ e. F;
   refused = λ e. absurd (e (d .0));
 }

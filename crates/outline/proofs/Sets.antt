@@ -6,10 +6,11 @@ use mathlib.Core.List.{List}
 use Prim.Native.Nat.{ℕ, _+_, _≤_, _<_}
 use native.Mathlib.Omega.{arith}
 use Rattle.rules.specs.Bus.{Table, overlap}
-use Rattle.rules.specs.Line.{cut, lineFirst, lineSecond, meet, SetList, Sets, Tie}
+use Rattle.rules.specs.Line.{cut, lineFirst, lineSecond, meet, SetList, Sets}
 use Rattle.table.specs.Sound.{Sound}
 use Rattle.ring.proofs.OnLine.{line-ordered, line-high, overlap-meet}
 use Rattle.sets.specs.Sets.{OnLine}
+use Rattle.outline.specs.Ties.{No-ties}
 use Rattle.sets.proofs.Transfer.{Agree, agree-sym, list-agree, no-tie}
 
 abbrev pub Ends : Table → (first second : ℕ → ℕ) → Type 0
@@ -45,8 +46,8 @@ module _ (t : Table) (sound : Sound t) (clear : cut t ≤ t .elements) where
     pub ring-list : (ws : List ℕ) → SetList (t .rows) (meet first second) second ws → Sets t ws
     ring-list ws S = list-agree (agree-sym ends-meet) (λ i l. ends i l .1) S
 
-  -- refusal 12 is never given
-  pub sets-untied : Tie t → ⊥
-  sets-untied x =
-      no-tie (t .rows) (lineFirst t) (lineSecond t) (overlap-meet t sound clear) (x .one) (x .other) (x .end)
-      (x .different) (x .one-set) (x .other-set) (x .one-end) (x .other-end)
+-- #106
+pub no-ties : No-ties
+no-ties t sound clear x =
+    no-tie (t .rows) (lineFirst t) (lineSecond t) (overlap-meet t sound clear) (x .one) (x .other) (x .end)
+    (x .different) (x .one-set) (x .other-set) (x .one-end) (x .other-end)

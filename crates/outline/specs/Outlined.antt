@@ -2,9 +2,9 @@
 --
 --   tableWith g M n period first second
 --                      the table of M elements and n rows that has the costs g, and periods and ends from arrays
---   Found t o          o is the outline of the table t, which has none of the faults 4 to 12
+--   Found t o          o is the outline of the table t, which has none of the faults 4 to 11
 --   blank r            the outline of a refusal: 0 for all but the answer
---   outline-checks f   1 to 12, in their order
+--   outline-checks f   1 to 11, in their order
 --   Outlined cs t o    o answers the checks cs, and is what is found of table t where none of them applies
 --
 -- Only one outline fits a table and its checks (proofs/Outlined, `outlined-only`).

@@ -1,4 +1,4 @@
-// What a table is on the line: its cut, its rows' ends, its overlap sets, hyperperiod and interval, or a refusal from 1 to 12.
+// What a table is on the line: its cut, its rows' ends, its overlap sets, hyperperiod and interval, or a refusal from 1 to 11.
 mod time;
 
 use table::Answer;
@@ -50,7 +50,7 @@ impl Outline {
     }
 }
 
-// What a table is on the line and in time, or the first refusal of 10 to 12. Its costs say nothing of that.
+// What a table is on the line and in time, or the first refusal of 10 and 11. Its costs say nothing of that.
 pub fn outline_of<'a>(
     elements: usize,
     rows: usize,
@@ -71,7 +71,6 @@ pub fn outline_of<'a>(
     if hyper == 0 {
         return Outline::refused(Answer::at(Answer::LONG_HYPERPERIOD, 0));
     }
-    // nothing is left to refuse, as no two overlap sets tie
     let line = ring::lay(elements, rows, first, second, cut);
     let line_first = line.first;
     let line_second = line.second;
@@ -93,7 +92,7 @@ pub fn outline_of<'a>(
     }
 }
 
-// What a file's table is on the line, or the first refusal of 1 to 12.
+// What a file's table is on the line, or the first refusal of 1 to 11.
 fn outline_file(file: &[u8]) -> Outline
     ensures { λ r. ⌜ Outlined (outline-checks (now (file .entry))) (fileTable (now (file .entry))) r ⌝ }
 {

@@ -193,33 +193,3 @@ pub position-none : (cs : List Check) → ((k : ℕ) → k < length cs → getD 
 unfolding None
 position-none [] h = tt
 position-none (c ∷ cs) h = (h 0 (omega arith), position-none cs (λ k l. h (suc k) (omega arith)))
-
--- ---- a number that no check of a list has
-
-unfoldable pub Lacks : ℕ → List Check → Type 0
-Lacks n [] = Unit {0}
-Lacks n (c ∷ cs) = (c .number ≢ n) × Lacks n cs
-
-pub lacks-join : (n : ℕ) (cs ds : List Check) → Lacks n cs → Lacks n ds → Lacks n (cs ++ ds)
-unfolding Lacks
-lacks-join n [] ds a b = b
-lacks-join n (c ∷ cs) ds a b = (a .0, lacks-join n cs ds (a .1) b)
-
-pub lacks-each : (f : ℕ → List Check) (n k : ℕ) → ((i : ℕ) → Lacks n (f i)) → Lacks n (each k f)
-unfolding each Lacks
-lacks-each f n zero h = tt
-lacks-each f n (suc k) h = lacks-join n (each k f) (f k) (lacks-each f n k h) (h k)
-
--- the number is given by the second list
-pub lacks-first : (n p : ℕ) (cs ds : List Check) → Lacks n cs → Answers (cs ++ ds) n p → None cs × Answers ds n p
-unfolding Answers None Lacks
-lacks-first n p [] ds l a = (tt, a)
-lacks-first n p (c ∷ cs) ds l a =
-    ⊎-elim (λ w. absurd (l .0 (sym (w .1)))) (λ w. let r = lacks-first n p cs ds (l .1) (w .1) in ((w .0, r .0), r .1)) a
-
--- the number is given by the first list
-pub lacks-last : (n p : ℕ) (cs ds : List Check) → n ≢ 0 → Lacks n ds → Answers (cs ++ ds) n p → Answers cs n p
-unfolding Answers Lacks
-lacks-last n p [] [] z l a = a
-lacks-last n p [] (d ∷ ds) z l a = ⊎-elim (λ w. absurd (l .0 (sym (w .1)))) (λ w. lacks-last n p [] ds z (l .1) (w .1)) a
-lacks-last n p (c ∷ cs) ds z l a = ⊎-elim (λ w. inl w) (λ w. inr (w .0, lacks-last n p cs ds z l (w .1))) a

@@ -4,6 +4,7 @@ pub mod Small
 pub mod Interval
 pub mod Lags
 pub mod Sets
+pub mod Ties
 pub mod Verdict
 pub mod Steps
 pub mod Cases

@@ -5,7 +5,6 @@
 --   minimum               a set with a row has a least
 --   set-row, set-least    so has every overlap set of some rows
 --   set-in, sets-only     every overlap set stands in the list; two lists are the same
---   ends-differ           no two sets of a list tie
 --   set-test, sets-by     overlap sets, and a table's list of them, by tests that compute
 use mathlib.Core.Path.{_≡_, sym, ap, _∙_, subst, fun-ext}
 use mathlib.Core.Logic.{⊎-elim}
@@ -73,18 +72,6 @@ module _ {n : ℕ} {o : ℕ → ℕ → Bool} {s : ℕ → ℕ} where
       let e : bit (word n D) ≡ D = bits-are n D (S .rows) in
       let r = A .all (word n D) (subst (OverlapSet n o) (sym e) S) in
       (r .0, r .1, ap bit (r .2) ∙ e)
-
-  -- where there is a list, no two sets tie
-  pub ends-differ : {ws : List ℕ} → SetList n o s ws → (v w e : ℕ) → OverlapSet n o (bit v) → OverlapSet n o (bit w)
-      → Least s (bit v) e → Least s (bit w) e → v ≡ w
-  ends-differ {ws} A v w e S R x y =
-      let k = A .all v S in
-      let l = A .all w R in
-      let x′ = subst (λ (u : ℕ). Least s (bit u) e) (sym (k .2)) x in
-      let y′ = subst (λ (u : ℕ). Least s (bit u) e) (sym (l .2)) y in
-      let a : ¬ (k .0 < l .0) = λ h. lt-irrefl e (A .order (k .0) (l .0) e e h (l .1) x′ y′) in
-      let b : ¬ (l .0 < k .0) = λ h. lt-irrefl e (A .order (l .0) (k .0) e e h (k .1) y′ x′) in
-      sym (k .2) ∙ ap (at ws) (let q : k .0 ≡ l .0 = omega arith in q) ∙ l .2
 
   module _ (pos : 0 < n) where
     -- no set stands twice

@@ -44,7 +44,7 @@ table-fit t few =
     let light = fit-each last-number last-place (λ i. light-row t i ∷ []) (t .rows) (λ i l. (lit≤ tt, omega arith, tt)) in
     let over = fit-each last-number last-place (λ k. over-bound t k ∷ []) (t .rows) (λ k l. (lit≤ tt, omega arith, tt)) in
     fit-join last-number last-place (row-checks t) (line-checks t ++ bound-checks t) rows
-    (fit-join last-number last-place (line-checks t) (bound-checks t) (lit≤ tt, lit≤ tt, (lit≤ tt, lit≤ tt, (lit≤ tt, lit≤ tt, tt)))
+    (fit-join last-number last-place (line-checks t) (bound-checks t) (lit≤ tt, lit≤ tt, (lit≤ tt, lit≤ tt, tt))
     (fit-join last-number last-place (each (t .rows) (λ i. light-row t i ∷ [])) (each (t .rows) (λ k. over-bound t k ∷ [])) light over))
 
 pub verdict-small : (f : List ℕ) (n p : ℕ) → Answers (verdict-checks f) n p → (n ≤ last-number) × (p ≤ last-place)

@@ -22,7 +22,6 @@ use Rattle.rules.specs.Refusals.{
   Check,
   Answers,
   no-cut,
-  tied-sets,
   over-bound,
   row-checks,
   header-checks,
@@ -33,7 +32,7 @@ use Rattle.rules.specs.Refusals.{
 }
 use Rattle.numbers.proofs.Tests.{Test, holds-test, lt-test, le-test, eq-test, list-test}
 use Rattle.numbers.proofs.Tests.{as-test, not-test, and-test, or-test, every-test, any-test}
-use Rattle.rules.proofs.Sets.{sets-only, ends-differ, sets-test, sets-by}
+use Rattle.rules.proofs.Sets.{sets-only, sets-test, sets-by}
 
 infixr 10 _then_
 pub data Tests : List Check → Type 1 where
@@ -101,24 +100,17 @@ module _ (t : Table) where
       subst (λ (e : ℕ). (i : ℕ) × (i < t .rows) × T (through t i e)) q (h (e - 1) (omega arith)))
       (λ h e l. h (suc e) (omega arith, l))
 
-  module _ (pos : 0 < t .rows) (ws : List ℕ) (A : Sets t ws) where
-    abbrev pub tied-test : Test (tied-sets t .applies)
-    tied-test = record {
-      test = false;
-      is = λ h. absurd h;
-      of = λ x. x .different (ends-differ A (x .one) (x .other) (x .end) (x .one-set) (x .other-set) (x .one-end) (x .other-end));
-    }
+  abbrev pub line-tests : Tests (line-checks t)
+  unfolding line-checks
+  line-tests = no-cut-test then lt-test max-slots (hyperperiod t) then none
 
+  module _ (pos : 0 < t .rows) (ws : List ℕ) (A : Sets t ws) where
     abbrev pub over-test : (k : ℕ) → Test (over-bound t k .applies)
     over-test k =
         as-test (and-test (lt-test k (length ws)) (holds-test (over t (bit (at ws k)))))
         (λ h. (ws, A, h .0, h .1))
         (λ h. let e : h .0 ≡ ws = sets-only pos (h .1) A in
         subst (λ (vs : List ℕ). (k < length vs) × T (over t (bit (at vs k)))) e (h .2, h .3))
-
-    abbrev pub line-tests : Tests (line-checks t)
-    unfolding line-checks
-    line-tests = no-cut-test then lt-test max-slots (hyperperiod t) then tied-test then none
 
     abbrev pub bound-tests : Tests (bound-checks t)
     unfolding bound-checks
@@ -128,7 +120,7 @@ module _ (t : Table) where
 abbrev pub verdict-tests : (f ws : List ℕ) → 0 < fileTable f .rows → Sets (fileTable f) ws → Tests (verdict-checks f)
 unfolding verdict-checks file-checks
 verdict-tests f ws pos A =
-    tests-join (tests-join (tests-join (header-tests f) (row-tests (fileTable f))) (line-tests (fileTable f) pos ws A))
+    tests-join (tests-join (tests-join (header-tests f) (row-tests (fileTable f))) (line-tests (fileTable f)))
     (bound-tests (fileTable f) pos ws A)
 
 -- The verdict by tests alone: ws is the list of the table's overlap sets, and the first check whose test holds gives number n and place p.

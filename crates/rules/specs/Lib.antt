@@ -3,6 +3,7 @@ pub mod Bounds
 pub mod Bus
 pub mod TableFile
 pub mod Line
+pub mod Ties
 pub mod Loads
 pub mod Interval
 pub mod Planner

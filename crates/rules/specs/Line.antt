@@ -11,12 +11,10 @@
 --   setAt ws k               set number k of the list ws
 --   SetList n o s ws         ws are the words of the overlap sets, listed by ascending least second end
 --   Sets t ws                ws is the table's list of overlap sets
---   Tie t                    two overlap sets have the same least second end
 --
 -- A set of rows is a test D on row numbers; its word has bit i for row i. `OverlapSet` and `SetList` are over n rows and any test o whether
 -- two rows overlap, so that they serve the ring and the line.
 use mathlib.Core.Path.{_≡_}
-use mathlib.Core.Logic.{_≢_}
 use mathlib.Core.List.{List}
 use mathlib.Core.Bool.{Bool, not, _&&_, cond}
 use Prim.Native.Nat.{ℕ, suc, _+_, _≤_, _<_}
@@ -68,13 +66,3 @@ pub record SetList (n : ℕ) (o : ℕ → ℕ → Bool) (second : ℕ → ℕ) (
 
 abbrev pub Sets : Table → List ℕ → Type 0
 Sets t ws = SetList (t .rows) (overlap t) (lineSecond t) ws
-
-pub record Tie (t : Table) : Type 0 where
-  pub one : ℕ
-  pub other : ℕ
-  pub end : ℕ
-  pub different : one ≢ other
-  pub one-set : OverlapSet (t .rows) (overlap t) (bit one)
-  pub other-set : OverlapSet (t .rows) (overlap t) (bit other)
-  pub one-end : Least (lineSecond t) (bit one) end
-  pub other-end : Least (lineSecond t) (bit other) end

@@ -14,7 +14,7 @@ use Rattle.numbers.specs.Lists.{each}
 use Rattle.rules.specs.Bounds.{max-elements, max-rows, max-slots}
 use Rattle.rules.specs.Bus.{Table, through}
 use Rattle.rules.specs.TableFile.{table-mark, table-version, headerSize, rowSize, rowNumbers, mark, version, fileTable, memoryTable}
-use Rattle.rules.specs.Line.{setAt, Sets, Tie}
+use Rattle.rules.specs.Line.{setAt, Sets}
 use Rattle.rules.specs.Loads.{hyperperiod, start, end, light, over}
 use Rattle.rules.specs.Planner.{Stage, due, finished, Planner, Off}
 
@@ -84,10 +84,6 @@ no-cut t = refuse 10 0 ((e : ℕ) → In e 1 (t .elements) → (i : ℕ) × (i <
 abbrev pub long-hyperperiod : Table → Check
 long-hyperperiod t = refuse 11 0 (max-slots < hyperperiod t)
 
--- two overlap sets have the same least second end
-abbrev pub tied-sets : Table → Check
-tied-sets t = refuse 12 0 (Tie t)
-
 -- periods differ, and cost × L is below the period
 abbrev pub light-row : Table → ℕ → Check
 light-row t i = refuse 13 i (T (light t i))
@@ -130,9 +126,9 @@ row-checks t = each (t .rows) (faults t)
 unfoldable pub file-checks : List ℕ → List Check
 file-checks f = header-checks f ++ row-checks (fileTable f)
 
--- 10 to 12
+-- 10 and 11; 12, of two sets that tie, is retired (#106)
 unfoldable pub line-checks : Table → List Check
-line-checks t = no-cut t ∷ long-hyperperiod t ∷ tied-sets t ∷ []
+line-checks t = no-cut t ∷ long-hyperperiod t ∷ []
 
 -- 13 and 14. A table never has more overlap sets than rows.
 unfoldable pub bound-checks : Table → List Check
@@ -154,7 +150,7 @@ writer-checks M n xs room = memory-checks M n xs ++ (short-output (room < header
 unfoldable pub verdict-checks : List ℕ → List Check
 verdict-checks f = file-checks f ++ line-checks (fileTable f) ++ bound-checks (fileTable f)
 
--- the list of sets 1 to 12, then 17
+-- the list of sets 1 to 11, then 17
 unfoldable pub sets-checks : List ℕ → ℕ → List Check
 sets-checks f room =
     file-checks f ++ line-checks (fileTable f)

@@ -15,6 +15,7 @@ use Rattle.numbers.proofs.Truth.{both, fst, snd, orl, orr, or-cases, decide, re
 use Rattle.numbers.proofs.Finite.{below, any-of, least}
 use Rattle.rules.specs.Line.{meet, OverlapSet, Least}
 use Rattle.rules.proofs.Sets.{minimum}
+pub use Rattle.rules.proofs.Ties.{meet-is, meet-of}
 use Rattle.sets.specs.Walk.{across, endsAt}
 
 unfoldable pub started : ℕ → (first second : ℕ → ℕ) → ℕ → Bool
@@ -25,18 +26,6 @@ abbrev pub closes : ℕ → (first second : ℕ → ℕ) → ℕ → Bool
 closes n first second e = endsAt n second e && started n first second e
 
 -- ---- tests as facts
-
-module _ (first second : ℕ → ℕ) (i j : ℕ) where
-  pub meet-is : T (meet first second i j) → (first i < second j) × (first j < second i)
-  unfolding meet
-  meet-is h =
-      let a = ltb (first i) (second j) in
-      let b = ltb (first j) (second i) in
-      (ltb→lt (first i) (second j) (fst a b h), ltb→lt (first j) (second i) (snd a b h))
-
-  pub meet-of : first i < second j → first j < second i → T (meet first second i j)
-  unfolding meet
-  meet-of h k = both (ltb (first i) (second j)) (ltb (first j) (second i)) (lt→ltb _ _ h) (lt→ltb _ _ k)
 
 module _ (n : ℕ) (first second : ℕ → ℕ) (e i : ℕ) where
   pub across-is : T (across n first second e i) → (i < n) × (first i < e) × (e ≤ second i)
@@ -108,11 +97,6 @@ module _ (n : ℕ) (first second : ℕ → ℕ) where
       (λ t. across-of n first second e i (o .rows i t) (starts i t) (m .under i t))
       (λ t. let a = across-is n first second e i t in
       o .full i (a .0) (λ k u. meet-of first second i k (omega (arith, m .under k u)) (omega (arith, starts k u))))
-
-  -- so different overlap sets have different least second ends
-  pub ends-differ : {D E : ℕ → Bool} {e : ℕ} → OverlapSet n (meet first second) D → OverlapSet n (meet first second) E
-      → Least second D e → Least second E e → (i : ℕ) → D i ≡ E i
-  ends-differ o p d e i = exact o d i ∙ sym (exact p e i)
 
   module _ (line : (i : ℕ) → i < n → first i < second i) where
     pub closing : (e : ℕ) → T (closes n first second e)

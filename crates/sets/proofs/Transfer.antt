@@ -13,7 +13,7 @@ use Rattle.numbers.specs.Lists.{at}
 use Rattle.numbers.proofs.Truth.{along}
 use Rattle.numbers.proofs.Word.{bit-ext}
 use Rattle.rules.specs.Line.{meet, OverlapSet, Least, SetList}
-use Rattle.sets.proofs.Overlap.{ends-differ}
+use Rattle.rules.proofs.Ties.{one-set-an-end}
 
 -- two tests that agree on rows below n
 abbrev pub Agree : ℕ → (o p : ℕ → ℕ → Bool) → Type 0
@@ -45,8 +45,8 @@ list-agree {g = g} {h = h} {ws = ws} a b S = record {
       S .order k l d e m q (back k d (omega arith) x) (back l e q y);
 }
 
--- Refusal 12 is never given: no two overlap sets have the same least second end.
+-- No two overlap sets have the same least second end.
 pub no-tie : (n : ℕ) (first second : ℕ → ℕ) {o : ℕ → ℕ → Bool} → Agree n o (meet first second) → (v w e : ℕ) → v ≢ w
     → OverlapSet n o (bit v) → OverlapSet n o (bit w) → Least second (bit v) e → Least second (bit w) e → ⊥
 no-tie n first second a v w e differ x y c d =
-    differ (bit-ext v w (ends-differ n first second (set-agree a x) (set-agree a y) c d))
+    differ (bit-ext v w (one-set-an-end n first second (bit v) (bit w) e (set-agree a x) (set-agree a y) c d))

@@ -16,7 +16,7 @@ use Rattle.outline.specs.Outlined.{outline-checks}
 use Rattle.outline.proofs.Outlined.{outline-numbered}
 
 module _ (f : List ℕ) where
-  -- a refusal by 1 to 12 is the verdict's too
+  -- a refusal by 1 to 11 is the verdict's too
   outline-small : (n p : ℕ) → Answers (outline-checks f) n p → Dec (n ≡ 0) → (n ≤ 17) × (p ≤ 63)
   unfolding verdict-checks
   outline-small n p a (no h) = verdict-small f n p (stopped (outline-checks f) (bound-checks (fileTable f)) n p h a)

@@ -136,7 +136,7 @@ impl Answer {
 
     pub const LONG_HYPERPERIOD: u32 = 11;
 
-    pub const TIED_SETS: u32 = 12;
+    // 12 is retired: two overlap sets can't tie
 
     pub const LIGHT_ROW: u32 = 13;
 

@@ -90,7 +90,7 @@ analysed-refused r h a = record { answers = a; found = λ e. absurd (h e); refus
 
 module _ (t : Table) where
   module _ (o : Outline) (O : Outlined (line-checks t) t o) where
-    -- one of 10 to 12
+    -- 10 or 11
     pub analysed-first : o .answer .number ≢ 0 → Analysed (table-checks t) t (blank (o .answer))
     analysed-first h =
         analysed-refused (o .answer) h

@@ -1,8 +1,7 @@
--- Refusals 13 and 14 of a table whose overlap sets are listed, what holds of a table that gets no refusal, and that none gets 12.
+-- Refusals 13 and 14 of a table whose overlap sets are listed, and what holds of a table that gets no refusal.
 --
 --   NoneLight t        no row of the table is light
 use mathlib.Core.Path.{_≡_, refl, sym, subst}
-use mathlib.Core.Logic.{⊎-elim}
 use mathlib.Core.Bool.{Bool}
 use mathlib.Core.List.{List, [], _∷_, _++_, append-assoc}
 use Prim.Native.Nat.{ℕ, _+_, _≤_, _<_}
@@ -12,28 +11,25 @@ use lib.ListN.{length}
 use Rattle.numbers.specs.Finite.{sum}
 use Rattle.numbers.specs.Word.{bit}
 use Rattle.numbers.specs.Lists.{at, each}
-use Rattle.numbers.proofs.Truth.{le-or-lt}
 use Rattle.numbers.proofs.Finite.{sum-term}
 use Rattle.rules.specs.Bus.{Table, overlap}
 use Rattle.rules.specs.TableFile.{fileTable}
 use Rattle.rules.specs.Line.{cut, OverlapSet, Sets, lineFirst, lineSecond}
 use Rattle.rules.specs.Loads.{light, over}
-use Rattle.rules.specs.Refusals.{Check, Answers, wrong-ends, wrong-period, wrong-cost, tied-sets, light-row, over-bound}
-use Rattle.rules.specs.Refusals.{row-checks, header-checks, file-checks, line-checks, bound-checks, verdict-checks}
+use Rattle.rules.specs.Refusals.{Check, Answers, light-row, over-bound}
+use Rattle.rules.specs.Refusals.{file-checks, line-checks, bound-checks, verdict-checks}
 use Rattle.rules.proofs.Answers.{None, Numbered, stopped, joined, none-join, none-left, none-right, numbered-join}
 use Rattle.rules.proofs.Sets.{sets-only, set-in}
 use Rattle.table.specs.Sound.{Sound}
 use Rattle.table.proofs.Faults.{passed-none}
-use Rattle.ring.proofs.Cut.{cut-high, cut-none}
 use Rattle.ring.proofs.OnLine.{line-ordered}
 use Rattle.sets.proofs.List.{setsTo, setsTo-few, sets-are}
-use Rattle.outline.proofs.Sets.{ring-list, sets-untied}
+use Rattle.outline.proofs.Sets.{ring-list}
 use Rattle.outline.specs.Outlined.{outline-checks}
 use Rattle.outline.proofs.Outlined.{outline-numbered, none-line}
 use Rattle.verdict.specs.Analysed.{table-checks}
 use Rattle.lags.specs.Lags.{Admissible}
 use Rattle.rules.proofs.Answers.{single-none, none-single, single-numbered, single-stopped}
-use Rattle.rules.proofs.Answers.{Lacks, lacks-join, lacks-each, lacks-first, lacks-last}
 
 -- the checks of 13, and those of 14
 abbrev lights : Table → List Check
@@ -41,10 +37,6 @@ lights t = each (t .rows) (λ i. light-row t i ∷ [])
 
 abbrev overs : Table → List Check
 overs t = each (t .rows) (λ k. over-bound t k ∷ [])
-
--- the number of the refusal of two sets that tie
-abbrev pub tie-number : ℕ
-tie-number = tied-sets (fileTable []) .number
 
 abbrev pub NoneLight : Table → Type 0
 NoneLight t = (i : ℕ) → i < t .rows → T (light t i) → ⊥
@@ -140,41 +132,3 @@ admissible-of f a =
     let n : None (file-checks f ++ table-checks (fileTable f)) = rw (verdict-split f) at a in
     table-admissible (fileTable f) (passed-none f (none-left (file-checks f) (table-checks (fileTable f)) n) .sound)
     (none-right (file-checks f) (table-checks (fileTable f)) n)
-
--- ---- refusal 12, of two sets that tie, is never given
-
--- no other check of the verdict has its number
-row-lacks : (t : Table) → Lacks tie-number (row-checks t)
-unfolding row-checks Lacks
-row-lacks t = lacks-each (λ i. wrong-ends t i ∷ wrong-period t i ∷ wrong-cost t i ∷ []) tie-number (t .rows) (λ i. omega arith)
-
-file-lacks : (f : List ℕ) → Lacks tie-number (file-checks f)
-unfolding file-checks header-checks Lacks
-file-lacks f = lacks-join tie-number (header-checks f) (row-checks (fileTable f)) (omega arith) (row-lacks (fileTable f))
-
-bound-lacks : (t : Table) → Lacks tie-number (bound-checks t)
-unfolding bound-checks Lacks
-bound-lacks t =
-    lacks-join tie-number (lights t) (overs t) (lacks-each (λ i. light-row t i ∷ []) tie-number (t .rows) (λ i. omega arith))
-    (lacks-each (λ k. over-bound t k ∷ []) tie-number (t .rows) (λ k. omega arith))
-
-line-untied : (t : Table) → Sound t → (p : ℕ) → Answers (line-checks t) tie-number p → ⊥
-unfolding line-checks Answers
-line-untied t s p a =
-    ⊎-elim (λ w. omega arith)
-    (λ w. ⊎-elim (λ v. omega arith)
-    (λ v. ⊎-elim
-    (λ u. sets-untied t s
-    (⊎-elim (λ l. l) (λ l. absurd (w .0 (cut-none t .1 (omega (arith, cut-high t))))) (le-or-lt (cut t) (t .elements)))
-    (u .0))
-    (λ u. omega arith) (v .1))
-    (w .1))
-    a
-
-pub never-tied : (f : List ℕ) (p : ℕ) → Answers (verdict-checks f) tie-number p → ⊥
-unfolding verdict-checks
-never-tied f p a =
-    let t = fileTable f in
-    let b = lacks-last tie-number p (outline-checks f) (bound-checks t) (omega arith) (bound-lacks t) a in
-    let c = lacks-first tie-number p (file-checks f) (line-checks t) (file-lacks f) b in
-    line-untied t (passed-none f (c .0) .sound) p (c .1)

@@ -19,7 +19,7 @@ use Rattle.verdict.specs.Analysed.{Analysed}
 use Rattle.verdict.specs.Verdict.{numberOf, IsVerdict}
 use Rattle.verdict.specs.Demand.{Demand-2}
 use Rattle.rules.proofs.Answers.{none-position, position-none}
-use Rattle.verdict.proofs.Bound.{verdict-numbered, admissible-of, tie-number, never-tied}
+use Rattle.verdict.proofs.Bound.{verdict-numbered, admissible-of}
 
 -- ---- the verdict of an analysis
 
@@ -87,7 +87,3 @@ demand-2 f r X = (
   λ z. none-position (verdict-checks f) (none-of (verdict-checks f) _ (verdict-numbered f) (rw z at (X .answers))),
   λ u. answers-only (verdict-checks f) _ 0 _ 0 (X .answers) (answered (verdict-checks f) (position-none (verdict-checks f) u)) .0,
 )
-
--- refusal 12, of two sets that tie, is never given
-pub verdict-untied : (f : List ℕ) (r : Verdict) → IsVerdict f r → numberOf r ≢ tie-number
-verdict-untied f r X e = never-tied f _ (rw e at (X .answers))

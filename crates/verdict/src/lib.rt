@@ -189,7 +189,7 @@ impl Analysis {
     }
 }
 
-// The analysis of a table: 10 to 12 are refused by its outline, then 13, then 14. All periods are equal exactly if L is h.
+// The analysis of a table: 10 and 11 are refused by its outline, then 13, then 14. All periods are equal exactly if L is h.
 pub fn analysis_of<'a>(
     elements: usize,
     rows: usize,
