@@ -124,7 +124,7 @@ module _ (f : List ℕ) where
           as-test (lt-test room (length ws)) (λ h. (ws, A, h))
           (λ w. subst (λ (vs : List ℕ). room < length vs) (sets-only some (w .1) A) (w .2))
 
-  pub planned-answered : (room : ℕ) → Answered (plan-checks f room)
+  pub planned-answered : (room : ℕ) → Answered (plan-checks (verdict-checks f) (fileTable f) room)
   unfolding plan-checks
   planned-answered room =
       by-lists (verdict-checks f) _ (verdict-numbered f) judged-answered
@@ -144,14 +144,14 @@ module _ (f : List ℕ) (p : Planner) where
       let e = sets-exist (fileTable f) (A .sound) (A .clear) in
       off-test (fileTable f) p (e .0) (e .1)
 
-  pub stepped-answered : (room : ℕ) → Answered (step-checks f p room)
+  pub stepped-answered : (room : ℕ) → Answered (step-checks (verdict-checks f) (fileTable f) p room)
   unfolding step-checks
   stepped-answered room =
       by-lists (verdict-checks f) _ (verdict-numbered f) (judged-answered f)
       (λ N. by-tests (
       state-test N then finished-test (p .stage) then lt-test room (step-room (fileTable f) (p .stage)) then none))
 
-  pub stood-answered : Answered (standings-checks f p)
+  pub stood-answered : Answered (standings-checks (verdict-checks f) (fileTable f) p)
   unfolding standings-checks
   stood-answered =
       by-lists (verdict-checks f) _ (verdict-numbered f) (judged-answered f) (λ N. by-tests (state-test N then none))

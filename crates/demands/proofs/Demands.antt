@@ -9,6 +9,7 @@ use Rattle.rules.specs.Loads.{start, end}
 use Rattle.rules.specs.Planner as rules
 use Rattle.rules.specs.Planner.{Off}
 use Rattle.rules.specs.Refusals.{Answers, reader-checks, writer-checks, verdict-checks, step-checks}
+use Rattle.rules.specs.Calls.{fileAsk}
 use Rattle.rules.proofs.Answers.{None, Numbered, answers-only, position-none, none-of, none-left, none-right, numbered-join}
 use Rattle.rules.proofs.Calls.{lent-take, call-must}
 use Rattle.rules.proofs.Lags.{qualify-by-lags}
@@ -21,6 +22,7 @@ use Rattle.promises.proofs.Steps.{step-serves, run-serves}
 use Rattle.planner.specs.State.{stageOf, plannerOf}
 use Rattle.planner.proofs.Chosen.{chosen-run}
 use Rattle.planner.proofs.Only.{step-only}
+use Rattle.planner.proofs.Asks.{file-proper}
 use Rattle.planner.proofs.Promises.{admitted-table, steps-run, standings-between, never-refused, whole-is-steps, carried}
 use Rattle.demands.specs.Demands.{Demand-1, Demand-2, Demand-3, Demands}
 use Rattle.demands.proofs.Answered.{
@@ -82,11 +84,12 @@ second = record {
 
 -- ---- demand 3
 
-step-passed : (f : List ℕ) (p : rules.Planner) (room place : ℕ) → Answers (step-checks f p room) 0 place
-    → None (verdict-checks f) × ¬ Off (fileTable f) p
+step-passed : (f : List ℕ) (p : rules.Planner) (room place : ℕ)
+    → Answers (step-checks (verdict-checks f) (fileTable f) p room) 0 place → None (verdict-checks f) × ¬ Off (fileTable f) p
 unfolding step-checks Numbered None
 step-passed f p room place a =
-    let n = none-of (step-checks f p room) place (numbered-join (verdict-checks f) _ (verdict-numbered f) (omega arith)) a in
+    let n = none-of (step-checks (verdict-checks f) (fileTable f) p room) place
+    (numbered-join (verdict-checks f) _ (verdict-numbered f) (omega arith)) a in
     (none-left (verdict-checks f) _ n, none-right (verdict-checks f) _ n .0)
 
 third : Demand-3
@@ -94,16 +97,17 @@ third = record {
   carried = carried;
   whole-is-steps = whole-is-steps;
   never-refused = never-refused;
-  in-place = λ f p q a r was now then m c. step-only f p _ r was now then m c;
+  in-place = λ f p q a r was now then m c. step-only (fileAsk f) p _ r was now then m c;
   step-serves = λ f p r was now k c z s.
       let t = fileTable f in
-      let n = step-passed f (plannerOf p) (length was) (r .place) (rw z at (c .stepped .answers)) in
+      let n = step-passed f (plannerOf p) (length was) (r .answer .place) (rw z at (c .stepped .answers)) in
       let w = c .stepped .done z in
       let l : ℕ = end t k - start t k in
       let S = step-serves t (plannerOf p) (plannerOf (r .planner)) k (w .0) (admissible-of f (n .0)) (n .1) (ap stageOf s) (w .1) in
       let e : take l now ≡ w .0 = ap (take l) (w .2) ∙ lent-take (w .0) was l (omega (arith, S .size)) in
       subst (Serves t (start t k) (end t k) (plannerOf p) (plannerOf (r .planner))) (sym e) S;
-  first-steps = λ f k p ws a s. run-serves (fileTable f) k (plannerOf p) ws (admitted-table f a) (chosen-run (steps-run s));
+  first-steps = λ f k p ws a s.
+      run-serves (fileTable f) k (plannerOf p) ws (admitted-table (fileAsk f) (file-proper f) a) (chosen-run (steps-run s));
 }
 
 pub demands : Demands

@@ -33,7 +33,7 @@ use Rattle.rules.specs.Refusals.{
   step-checks,
   standings-checks,
 }
-use Rattle.rules.specs.Calls.{lent, Read, Written, Admitted, Listed}
+use Rattle.rules.specs.Calls.{lent, Read, Written, Admitted, Listed, fileAsk}
 use Rattle.table.specs.declared.Answer.{Answer}
 use Rattle.verdict.specs.declared.Verdict.{Verdict}
 use Rattle.verdict.specs.Verdict.{numberOf, cutOf, intervalOf, hyperOf, loadOf, setsOf, IsVerdict}
@@ -45,7 +45,7 @@ use Rattle.planner.specs.declared.MovedOn.{MovedOn}
 use Rattle.planner.specs.declared.Standings.{Standings}
 use Rattle.planner.specs.State.{plannerOf}
 use Rattle.planner.specs.Answers.{StepAnswer, StandingsAnswer, PlanAnswer}
-use Rattle.planner.specs.Promises as planner
+use Rattle.planner.specs.Proper.{Admits}
 use Rattle.planner.specs.Promises.{Steps, Standings-between, Never-refused, Whole-is-steps, Carried}
 use Rattle.kept.specs.InPlace.{joined, MovedInPlace}
 
@@ -59,9 +59,9 @@ pub record Demand-1 : Type 1 where
   pub written : (elements rows : ℕ) (xs : List ℕ) (room : ℕ) → Answered (writer-checks elements rows xs room)
   pub judged : (f : List ℕ) → Answered (verdict-checks f)
   pub listed : (f : List ℕ) (room : ℕ) → Answered (sets-checks f room)
-  pub planned : (f : List ℕ) (room : ℕ) → Answered (plan-checks f room)
-  pub stepped : (f : List ℕ) (p : rules.Planner) (room : ℕ) → Answered (step-checks f p room)
-  pub stood : (f : List ℕ) (p : rules.Planner) → Answered (standings-checks f p)
+  pub planned : (f : List ℕ) (room : ℕ) → Answered (plan-checks (verdict-checks f) (fileTable f) room)
+  pub stepped : (f : List ℕ) (p : rules.Planner) (room : ℕ) → Answered (step-checks (verdict-checks f) (fileTable f) p room)
+  pub stood : (f : List ℕ) (p : rules.Planner) → Answered (standings-checks (verdict-checks f) (fileTable f) p)
   -- Only one number and place do.
   pub one : (cs : List Check) (m n p q : ℕ) → Answers cs m p → Answers cs n q → (m ≡ n) × (p ≡ q)
   -- A refusal leaves lent output unchanged and hands back the planner it was given; any other returned number is then 0.
@@ -73,13 +73,13 @@ pub record Demand-1 : Type 1 where
       → (cutOf r ≡ 0) × (intervalOf r ≡ 0) × (hyperOf r ≡ 0) × (loadOf r ≡ 0) × (setsOf r ≡ 0)
   pub list-refused : (f was now : List ℕ) (number place sets : ℕ) → Listed f was now number place sets → number ≢ 0
       → (sets ≡ 0) × (now ≡ was)
-  pub plan-refused : (f : List ℕ) (r : Answer) (was now : List ℕ) → PlanAnswer f r was now → r .number ≢ 0 → now ≡ was
-  pub step-refused : (f : List ℕ) (p : Planner) (r : MovedOn) (was now : List ℕ) → StepAnswer f p r was now → r .number ≢ 0
-      → (r .planner ≡ p) × (now ≡ was)
-  pub standings-refused : (f : List ℕ) (p : Planner) (r : Standings) → StandingsAnswer f p r → r .number ≢ 0 → (i : ℕ) → i < max-rows
-      → getD (r .values) i (pos 0) ≡ pos 0
+  pub plan-refused : (f : List ℕ) (r : Answer) (was now : List ℕ) → PlanAnswer (fileAsk f) r was now → r .number ≢ 0 → now ≡ was
+  pub step-refused : (f : List ℕ) (p : Planner) (r : MovedOn) (was now : List ℕ) → StepAnswer (fileAsk f) p r was now
+      → r .answer .number ≢ 0 → (r .planner ≡ p) × (now ≡ was)
+  pub standings-refused : (f : List ℕ) (p : Planner) (r : Standings) → StandingsAnswer (fileAsk f) p r → r .answer .number ≢ 0
+      → (i : ℕ) → i < max-rows → getD (r .values) i (pos 0) ≡ pos 0
 
-pub record Demand-2 : Type 0 where
+pub record Demand-2 : Type 1 where
   -- A table is admitted exactly if none of the refusals listed for the verdict applies;
   pub admits : (f : List ℕ) (r : Verdict) → IsVerdict f r → (numberOf r ≡ 0) ↔ Unrefused (verdict-checks f)
   -- then cut, L, h, reported load and number of sets are the document's.
@@ -89,12 +89,12 @@ pub record Demand-2 : Type 0 where
   pub sets : (f was now : List ℕ) (number place sets : ℕ) → Listed f was now number place sets → number ≡ 0
       → (ws : List ℕ) × Sets (fileTable f) ws × (sets ≡ length ws) × (now ≡ lent ws was)
   -- A step is one of the document's: its loads qualify, its words are the loads' slots, and its totals are the slots had.
-  pub steps : (f : List ℕ) (p : Planner) (r : MovedOn) (was now : List ℕ) → StepAnswer f p r was now → r .number ≡ 0
+  pub steps : (f : List ℕ) (p : Planner) (r : MovedOn) (was now : List ℕ) → StepAnswer (fileAsk f) p r was now → r .answer .number ≡ 0
       → (ws : List ℕ) × rules.Step (fileTable f) (plannerOf p) (plannerOf (r .planner)) ws × (now ≡ lent ws was)
   -- Loads qualify exactly if each is the row's lag rounded down or up, and so the sum over each set, which fits the interval.
   pub lags : Qualify-by-lags
   -- Every standing is total × h − (h / period) × cost × slot, 0 past the last row, and lies strictly between −h and h.
-  pub standings : (f : List ℕ) (p : Planner) (r : Standings) → StandingsAnswer f p r → r .number ≡ 0
+  pub standings : (f : List ℕ) (p : Planner) (r : Standings) → StandingsAnswer (fileAsk f) p r → r .answer .number ≡ 0
       → ((i : ℕ) → i < fileTable f .rows → getD (r .values) i (pos 0) ≡ rules.standing (fileTable f) (plannerOf p) i)
       × ((i : ℕ) → fileTable f .rows ≤ i → i < max-rows → getD (r .values) i (pos 0) ≡ pos 0)
   pub between : Standings-between
@@ -111,7 +111,7 @@ pub record Demand-2 : Type 0 where
       → Read (take (headerSize + rowSize * rows) now) was′ now′ number′ place′ elements′ rows′
       → (number ≡ 0) × (number′ ≡ 0) × (elements′ ≡ elements) × (rows′ ≡ rows) × (take (length xs) now′ ≡ xs)
 
-pub record Demand-3 : Type 0 where
+pub record Demand-3 : Type 1 where
   -- Every table that the verdict admits gets, with room for h words, a whole plan that carries it: rows that share a segment never share a
   -- slot, at every interval's end each row has had its share, and every job gets exactly its cost before its deadline, for ever.
   pub carried : Carried
@@ -121,14 +121,14 @@ pub record Demand-3 : Type 0 where
   pub never-refused : Never-refused
   -- A planner moved on where it is kept gives the same answers as a step.
   pub in-place : (f : List ℕ) (p q : Planner) (a : Answer) (r : MovedOn) (was now then : List ℕ) → MovedInPlace f p q a was now
-      → StepAnswer f p r was then → (joined q a ≡ r) × (now ≡ then)
+      → StepAnswer (fileAsk f) p r was then → (joined q a ≡ r) × (now ≡ then)
   -- Each step keeps rows that share a segment apart, adds to each total the slots that the row moves in, and brings each row to its share.
-  pub step-serves : (f : List ℕ) (p : Planner) (r : MovedOn) (was now : List ℕ) (k : ℕ) → StepAnswer f p r was now → r .number ≡ 0
-      → p .stage ≡ Due k
+  pub step-serves : (f : List ℕ) (p : Planner) (r : MovedOn) (was now : List ℕ) (k : ℕ) → StepAnswer (fileAsk f) p r was now
+      → r .answer .number ≡ 0 → p .stage ≡ Due k
       → Serves (fileTable f) (start (fileTable f) k) (end (fileTable f) k) (plannerOf p) (plannerOf (r .planner))
       (take (end (fileTable f) k - start (fileTable f) k) now)
   -- So do the first steps of a fresh planner together.
-  pub first-steps : (f : List ℕ) (k : ℕ) (p : Planner) (ws : List ℕ) → planner.Admitted f → Steps f k p ws
+  pub first-steps : (f : List ℕ) (k : ℕ) (p : Planner) (ws : List ℕ) → Admits (fileAsk f) → Steps (fileAsk f) k p ws
       → Served (fileTable f) k (plannerOf p) ws
 
 pub record Demands : Type 1 where

@@ -10,8 +10,5 @@ pub fn move_on(p: &mut Planner, file: &[u8], out: &mut [u64]) -> Answer
 {
     let moved = Planner::step(*p, file, out);
     *p = moved.planner;
-    Answer {
-        number: moved.number,
-        place: moved.place,
-    }
+    moved.answer
 }

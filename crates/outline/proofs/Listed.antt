@@ -30,15 +30,15 @@ module _ (f : List ℕ) where
   -- ---- what the call answers
 
   module _ (was : List ℕ) (o : Outline) (O : Outlined (outline-checks f) (fileTable f) o) where
-    pub listed-refused : o .number ≢ 0 → Listed f was was (o .number) (o .place) 0
+    pub listed-refused : o .answer .number ≢ 0 → Listed f was was (o .answer .number) (o .answer .place) 0
     unfolding sets-checks
     listed-refused h = record {
-      answers = stopped (outline-checks f) (no-room f (length was) ∷ []) (o .number) (o .place) h (O .answers);
+      answers = stopped (outline-checks f) (no-room f (length was) ∷ []) (o .answer .number) (o .answer .place) h (O .answers);
       done = λ e. absurd (h e);
       refused = λ e. (refl, refl);
     }
 
-    module _ (z : o .number ≡ 0) where
+    module _ (z : o .answer .number ≡ 0) where
       none : None (outline-checks f)
       none = outlined-none (outline-numbered f) O z
 

@@ -1,6 +1,6 @@
 -- Refusals 1 to 12, and that only one outline fits. Past the file's checks a table has a cut or 10 is given, and a hyperperiod of at
 -- most 4096 slots or 11 is given; 12 is never given.
-use mathlib.Core.Path.{_≡_, refl, sym, _∙_}
+use mathlib.Core.Path.{_≡_, refl, sym, ap, _∙_}
 use mathlib.Core.Logic.{_≢_, ⊎-elim}
 use mathlib.Core.List.{List, [], _∷_}
 use Prim.Native.Nat.{ℕ, _+_, _≤_, _<_}
@@ -35,10 +35,28 @@ use Rattle.table.proofs.Faults.{file-numbered, passed-none}
 use Rattle.ring.proofs.Cut.{cut-high, cut-none}
 use Rattle.sets.specs.Sets.{OnLine, Listed}
 use Rattle.sets.proofs.Listed.{listed-only}
-use Rattle.outline.specs.declared.Outline.{Outline}
+use Rattle.table.specs.declared.Answer.{Answer}
 use Rattle.table.proofs.ByRow.{by-row-only}
+use Rattle.outline.specs.declared.time.Time.{Time}
+use Rattle.outline.specs.declared.Outline.{Outline}
+use Rattle.outline.specs.Time.{Timed}
 use Rattle.outline.specs.Outlined.{Found, blank, outline-checks, Outlined}
 use Rattle.outline.proofs.Sets.{Ends, own-ends, ends-on-line, line-list, sets-untied}
+
+-- ---- one shape for number and place
+
+pub answer-only : (cs : List Check) (r s : Answer) → Answers cs (r .number) (r .place) → Answers cs (s .number) (s .place) → r ≡ s
+answer-only cs r s A B =
+    let e = answers-only cs _ _ _ _ A B in
+    λ k. record { number = e .0 k; place = e .1 k }
+
+-- an answer that was made for a number and a place
+pub answers-at : (cs : List Check) (r : Answer) (n p : ℕ) → (r .number ≡ n) × (r .place ≡ p) → Answers cs n p
+    → Answers cs (r .number) (r .place)
+answers-at cs r n p e a = rw (e .0, e .1) a
+
+pub answers-zero : (cs : List Check) (r : Answer) → r .number ≡ 0 → Answers cs (r .number) (r .place) → Answers cs 0 (r .place)
+answers-zero cs r e a = rw e at a
 
 -- ---- refusals 10 to 12
 
@@ -90,38 +108,40 @@ module _ (f : List ℕ) where
 
 -- ---- the outline of each outcome
 
-pub outlined-refused : {cs : List Check} {t : Table} (n p : ℕ) → n ≢ 0 → Answers cs n p → Outlined cs t (blank n p)
-outlined-refused n p h a = record { answers = a; found = λ e. absurd (h e); refused = λ e. refl }
+pub outlined-refused : {cs : List Check} {t : Table} (r : Answer) → r .number ≢ 0 → Answers cs (r .number) (r .place)
+    → Outlined cs t (blank r)
+outlined-refused r h a = record { answers = a; found = λ e. absurd (h e); refused = λ e. refl }
 
-pub outlined-found : (t : Table) (o : Outline) → o .number ≡ 0 → o .place ≡ 0 → Found t o → Outlined (line-checks t) t o
-outlined-found t o n q F = record {
-  answers = rw (n, q) (answered (line-checks t) (line-none t (F .sound) (F .clear) (F .short)));
+pub outlined-found : (t : Table) (o : Outline) → (o .answer .number ≡ 0) × (o .answer .place ≡ 0) → Found t o → Outlined (line-checks t) t o
+outlined-found t o d F = record {
+  answers = rw (d .0, d .1) (answered (line-checks t) (line-none t (F .timed .sound) (F .clear) (F .timed .short)));
   found = λ e. F;
-  refused = λ e. absurd (e n);
+  refused = λ e. absurd (e (d .0));
 }
 
 module _ (f : List ℕ) where
-  pub outlined-file : (n p : ℕ) → n ≢ 0 → Answers (file-checks f) n p → Outlined (outline-checks f) (fileTable f) (blank n p)
-  outlined-file n p h a = outlined-refused n p h (stopped (file-checks f) (line-checks (fileTable f)) n p h a)
+  pub outlined-file : (r : Answer) → r .number ≢ 0 → Answers (file-checks f) (r .number) (r .place)
+      → Outlined (outline-checks f) (fileTable f) (blank r)
+  outlined-file r h a = outlined-refused r h (stopped (file-checks f) (line-checks (fileTable f)) (r .number) (r .place) h a)
 
   -- past the file's checks its table's outline is the file's
   pub outlined-past : (p : ℕ) → Answers (file-checks f) 0 p → {o : Outline} → Outlined (line-checks (fileTable f)) (fileTable f) o
       → Outlined (outline-checks f) (fileTable f) o
   outlined-past p a {o} O = record {
     answers =
-        joined (file-checks f) (line-checks (fileTable f)) (o .number) (o .place) (none-of (file-checks f) p (file-numbered f) a)
-        (O .answers);
+        joined (file-checks f) (line-checks (fileTable f)) (o .answer .number) (o .answer .place)
+        (none-of (file-checks f) p (file-numbered f) a) (O .answers);
     found = O .found;
     refused = O .refused;
   }
 
-pub outlined-none : {cs : List Check} {t : Table} {o : Outline} → Numbered cs → Outlined cs t o → o .number ≡ 0 → None cs
-outlined-none {cs} {t} {o} N O z = none-of cs (o .place) N (rw z at (O .answers))
+pub outlined-none : {cs : List Check} {t : Table} {o : Outline} → Numbered cs → Outlined cs t o → o .answer .number ≡ 0 → None cs
+outlined-none {cs} {t} {o} N O z = none-of cs (o .answer .place) N (rw z at (O .answers))
 
 -- ---- the rows and the list of an outline that is found
 
 pub found-few : {t : Table} {o : Outline} → Found t o → o .sets ≤ max-rows
-found-few F = let s = F .sound in omega arith
+found-few F = let s = F .timed .sound in omega (arith, F .few)
 
 pub found-count : {t : Table} {o : Outline} → Found t o → length (take (o .sets) (o .words)) ≡ o .sets
 found-count {t} {o} F = omega (arith, length-take (o .sets) (o .words), found-few F)
@@ -132,32 +152,33 @@ module _ {t : Table} {o : Outline} (F : Found t o) where
 
   module _ (first second : ℕ → ℕ) (ends : Ends t first second) where
     pub found-on-line : OnLine (t .rows) first second (t .elements + 1)
-    found-on-line = ends-on-line t (F .sound) (F .clear) first second ends
+    found-on-line = ends-on-line t (F .timed .sound) (F .clear) first second ends
 
     pub found-listed : Listed (t .rows) first second (o .sets) (o .words)
     found-listed = record {
       size = F .size;
       few = F .few;
-      sets = line-list t (F .sound) (F .clear) first second ends (take (o .sets) (o .words)) (F .list);
+      sets = line-list t (F .timed .sound) (F .clear) first second ends (take (o .sets) (o .words)) (F .list);
       rest = F .rest;
     }
 
 -- ---- only one outline fits
 
-pub found-only : {t : Table} {o u : Outline} → o .number ≡ u .number → o .place ≡ u .place → Found t o → Found t u → o ≡ u
-found-only {t} {o} {u} n p F G =
+pub time-only : {t : Table} {c d : Time} → Timed t c → Timed t d → c ≡ d
+time-only C D = λ k. record { hyper = (C .hyper ∙ sym (D .hyper)) k; interval = (C .interval ∙ sym (D .interval)) k }
+
+pub found-only : {t : Table} {o u : Outline} → o .answer ≡ u .answer → Found t o → Found t u → o ≡ u
+found-only {t} {o} {u} e F G =
     let ends = own-ends t in
     let w =
     listed-only (found-on-line F (lineFirst t) (lineSecond t) ends)
     (found-listed F (lineFirst t) (lineSecond t) ends) (found-listed G (lineFirst t) (lineSecond t) ends) in
     λ k. record {
-      number = n k;
-      place = p k;
+      answer = e k;
       elements = (F .elements ∙ sym (G .elements)) k;
       rows = (F .rows ∙ sym (G .rows)) k;
       cut = (F .cut ∙ sym (G .cut)) k;
-      hyper = (F .hyper ∙ sym (G .hyper)) k;
-      interval = (F .interval ∙ sym (G .interval)) k;
+      time = time-only (F .timed) (G .timed) k;
       first = by-row-only (F .first) (G .first) k;
       second = by-row-only (F .second) (G .second) k;
       sets = w .0 k;
@@ -165,11 +186,11 @@ found-only {t} {o} {u} n p F G =
     }
 
 pub outlined-only : {cs : List Check} {t : Table} (o u : Outline) → Outlined cs t o → Outlined cs t u → o ≡ u
-outlined-only {cs} {t} o u O U = go (ℕ-discrete (o .number) 0)
+outlined-only {cs} {t} o u O U = go (ℕ-discrete (o .answer .number) 0)
   where
-    same : (o .number ≡ u .number) × (o .place ≡ u .place)
-    same = answers-only cs _ _ _ _ (O .answers) (U .answers)
+    same : o .answer ≡ u .answer
+    same = answer-only cs (o .answer) (u .answer) (O .answers) (U .answers)
 
-    go : Dec (o .number ≡ 0) → o ≡ u
-    go (yes z) = found-only (same .0) (same .1) (O .found z) (U .found (sym (same .0) ∙ z))
-    go (no z) = O .refused z ∙ rw (same .0, same .1) (sym (U .refused (λ e. z (same .0 ∙ e))))
+    go : Dec (o .answer .number ≡ 0) → o ≡ u
+    go (yes z) = found-only same (O .found z) (U .found (sym (ap (λ (r : Answer). r .number) same) ∙ z))
+    go (no z) = O .refused z ∙ ap blank same ∙ sym (U .refused (λ e. z (ap (λ (r : Answer). r .number) same ∙ e)))

@@ -2,7 +2,7 @@
 --
 --   Rising n p i h     h is the least common multiple of the first i of n periods p, and no more than 4096
 --   Falling n p i l    l is the greatest common divisor of the first i of n periods p
-use mathlib.Core.Path.{_≡_, sym, _∙_}
+use mathlib.Core.Path.{_≡_, sym}
 use mathlib.Core.Logic.{_≢_, ⊎-elim}
 use Prim.Native.Nat.{ℕ, _+_, _≤_, _<_}
 use native.Mathlib.Omega.{arith}
@@ -12,9 +12,9 @@ use Rattle.numbers.proofs.Truth.{le-or-lt}
 use Rattle.numbers.proofs.Divisors.{Positive, lcm-none, lcm-next, lcm-positive, lcm-grows, gcd-one, gcd-next}
 use Rattle.rules.specs.Bounds.{max-slots}
 use Rattle.rules.specs.Bus.{Table}
-use Rattle.rules.specs.Loads.{hyperperiod, shortest}
+use Rattle.rules.specs.Loads.{hyperperiod}
 use Rattle.table.specs.Sound.{Sound}
-use Rattle.outline.specs.Periods.{Periods, Capped}
+use Rattle.outline.specs.Time.{Periods, Capped}
 
 pub record Rising (n : ℕ) (p : ℕ → ℕ) (i h : ℕ) : Type 0 where
   pub rows : i ≤ n
@@ -68,10 +68,6 @@ module _ {n : ℕ} {p : ℕ → ℕ} where
       let is : lcm n p ≡ h = rw e at (R .is) in
       record { short = λ a. sym is; long = λ a. absurd (omega arith) }
 
-pub hyperperiod-positive : {t : Table} → Sound t → 0 < hyperperiod t
-unfolding hyperperiod
-hyperperiod-positive {t} s = lcm-positive (t .rows) (t .period) (positive (periods-of s) (t .rows) (omega arith))
-
 pub capped-hyper : (t : Table) {r : ℕ} → Capped (lcm (t .rows) (t .period)) r → Capped (hyperperiod t) r
 unfolding hyperperiod
 capped-hyper t C = C
@@ -100,7 +96,3 @@ pub falling-end : {n : ℕ} {p : ℕ → ℕ} {i l : ℕ} → Falling n p i l �
 falling-end {n} {p} {i} {l} F k =
     let e : i ≡ n = omega arith in
     sym (rw e at (F .is))
-
-pub falling-shortest : (t : Table) {l : ℕ} → l ≡ gcd (t .rows) (t .period) → l ≡ shortest t
-unfolding shortest
-falling-shortest t e = e

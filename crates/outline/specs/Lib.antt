@@ -1,2 +1,2 @@
-pub mod Periods
+pub mod Time
 pub mod Outlined

@@ -1,7 +1,9 @@
 -- A table on the line, as the code's outline shows it.
 --
+--   tableWith g M n period first second
+--                      the table of M elements and n rows that has the costs g, and periods and ends from arrays
 --   Found t o          o is the outline of the table t, which has none of the faults 4 to 12
---   blank n p          the outline of a refusal: 0 for all but number and place
+--   blank r            the outline of a refusal: 0 for all but the answer
 --   outline-checks f   1 to 12, in their order
 --   Outlined cs t o    o answers the checks cs, and is what is found of table t where none of them applies
 --
@@ -12,25 +14,26 @@ use mathlib.Core.List.{List, _++_}
 use Prim.Native.Nat.{ℕ, _≤_, _<_}
 use lib.ListN.{length, take, replicate}
 use Rattle.numbers.specs.Lists.{at}
-use Rattle.rules.specs.Bounds.{max-rows, max-slots}
+use Rattle.rules.specs.Bounds.{max-rows}
 use Rattle.rules.specs.Bus.{Table}
 use Rattle.rules.specs.TableFile.{fileTable}
 use Rattle.rules.specs.Line as line
-use Rattle.rules.specs.Loads.{hyperperiod, shortest}
 use Rattle.rules.specs.Refusals.{Check, Answers, file-checks, line-checks}
-use Rattle.table.specs.Sound.{Sound}
 use Rattle.table.specs.Columns.{ByRow}
+use Rattle.table.specs.declared.Answer.{Answer}
 use Rattle.outline.specs.declared.Outline.{Outline}
+use Rattle.outline.specs.Time.{Timed}
+
+abbrev pub tableWith : (ℕ → ℕ) → ℕ → ℕ → (period first second : List ℕ) → Table
+tableWith cost elements rows period first second =
+    record { elements = elements; rows = rows; cost = cost; period = at period; first = at first; second = at second }
 
 pub record Found (t : Table) (o : Outline) : Type 0 where
-  pub sound : Sound t
+  pub timed : Timed t (o .time)
   pub clear : line.cut t ≤ t .elements
-  pub short : hyperperiod t ≤ max-slots
   pub elements : o .elements ≡ t .elements
   pub rows : o .rows ≡ t .rows
   pub cut : o .cut ≡ line.cut t
-  pub hyper : o .hyper ≡ hyperperiod t
-  pub interval : o .interval ≡ shortest t
   pub first : ByRow (t .rows) (line.lineFirst t) (o .first)
   pub second : ByRow (t .rows) (line.lineSecond t) (o .second)
   pub few : o .sets ≤ t .rows
@@ -38,15 +41,13 @@ pub record Found (t : Table) (o : Outline) : Type 0 where
   pub size : length (o .words) ≡ max-rows
   pub rest : (k : ℕ) → o .sets ≤ k → at (o .words) k ≡ 0
 
-abbrev pub blank : ℕ → ℕ → Outline
-blank number place = record {
-  number = number;
-  place = place;
+abbrev pub blank : Answer → Outline
+blank answer = record {
+  answer = answer;
   elements = 0;
   rows = 0;
   cut = 0;
-  hyper = 0;
-  interval = 0;
+  time = record { hyper = 0; interval = 0 };
   first = replicate max-rows 0;
   second = replicate max-rows 0;
   sets = 0;
@@ -57,6 +58,6 @@ abbrev pub outline-checks : List ℕ → List Check
 outline-checks f = file-checks f ++ line-checks (fileTable f)
 
 pub record Outlined (cs : List Check) (t : Table) (o : Outline) : Type 0 where
-  pub answers : Answers cs (o .number) (o .place)
-  pub found : o .number ≡ 0 → Found t o
-  pub refused : o .number ≢ 0 → o ≡ blank (o .number) (o .place)
+  pub answers : Answers cs (o .answer .number) (o .answer .place)
+  pub found : o .answer .number ≡ 0 → Found t o
+  pub refused : o .answer .number ≢ 0 → o ≡ blank (o .answer)

@@ -1,128 +1,93 @@
 // What a table is on the line: its cut, its rows' ends, its overlap sets, hyperperiod and interval, or a refusal from 1 to 12.
+mod time;
+
 use table::Answer;
-use table::Columns;
 use table::Table;
+pub use time::Time;
+use time::hyperperiod_of;
+use time::shortest_of;
 ghost use mathlib.Core.Path.{_≡_};
-ghost use Prim.Native.Nat.{_<_, _≤_};
+ghost use Prim.Native.Nat.{ℕ, _≤_};
 ghost use lib.ListN.{length};
 ghost use Rattle.numbers.specs.Lists.{at};
-ghost use Rattle.numbers.specs.Divisors.{gcd, lcm};
-ghost use Rattle.rules.specs.Bounds.{max-slots};
 ghost use Rattle.rules.specs.TableFile.{fileTable};
-ghost use Rattle.rules.specs.Line as line;
-ghost use Rattle.rules.specs.Loads.{hyperperiod};
 ghost use Rattle.rules.specs.Refusals.{line-checks};
 ghost use Rattle.rules.specs.Calls.{lent, Listed};
 ghost use Rattle.table.specs.Sound.{Sound};
-ghost use Rattle.table.specs.Columns.{tableOf};
-ghost use Rattle.outline.specs.Periods.{Periods, Capped};
-ghost use Rattle.outline.specs.Outlined.{Found, blank, outline-checks, Outlined};
+ghost use Rattle.outline.specs.Outlined.{tableWith, blank, outline-checks, Outlined};
 
-// h, the least common multiple of the periods, or 0 where it is above 4096. It only grows from row to row, so the rows after that are left.
-fn hyperperiod_of(rows: usize, period: &[u16; Table::ROWS]) -> u64
-    requires { ⌜ Periods rows (at (now period)) ⌝ }
-    ensures { λ r. ⌜ Capped (lcm rows (at (now (period .entry)))) r ⌝ }
-{
-    let mut h: u64 = 1;
-    let mut i: usize = 0;
-    while i < rows {
-        h = numbers::lcm_of(h, table::slots_at(period, i));
-        if h > Table::SLOTS as u64 {
-            return 0;
-        }
-        i += 1;
-    }
-    h
-}
-
-// L, the greatest common divisor of the periods.
-fn shortest_of(rows: usize, period: &[u16; Table::ROWS]) -> u64
-    requires { ⌜ Periods rows (at (now period)) ⌝ }
-    ensures { λ r. ⌜ r ≡ gcd rows (at (now (period .entry))) ⌝ }
-{
-    let mut l = table::slots_at(period, 0);
-    let mut i: usize = 1;
-    while i < rows {
-        l = numbers::gcd_of(l, table::slots_at(period, i));
-        i += 1;
-    }
-    l
-}
-
-// A table on the line. All is 0 but number and place where it is refused.
+// A table on the line and in time. All is 0 but the answer where it is refused.
 pub struct Outline {
-    pub number: u32,
-    pub place: u32,
+    pub answer: Answer,
     pub elements: usize,
     pub rows: usize,
     pub cut: usize,
-    pub hyper: u64,
-    pub interval: u64,
+    pub time: Time,
     pub first: [u8; Table::ROWS],
     pub second: [u8; Table::ROWS],
     pub sets: usize,
     pub words: [u64; Table::ROWS],
 }
 
-// A refusal.
-fn refuse(number: u32, place: u32) -> Outline
-    ensures { λ r. ⌜ r ≡ blank number place ⌝ }
-{
-    Outline {
-        number: number,
-        place: place,
-        elements: 0,
-        rows: 0,
-        cut: 0,
-        hyper: 0,
-        interval: 0,
-        first: [0; Table::ROWS],
-        second: [0; Table::ROWS],
-        sets: 0,
-        words: [0; Table::ROWS],
+impl Outline {
+    pub fn refused(answer: Answer) -> Outline
+        ensures { λ r. ⌜ r ≡ blank answer ⌝ }
+    {
+        Outline {
+            answer: answer,
+            elements: 0,
+            rows: 0,
+            cut: 0,
+            time: Time {
+                hyper: 0,
+                interval: 0,
+            },
+            first: [0; Table::ROWS],
+            second: [0; Table::ROWS],
+            sets: 0,
+            words: [0; Table::ROWS],
+        }
     }
 }
 
-// What a table is on the line, or the first refusal of 10 to 12.
-pub fn outline_of(columns: Columns) -> Outline
-    requires { ⌜ Sound (tableOf columns) ⌝ }
-    ensures { λ r. ⌜ Outlined (line-checks (tableOf columns)) (tableOf columns) r ⌝ }
+// What a table is on the line and in time, or the first refusal of 10 to 12. Its costs say nothing of that.
+pub fn outline_of<'a>(
+    elements: usize,
+    rows: usize,
+    period: &'a [u16; Table::ROWS],
+    first: &'a [u8; Table::ROWS],
+    second: &'a [u8; Table::ROWS],
+) -> Outline
+    requires { ⌜ ((cost : ℕ → ℕ) × Sound (tableWith cost elements rows (now period) (now first) (now second))) ⌝ }
+    ensures { λ r. ⌜ ((cost : ℕ → ℕ) → Sound (tableWith cost elements rows (now (period .entry)) (now (first .entry)) (now (second .entry)))
+        → Outlined (line-checks (tableWith cost elements rows (now (period .entry)) (now (first .entry)) (now (second .entry))))
+        (tableWith cost elements rows (now (period .entry)) (now (first .entry)) (now (second .entry))) r) ⌝ }
 {
-    let cut = ring::find_cut(
-        columns.elements,
-        columns.rows,
-        &columns.first,
-        &columns.second,
-    );
-    if cut > columns.elements {
-        return refuse(Answer::NO_CUT, 0);
+    let cut = ring::find_cut(elements, rows, first, second);
+    if cut > elements {
+        return Outline::refused(Answer::at(Answer::NO_CUT, 0));
     }
-    let hyper = hyperperiod_of(columns.rows, &columns.period);
+    let hyper = hyperperiod_of(rows, period);
     if hyper == 0 {
-        return refuse(Answer::LONG_HYPERPERIOD, 0);
+        return Outline::refused(Answer::at(Answer::LONG_HYPERPERIOD, 0));
     }
     // nothing is left to refuse, as no two overlap sets tie
-    let line = ring::lay(
-        columns.elements,
-        columns.rows,
-        &columns.first,
-        &columns.second,
-        cut,
-    );
-    let first = line.first;
-    let second = line.second;
-    let list = sets::list_sets(&first, &second, columns.rows, columns.elements + 1);
+    let line = ring::lay(elements, rows, first, second, cut);
+    let line_first = line.first;
+    let line_second = line.second;
+    let list = sets::list_sets(&line_first, &line_second, rows, elements + 1);
     let words = list.words;
     Outline {
-        number: Answer::DONE,
-        place: 0,
-        elements: columns.elements,
-        rows: columns.rows,
+        answer: Answer::done(),
+        elements: elements,
+        rows: rows,
         cut: cut,
-        hyper: hyper,
-        interval: shortest_of(columns.rows, &columns.period),
-        first: first,
-        second: second,
+        time: Time {
+            hyper: hyper,
+            interval: shortest_of(rows, period),
+        },
+        first: line_first,
+        second: line_second,
         sets: list.count,
         words: words,
     }
@@ -135,16 +100,20 @@ fn outline_file(file: &[u8]) -> Outline
     let found = table::decode(file);
     let answer = found.answer;
     if answer.number != Answer::DONE {
-        return refuse(answer.number, answer.place);
+        return Outline::refused(answer);
     }
-    let columns = found.columns;
-    outline_of(columns)
+    outline_of(
+        found.columns.elements,
+        found.columns.rows,
+        &found.columns.period,
+        &found.columns.first,
+        &found.columns.second,
+    )
 }
 
-// What the list of sets answers: a refusal number and its place, or the length of the list.
+// What the list of sets answers, and its length.
 pub struct Listing {
-    pub number: u32,
-    pub place: u32,
+    pub answer: Answer,
     pub sets: u32,
 }
 
@@ -160,29 +129,27 @@ fn write_front(words: &[u64], out: &mut [u64])
 
 // The list of the overlap sets of a file's table, written to the front of `out`.
 pub fn list_of_sets(file: &[u8], out: &mut [u64]) -> Listing
-    ensures { λ r. ⌜ Listed (now (file .entry)) (now (out .entry)) (now (out .exit)) (r .number) (r .place) (r .sets) ⌝ }
+    ensures { λ r. ⌜ Listed (now (file .entry)) (now (out .entry)) (now (out .exit)) (r .answer .number) (r .answer .place) (r .sets) ⌝ }
 {
     let o = outline_file(file);
-    if o.number != Answer::DONE {
+    let answer = o.answer;
+    if answer.number != Answer::DONE {
         return Listing {
-            number: o.number,
-            place: o.place,
+            answer: answer,
             sets: 0,
         };
     }
     let sets = o.sets;
     if out.len() < sets {
         return Listing {
-            number: Answer::SHORT_OUTPUT,
-            place: 0,
+            answer: Answer::at(Answer::SHORT_OUTPUT, 0),
             sets: 0,
         };
     }
     let words = o.words;
     write_front(&words[..sets], out);
     Listing {
-        number: Answer::DONE,
-        place: 0,
+        answer: Answer::done(),
         sets: sets as u32,
     }
 }

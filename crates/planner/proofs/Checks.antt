@@ -1,119 +1,82 @@
--- The planner's calls and the orders of their checks: what each answers, where the verdict refuses the file and where it admits it.
+-- The planner's calls and the orders of their checks: what each answers on an admitted table, and what holds where nothing is refused.
 use mathlib.Core.Path.{_≡_, refl}
-use mathlib.Core.Logic.{_≢_}
 use mathlib.Core.List.{List, []}
 use Prim.Native.Nat.{ℕ, _-_, _≤_, _<_}
 use native.Mathlib.Omega.{arith}
-use Rattle.rules.specs.TableFile.{fileTable}
+use Rattle.rules.specs.Bus.{Table}
 use Rattle.rules.specs.Loads.{hyperperiod, start, end}
 use Rattle.rules.specs.Planner.{due, finished, Planner, Off}
 use Rattle.rules.specs.Refusals.{
+  Check,
   Answers,
   off-state,
   has-finished,
   short-output,
-  verdict-checks,
   plan-checks,
   step-room,
   step-checks,
   standings-checks,
 }
-use Rattle.rules.proofs.Answers.{
-  None,
-  Numbered,
-  applied,
-  passed,
-  done,
-  stopped,
-  joined,
-  none-of,
-  none-left,
-  none-right,
-  numbered-join,
-}
-use Rattle.verdict.proofs.Bound.{verdict-numbered}
+use Rattle.rules.proofs.Answers.{None, Numbered, applied, passed, done, none-of, none-left, none-right, numbered-join}
 
-module _ (f : List ℕ) where
-  -- ---- the verdict refuses
+-- ---- the call's own checks, of table t
 
-  module _ (n p : ℕ) (refused : n ≢ 0) (a : Answers (verdict-checks f) n p) where
-    pub plan-refused : (room : ℕ) → Answers (plan-checks f room) n p
-    unfolding plan-checks
-    plan-refused room = stopped (verdict-checks f) _ n p refused a
+module _ (t : Table) where
+  pub plan-short : (room : ℕ) → room < hyperperiod t → Answers (plan-checks [] t room) 17 0
+  unfolding plan-checks
+  plan-short room l = applied (short-output (room < hyperperiod t)) [] 17 0 l refl refl
 
-    pub step-refused : (q : Planner) (room : ℕ) → Answers (step-checks f q room) n p
-    unfolding step-checks
-    step-refused q room = stopped (verdict-checks f) _ n p refused a
+  pub plan-done : (room : ℕ) → hyperperiod t ≤ room → Answers (plan-checks [] t room) 0 0
+  unfolding plan-checks
+  plan-done room l = passed (short-output (room < hyperperiod t)) [] 0 0 (λ k. omega arith) done
 
-    pub standings-refused : (q : Planner) → Answers (standings-checks f q) n p
+  module _ (p : Planner) where
+    pub standings-off : Off t p → Answers (standings-checks [] t p) 15 0
     unfolding standings-checks
-    standings-refused q = stopped (verdict-checks f) _ n p refused a
+    standings-off o = applied (off-state t p) [] 15 0 o refl refl
 
-  -- ---- the verdict admits
+    pub standings-done : ¬ Off t p → Answers (standings-checks [] t p) 0 0
+    unfolding standings-checks
+    standings-done o = passed (off-state t p) [] 0 0 o done
 
-  module _ (a : None (verdict-checks f)) where
-    pub plan-short : (room : ℕ) → room < hyperperiod (fileTable f) → Answers (plan-checks f room) 17 0
-    unfolding plan-checks
-    plan-short room l =
-        joined (verdict-checks f) _ 17 0 a (applied (short-output (room < hyperperiod (fileTable f))) [] 17 0 l refl refl)
+    module _ (room : ℕ) where
+      pub step-off : Off t p → Answers (step-checks [] t p room) 15 0
+      unfolding step-checks
+      step-off o = applied (off-state t p) _ 15 0 o refl refl
 
-    pub plan-done : (room : ℕ) → hyperperiod (fileTable f) ≤ room → Answers (plan-checks f room) 0 0
-    unfolding plan-checks
-    plan-done room l =
-        joined (verdict-checks f) _ 0 0 a (passed (short-output (room < hyperperiod (fileTable f))) [] 0 0 (λ k. omega arith) done)
-
-    module _ (p : Planner) where
-      pub standings-off : Off (fileTable f) p → Answers (standings-checks f p) 15 0
-      unfolding standings-checks
-      standings-off o = joined (verdict-checks f) _ 15 0 a (applied (off-state (fileTable f) p) [] 15 0 o refl refl)
-
-      pub standings-done : ¬ Off (fileTable f) p → Answers (standings-checks f p) 0 0
-      unfolding standings-checks
-      standings-done o = joined (verdict-checks f) _ 0 0 a (passed (off-state (fileTable f) p) [] 0 0 o done)
-
-      module _ (room : ℕ) where
-        pub step-off : Off (fileTable f) p → Answers (step-checks f p room) 15 0
+      module _ (o : ¬ Off t p) where
+        pub step-finished : p .stage ≡ finished → Answers (step-checks [] t p room) 16 0
         unfolding step-checks
-        step-off o = joined (verdict-checks f) _ 15 0 a (applied (off-state (fileTable f) p) _ 15 0 o refl refl)
+        step-finished e = passed (off-state t p) _ 16 0 o (applied (has-finished p) _ 16 0 e refl refl)
 
-        module _ (o : ¬ Off (fileTable f) p) where
-          pub step-finished : p .stage ≡ finished → Answers (step-checks f p room) 16 0
+        module _ (k : ℕ) (is-due : p .stage ≡ due k) where
+          not-finished : p .stage ≡ finished → ⊥
+          not-finished e = let z : _≡_ {A = ℕ} 0 1 = cc in omega arith
+
+          asks : step-room t (p .stage) ≡ end t k - start t k
+          asks = rw is-due
+
+          pub step-short : room < end t k - start t k → Answers (step-checks [] t p room) 17 0
           unfolding step-checks
-          step-finished e =
-              joined (verdict-checks f) _ 16 0 a
-              (passed (off-state (fileTable f) p) _ 16 0 o (applied (has-finished p) _ 16 0 e refl refl))
+          step-short l =
+              passed (off-state t p) _ 17 0 o
+              (passed (has-finished p) _ 17 0 not-finished (applied (short-output _) [] 17 0 (omega (arith, asks)) refl refl))
 
-          module _ (k : ℕ) (is-due : p .stage ≡ due k) where
-            not-finished : p .stage ≡ finished → ⊥
-            not-finished e = let z : _≡_ {A = ℕ} 0 1 = cc in omega arith
+          pub step-done : end t k - start t k ≤ room → Answers (step-checks [] t p room) 0 0
+          unfolding step-checks
+          step-done l =
+              passed (off-state t p) _ 0 0 o
+              (passed (has-finished p) _ 0 0 not-finished (passed (short-output _) [] 0 0 (λ h. omega (arith, asks)) done))
 
-            asks : step-room (fileTable f) (p .stage) ≡ end (fileTable f) k - start (fileTable f) k
-            asks = rw is-due
+-- ---- nothing is refused
 
-            pub step-short : room < end (fileTable f) k - start (fileTable f) k → Answers (step-checks f p room) 17 0
-            unfolding step-checks
-            step-short l =
-                joined (verdict-checks f) _ 17 0 a
-                (passed (off-state (fileTable f) p) _ 17 0 o
-                (passed (has-finished p) _ 17 0 not-finished (applied (short-output _) [] 17 0 (omega (arith, asks)) refl refl)))
-
-            pub step-done : end (fileTable f) k - start (fileTable f) k ≤ room → Answers (step-checks f p room) 0 0
-            unfolding step-checks
-            step-done l =
-                joined (verdict-checks f) _ 0 0 a
-                (passed (off-state (fileTable f) p) _ 0 0 o
-                (passed (has-finished p) _ 0 0 not-finished (passed (short-output _) [] 0 0 (λ h. omega (arith, asks)) done)))
-
-  -- ---- nothing is refused
-
-  pub plan-passed : (room p : ℕ) → Answers (plan-checks f room) 0 p → None (verdict-checks f)
+module _ (cs : List Check) (N : Numbered cs) (t : Table) where
+  pub plan-passed : (room p : ℕ) → Answers (plan-checks cs t room) 0 p → None cs
   unfolding plan-checks Numbered
-  plan-passed room p a =
-      none-left (verdict-checks f) _
-      (none-of (plan-checks f room) p (numbered-join (verdict-checks f) _ (verdict-numbered f) (omega arith)) a)
+  plan-passed room p a = none-left cs _ (none-of (plan-checks cs t room) p (numbered-join cs _ N (omega arith)) a)
 
-  pub standings-passed : (q : Planner) (p : ℕ) → Answers (standings-checks f q) 0 p → None (verdict-checks f) × ¬ Off (fileTable f) q
+  pub standings-passed : (q : Planner) (p : ℕ) → Answers (standings-checks cs t q) 0 p → None cs × ¬ Off t q
   unfolding standings-checks Numbered None
   standings-passed q p a =
-      let n = none-of (standings-checks f q) p (numbered-join (verdict-checks f) _ (verdict-numbered f) (omega arith)) a in
-      (none-left (verdict-checks f) _ n, none-right (verdict-checks f) _ n .0)
+      let n = none-of (standings-checks cs t q) p (numbered-join cs _ N (omega arith)) a in
+      (none-left cs _ n, none-right cs _ n .0)

@@ -1,6 +1,6 @@
 -- Intervals done one after the other: what the loop over them keeps, and the planner's steps that they are.
 --
---   Planning t k had was m s n after out   the loop has done the intervals from k up to m, where s is the slot reached: n words are written
+--   Planning t k m had was s n after out   the loop has done the intervals from k, on the way to m, up to slot s: n words are written
 use mathlib.Core.Path.{_≡_, refl, sym, ap, ap₂, _∙_, subst}
 use mathlib.Core.Bool.{cond}
 use mathlib.Core.List.{List, [], _++_}
@@ -12,85 +12,117 @@ use lib.ListN.{length, take, drop, take-append-drop}
 use Rattle.numbers.specs.Lists.{at}
 use Rattle.numbers.proofs.Truth.{is-false}
 use Rattle.numbers.proofs.Lists.{Filled, filled-start, filled-part}
-use Rattle.rules.specs.Bounds.{max-rows}
+use Rattle.rules.specs.Bounds.{max-rows, max-slots}
 use Rattle.rules.specs.Bus.{Table}
 use Rattle.rules.specs.Calls.{lent}
 use Rattle.rules.specs.Loads.{start, end, intervals}
 use Rattle.rules.specs.Planner.{Stage, due, finished}
 use Rattle.lags.specs.Lags.{Admissible, Steady}
-use Rattle.lags.proofs.Intervals.{end-next, end-far, start-mono, intervals-positive}
+use Rattle.lags.proofs.Intervals.{shortest-positive, end-next, end-far, end-le, start-mono, start-below, start-same, intervals-positive}
+use Rattle.table.specs.Sound.{Sound}
+use Rattle.outline.specs.Time.{Begins}
+use Rattle.verdict.specs.declared.Analysis.{Analysis}
 use Rattle.interval.specs.Interval.{Moved}
-use Rattle.interval.specs.Ready.{Advanced}
+use Rattle.interval.specs.Ready.{Due, Advanced}
 use Rattle.interval.proofs.Moved.{moved-steady}
 use Rattle.planner.specs.Chosen.{ChosenRun, none, more, Course, Coursed}
+use Rattle.planner.specs.Plannable.{Plannable}
 
 -- ---- the loop over the intervals
 
-pub record Planning (t : Table) (k : ℕ) (had was : List ℕ) (m s n : ℕ) (after out : List ℕ) : Type 0 where
-  pub from : k ≤ m
-  pub slot : s ≡ start t m
+pub record Planning (t : Table) (k m : ℕ) (had was : List ℕ) (s n : ℕ) (after out : List ℕ) : Type 0 where
+  pub number : ℕ
+  pub from : k ≤ number
+  pub to : number ≤ m
+  pub slot : s ≡ start t number
   pub place : n + start t k ≡ s
   pub size : length after ≡ max-rows
   pub steady : Steady t s (at after)
   pub words : List ℕ
-  pub course : Course t k (at had) m (at after) words
+  pub course : Course t k (at had) number (at after) words
   pub filled : Filled was out n words
 
-module _ {t : Table} (A : Admissible t) (k : ℕ) (had was : List ℕ) where
-  pub planning-start : (s : ℕ) → s ≡ start t k → length had ≡ max-rows → Steady t s (at had) → Planning t k had was k s 0 had was
-  planning-start s e size st = record {
+module _ {t : Table} {a : Analysis} {k m s u : ℕ} {had : List ℕ} (was : List ℕ) (P : Plannable t a k m s u had (length was)) where
+  sound : Sound t
+  sound = P .accepted .admissible .sound
+
+  pub planning-start : Planning t k m had was s 0 had was
+  planning-start = record {
+    number = k;
     from = omega arith;
-    slot = e;
-    place = omega arith;
-    size = size;
-    steady = st;
+    to = P .order;
+    slot = P .from;
+    place = omega (arith, P .from);
+    size = P .totals;
+    steady = P .steady;
     words = [];
     course = Course.start;
     filled = filled-start was;
   }
 
-  module _ (to : ℕ) (in-range : to ≤ intervals t) (room : start t to ≤ start t k + length was)
-      {m s n : ℕ} {after out : List ℕ} (P : Planning t k had was m s n after out) (l : m < to) (e : ℕ) (ends : e ≡ end t m) where
-    -- there is room for interval m, which ends at slot e
-    pub planning-room : (s ≤ e) × (n + (e - s) ≤ length was) × (length out ≡ length was)
-    planning-room =
-        let far = end-far (A .sound) m (omega arith) in
-        let last = start-mono (A .sound) (m + 1) to (omega arith) in-range in
-        (omega (arith, P .slot), omega (arith, P .slot, P .place, end-next (A .sound) m), P .filled .same)
+  module _ {x n : ℕ} {after out : List ℕ} (L : Planning t k m had was x n after out) where
+    pub planning-begins : x < u → Begins t (L .number) x
+    planning-begins l =
+        let h = start-below sound (L .number) m (omega (arith, L .to, P .in-range)) (omega (arith, L .slot, P .until)) in
+        record { in-range = omega (arith, P .in-range, h); here = L .slot }
 
-    -- one interval more, written through the part that starts at place n
-    pub planning-next : (now ys : List ℕ) → Advanced t m after now (take (length out - n) (drop n out)) ys
-        → Planning t k had was (m + 1) e (n + (e - s)) now (take n out ++ (ys ++ drop (length out - n) (drop n out)))
-    planning-next now ys D =
-        let q : end t m - start t m ≡ e - s = ap₂ _-_ (sym ends) (sym (P .slot)) in
-        let w : List ℕ = take (end t m - start t m) ys in
-        let r = planning-room in
+    module _ (l : x < u) (e : ℕ) (ends : e ≡ end t (L .number)) where
+      before-last : L .number < m
+      before-last = start-below sound (L .number) m (omega (arith, L .to, P .in-range)) (omega (arith, L .slot, P .until))
+
+      pub planning-due : Due t (L .number) x e after
+      planning-due = record { in-range = planning-begins l .in-range; begins = L .slot; ends = ends; steady = L .steady }
+
+      pub planning-low : e ≤ max-slots
+      planning-low = omega (arith, ends, end-le sound (L .number) (planning-begins l .in-range), P .accepted .admissible .short)
+
+      -- there is room for the interval, which ends at slot e
+      pub planning-room : (x < e) × (n + (e - x) ≤ length was) × (length out ≡ length was)
+      planning-room =
+          let far = end-far sound (L .number) (planning-begins l .in-range) in
+          let last = start-mono sound (L .number + 1) m (omega (arith, before-last)) (P .in-range) in (
+            omega (arith, L .slot, ends, far, shortest-positive sound),
+            omega (arith, L .slot, L .place, ends, far, last, end-next sound (L .number), P .from, P .until, P .roomy),
+            L .filled .same,
+          )
+
+      -- one interval more, written through the part that starts at place n
+      pub planning-next : (now ys : List ℕ) → Advanced t (L .number) after now (take (length out - n) (drop n out)) ys
+          → Planning t k m had was e (n + (e - x)) now (take n out ++ (ys ++ drop (length out - n) (drop n out)))
+      planning-next now ys D =
+          let q : end t (L .number) - start t (L .number) ≡ e - x = ap₂ _-_ (sym ends) (sym (L .slot)) in
+          let w : List ℕ = take (end t (L .number) - start t (L .number)) ys in
+          let r = planning-room in
+          record {
+            number = L .number + 1;
+            from = omega (arith, L .from);
+            to = omega (arith, before-last);
+            slot = ends ∙ end-next sound (L .number);
+            place = omega (arith, L .place, r .0);
+            size = D .size;
+            steady = rw ends (moved-steady (D .moved));
+            words = L .words ++ w;
+            course = rw add-one (Course.on (L .course) (D .moved));
+            filled =
+                filled-part (e - x) (length out - n) w ys (L .filled)
+                (D .moved .words .size ∙ q)
+                (omega (arith, r .1, r .2))
+                (r .1)
+                (sym (take-append-drop (end t (L .number) - start t (L .number)) ys)
+                ∙ ap (λ (d : List ℕ). w ++ d) (D .kept .rest)
+                ∙ ap (λ (y : ℕ). w ++ drop y (take (length out - n) (drop n out))) q);
+          }
+
+    pub planning-end : u ≤ x → Coursed t k m had after was out
+    unfolding lent
+    planning-end l =
+        let e : L .number ≡ m = start-same sound (L .number) m (L .to) (P .in-range) (omega (arith, L .slot, P .until)) in
         record {
-          from = omega (arith, P .from);
-          slot = ends ∙ end-next (A .sound) m;
-          place = omega (arith, P .place, r .0);
-          size = D .size;
-          steady = rw ends (moved-steady (D .moved));
-          words = P .words ++ w;
-          course = rw add-one (Course.on (P .course) (D .moved));
-          filled =
-              filled-part (e - s) (length out - n) w ys (P .filled)
-              (D .moved .words .size ∙ q)
-              (omega (arith, r .1, r .2))
-              (r .1)
-              (sym (take-append-drop (end t m - start t m) ys)
-              ∙ ap (λ (d : List ℕ). w ++ d) (D .kept .rest)
-              ∙ ap (λ (x : ℕ). w ++ drop x (take (length out - n) (drop n out))) q);
+          size = L .size;
+          words = L .words;
+          course = rw e at (L .course);
+          written = L .filled .holds ∙ ap (λ (y : ℕ). L .words ++ drop y was) (sym (L .filled .count));
         }
-
-  pub planning-end : {m s n : ℕ} {after out : List ℕ} → Planning t k had was m s n after out → Coursed t k m had after was out
-  unfolding lent
-  planning-end {n = n} P = record {
-    size = P .size;
-    words = P .words;
-    course = P .course;
-    written = P .filled .holds ∙ ap (λ (x : ℕ). P .words ++ drop x was) (sym (P .filled .count));
-  }
 
 -- ---- one interval is a step, and those from the first on are a run
 

@@ -1,18 +1,20 @@
 -- Intervals that can be planned, and what they share.
-use mathlib.Core.Path.{_≡_, refl, sym, ap}
+use mathlib.Core.Path.{_≡_, refl, sym, ap, _∙_}
 use mathlib.Core.List.{List}
-use Prim.Native.Nat.{ℕ, _+_, _/_, _≤_}
+use Prim.Native.Nat.{ℕ, _+_, _-_, _≤_}
+use native.Mathlib.Nat.{le-refl}
 use native.Mathlib.Omega.{arith}
 use lib.ListN.{length, replicate}
 use Rattle.numbers.specs.Lists.{at}
 use Rattle.numbers.proofs.Lists.{zeros-at}
-use Rattle.rules.specs.Bounds.{max-elements, max-rows}
+use Rattle.rules.specs.Bounds.{max-rows}
 use Rattle.rules.specs.Bus.{Table}
-use Rattle.rules.specs.Loads.{start}
+use Rattle.rules.specs.Loads.{end, intervals}
 use Rattle.rules.specs.Planner.{due, Off}
-use Rattle.lags.proofs.Intervals.{start-first, start-last, end-next}
+use Rattle.lags.proofs.Intervals.{start-first, start-last, end-next, end-far}
 use Rattle.lags.proofs.Lags.{steady-eq, steady-fresh}
 use Rattle.lags.proofs.States.{not-off}
+use Rattle.outline.specs.Time.{Begins}
 use Rattle.verdict.specs.declared.Analysis.{Analysis}
 use Rattle.verdict.specs.Analysed.{Accepted}
 use Rattle.loads.specs.Loads.{Spans}
@@ -24,86 +26,83 @@ use Rattle.interval.specs.Ready.{Ready}
 use Rattle.interval.proofs.RowSets.{ranged-spans}
 use Rattle.planner.specs.declared.Stage.the-variants.{Due}
 use Rattle.planner.specs.declared.Planner.{Planner}
-use Rattle.planner.specs.State.{stageOf, plannerOf}
-use Rattle.planner.specs.Timed.{Plannable}
-use Rattle.planner.proofs.Timed.{timed-of, few-sets, intervals-are, end-is}
+use Rattle.planner.specs.State.{stageOf, plannerOf, slotOf}
+use Rattle.planner.specs.Plannable.{Plannable}
+use Rattle.planner.proofs.Accepted.{few-sets, hyper-is}
+use Rattle.planner.proofs.Off.{state-number, state-reached}
 
 -- ---- what can be planned
 
 module _ {t : Table} {a : Analysis} (A : Accepted t a) where
   -- the interval due, from a state that is not off
-  pub due-plannable : (p : Planner) (k room : ℕ) → length (p .totals) ≡ max-rows → ¬ Off t (plannerOf p) → p .stage ≡ Due k
-      → a .interval ≤ room
-      → Plannable t (a .rows) (a .sets) (a .elements) (a .hyper) (a .interval) (a .first) (a .second) (a .rate) (a .words)
-      k (k + 1) (p .totals) room
-  due-plannable p k room size o e l =
-      let n = not-off .0 o in
-      let q : stageOf (p .stage) ≡ due k = ap stageOf e in
-      record {
-        timed = timed-of A;
-        elements-are = A .outline .elements;
-        firsts = A .outline .first;
-        seconds = A .outline .second;
-        totals = size;
-        order = omega arith;
-        in-range = omega (arith, n .number k q);
-        steady = rw q at (n .steady);
-        roomy = omega (arith, end-is (timed-of A) k (start t k) refl, end-next (A .admissible .sound) k);
-      }
+  module _ (p : Planner) (k : ℕ) {s : ℕ} (here : s ≡ slotOf t (p .stage)) (o : ¬ Off t (plannerOf p)) (e : p .stage ≡ Due k) where
+    pub due-begins : Begins t k s
+    due-begins = record {
+      in-range = state-number A p here o k (ap stageOf e);
+      here = rw e at (state-reached A p here o);
+    }
+
+    pub due-length : (u : ℕ) → u ≡ end t k → s ≤ u
+    due-length u ends = omega (arith, ends, due-begins .here, end-far (A .admissible .sound) k (due-begins .in-range))
+
+    pub due-plannable : length (p .totals) ≡ max-rows → (u room : ℕ) → u ≡ end t k → u - s ≤ room
+        → Plannable t a k (k + 1) s u (p .totals) room
+    due-plannable size u room ends l = record {
+      accepted = A;
+      totals = size;
+      order = omega arith;
+      in-range = omega (arith, due-begins .in-range);
+      from = due-begins .here;
+      until = ends ∙ end-next (A .admissible .sound) k;
+      steady = rw (state-reached A p here o) (not-off .0 o .steady);
+      roomy = omega (arith, l, due-length u ends);
+    }
 
   -- all intervals, from the fresh state
-  pub whole-plannable : (room : ℕ) → a .hyper ≤ room
-      → Plannable t (a .rows) (a .sets) (a .elements) (a .hyper) (a .interval) (a .first) (a .second) (a .rate) (a .words)
-      0 (a .hyper / a .interval) (replicate max-rows 0) room
+  pub whole-plannable : (room : ℕ) → a .outline .time .hyper ≤ room
+      → Plannable t a 0 (intervals t) 0 (a .outline .time .hyper) (replicate max-rows 0) room
   whole-plannable room l =
       let S = A .admissible .sound in
-      let all = intervals-are (timed-of A) in
       record {
-        timed = timed-of A;
-        elements-are = A .outline .elements;
-        firsts = A .outline .first;
-        seconds = A .outline .second;
+        accepted = A;
         totals = refl;
         order = omega arith;
-        in-range = omega (arith, all);
+        in-range = le-refl (intervals t);
+        from = sym (start-first S);
+        until = hyper-is A ∙ sym (start-last S);
         steady =
-            rw (start-first S)
-            (steady-eq t 0 (λ i. 0) (at (replicate max-rows 0)) (λ i h. sym (zeros-at max-rows i))
-            (steady-fresh (A .admissible)));
-        roomy = rw (all, start-last S) (omega (arith, A .outline .hyper));
+            steady-eq t 0 (λ i. 0) (at (replicate max-rows 0)) (λ i h. sym (zeros-at max-rows i)) (steady-fresh (A .admissible));
+        roomy = omega arith;
       }
 
--- ---- what the intervals share
+  -- ---- what the intervals share
 
-module _ {t : Table} {rows sets elements hyper interval : ℕ} {first second rates words : List ℕ} {k m : ℕ} {had : List ℕ} {room : ℕ}
-    (P : Plannable t rows sets elements hyper interval first second rates words k m had room) where
-  pub few-elements : elements ≤ max-elements
-  few-elements = let s = P .timed .admissible .sound in omega (arith, P .elements-are)
+  module _ {from to : List ℕ} (R : Ranged (a .outline .rows) (a .outline .sets) (a .outline .words) from to) where
+    listed : a .outline .sets ≤ length (a .outline .words)
+    listed = omega (arith, few-sets A, A .outline .size)
 
-  module _ {from to : List ℕ} (R : Ranged rows sets words from to) where
-    listed : sets ≤ length words
-    listed = omega (arith, few-sets (P .timed), P .timed .size)
+    ranged : Ranged (t .rows) (a .outline .sets) (a .outline .words) from to
+    ranged = rw (A .outline .rows) at R
 
-    ranged : Ranged (t .rows) sets words from to
-    ranged = rw (P .timed .row-count) at R
+    pub ranges-span : Spans (a .outline .rows) (a .outline .sets) (at from) (at to)
+    ranges-span = rw (A .outline .rows) (ranged-spans (A .admissible) (A .outline .list) listed ranged)
 
-    pub ranges-span : Spans rows sets (at from) (at to)
-    ranges-span = rw (P .timed .row-count) (ranged-spans (P .timed .admissible) (P .timed .list) listed ranged)
-
-    pub ready-of : {net : Network} {head next : List ℕ} → Laid rows sets (at from) (at to) net → Chained rows (at first) head next
-        → Ready t rows sets (elements + 1) hyper first second rates from to net head next
+    pub ready-of : {net : Network} {head next : List ℕ} → Laid (a .outline .rows) (a .outline .sets) (at from) (at to) net
+        → Chained (a .outline .rows) (at (a .outline .first)) head next
+        → Ready t (a .outline .rows) (a .outline .sets) (a .outline .elements + 1) (a .outline .time .hyper) (a .outline .first)
+        (a .outline .second) (a .rate) from to net head next
     ready-of L C = record {
-      admissible = P .timed .admissible;
-      row-count = P .timed .row-count;
-      top-end = ap (λ (m : ℕ). m + 1) (P .elements-are);
-      hyper-is = P .timed .hyper-is;
-      firsts = P .firsts;
-      seconds = P .seconds;
-      rates = P .timed .by-row;
-      words = words;
+      admissible = A .admissible;
+      row-count = A .outline .rows;
+      top-end = ap (λ (m : ℕ). m + 1) (A .outline .elements);
+      hyper-is = hyper-is A;
+      firsts = A .outline .first;
+      seconds = A .outline .second;
+      rates = A .rate;
+      words = a .outline .words;
       room = listed;
-      list = P .timed .list;
+      list = A .outline .list;
       ranged = ranged;
-      laid = rw (P .timed .row-count) at L;
-      chained = rw (P .timed .row-count) at C;
+      laid = rw (A .outline .rows) at L;
+      chained = rw (A .outline .rows) at C;
     }

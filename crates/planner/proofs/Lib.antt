@@ -1,10 +1,11 @@
 pub mod Chosen
 pub mod State
-pub mod Timed
+pub mod Accepted
 pub mod Off
 pub mod Course
 pub mod Checks
 pub mod Laying
 pub mod Answering
 pub mod Only
+pub mod Asks
 pub mod Promises

@@ -5,24 +5,22 @@ use Prim.Native.Nat.{ℕ, zero, _-_, _≤_}
 use lib.ListN.{length, take}
 use lib.Seq.{take-at}
 use Rattle.rules.specs.Bus.{Table}
-use Rattle.rules.specs.TableFile.{fileTable}
 use Rattle.rules.specs.Loads.{start, end, intervals}
 use Rattle.rules.specs.Planner as rules
 use Rattle.rules.specs.Planner.{due}
-use Rattle.rules.specs.Refusals.{verdict-checks, plan-checks, step-room, step-checks}
-use Rattle.rules.specs.Calls.{lent}
-use Rattle.rules.proofs.Answers.{None, none-of, answers-only}
+use Rattle.rules.specs.Refusals.{Answers, plan-checks, step-room, step-checks}
+use Rattle.rules.specs.Calls.{lent, Ask}
+use Rattle.rules.proofs.Answers.{None, joined, none-of, answers-only}
 use Rattle.lags.specs.Lags.{Admissible, NotOff}
 use Rattle.lags.proofs.States.{not-off, not-off-fresh, not-off-next, standing-below, standing-above}
 use Rattle.promises.proofs.Demands.{plan-carries, plan-finished}
-use Rattle.verdict.proofs.Bound.{verdict-numbered, admissible-of}
 use Rattle.planner.specs.declared.Stage.the-variants.{Finished}
 use Rattle.planner.specs.declared.Planner.{Planner}
 use Rattle.planner.specs.State.{stageOf, plannerOf}
 use Rattle.planner.specs.Chosen.{Chosen, ChosenRun}
 use Rattle.planner.specs.Chosen as chosen
+use Rattle.planner.specs.Proper.{Proper, Admits}
 use Rattle.planner.specs.Promises.{
-  Admitted,
   Steps,
   none,
   more,
@@ -37,28 +35,41 @@ use Rattle.planner.proofs.Chosen.{chosen-step, chosen-run, run-only}
 use Rattle.planner.proofs.State.{fresh-is, stage-same}
 use Rattle.planner.proofs.Checks.{plan-done, step-done, plan-passed, standings-passed}
 use Rattle.planner.proofs.Only.{step-only, plan-only, standings-only}
+use Rattle.planner.proofs.Asks.{file-proper}
 
--- ---- files that the verdict admits
+-- ---- asks that admit their table
 
-module _ (f : List ℕ) (a : Admitted f) where
-  pub admitted-none : None (verdict-checks f)
-  admitted-none = none-of (verdict-checks f) 0 (verdict-numbered f) a
+module _ (a : Ask) (P : Proper a) (A : Admits a) where
+  pub admitted-none : None (a .checks)
+  admitted-none = none-of (a .checks) 0 (P .numbered) A
 
-  pub admitted-table : Admissible (fileTable f)
-  admitted-table = admissible-of f admitted-none
+  pub admitted-table : Admissible (a .table)
+  admitted-table = P .admissible admitted-none
 
 -- ---- steps
 
 pub fresh-not-off : Fresh-not-off
-fresh-not-off f a = not-off .1 (subst (NotOff (fileTable f)) (sym fresh-is) (not-off-fresh (admitted-table f a)))
+fresh-not-off a P A = not-off .1 (subst (NotOff (a .table)) (sym fresh-is) (not-off-fresh (admitted-table a P A)))
+
+-- the call's own checks come after those of the ask
+own-step : (a : Ask) (p : rules.Planner) (room n q : ℕ) → None (a .checks) → Answers (step-checks [] (a .table) p room) n q
+    → Answers (step-checks (a .checks) (a .table) p room) n q
+unfolding step-checks
+own-step a p room n q passed c = joined (a .checks) _ n q passed c
+
+own-plan : (a : Ask) (room n q : ℕ) → None (a .checks) → Answers (plan-checks [] (a .table) room) n q
+    → Answers (plan-checks (a .checks) (a .table) room) n q
+unfolding plan-checks
+own-plan a room n q passed c = joined (a .checks) _ n q passed c
 
 pub never-refused : Never-refused
-never-refused f p r was now k A a s o room =
+never-refused a p r was now k P A d s o room =
+    let t = a .table in
     let is-due : plannerOf p .stage ≡ due k = ap stageOf s in
-    let room′ : end (fileTable f) k - start (fileTable f) k ≤ length was = rw s at room in
-    let e = answers-only (step-checks f (plannerOf p) (length was)) _ 0 _ 0 (A .stepped .answers)
-    (step-done f (admitted-none f a) (plannerOf p) (length was) o k is-due room′) in
-    (e .0, e .1, not-off .1 (not-off-next (admitted-table f a) (not-off .0 o) (chosen-step (A .chosen (e .0) .1))))
+    let room′ : end t k - start t k ≤ length was = rw s at room in
+    let e = answers-only (step-checks (a .checks) t (plannerOf p) (length was)) _ 0 _ 0 (A .stepped .answers)
+    (own-step a (plannerOf p) (length was) 0 0 (admitted-none a P d) (step-done t (plannerOf p) (length was) o k is-due room′)) in
+    (e .0, e .1, not-off .1 (not-off-next (admitted-table a P d) (not-off .0 o) (chosen-step (A .chosen (e .0) .1))))
 
 -- the words of a step are the front of what it was lent
 step-words : {t : Table} {p q : rules.Planner} (was now ws : List ℕ) → Chosen t p q ws → now ≡ lent ws was
@@ -69,41 +80,44 @@ step-words {t} {p} was now ws c e =
     ap (take (step-room t (p .stage))) e ∙ take-at ws _ _ size
 
 -- a fresh planner's steps are those by the greatest loads
-pub steps-run : {f : List ℕ} {k : ℕ} {p : Planner} {ws : List ℕ} → Steps f k p ws → ChosenRun (fileTable f) k (plannerOf p) ws
-steps-run {f} none = subst (λ (q : rules.Planner). ChosenRun (fileTable f) zero q []) (sym fresh-is) chosen.none
-steps-run {f} (more {p = p} {r = r} {was = was} {now = now} s A z) =
+pub steps-run : {a : Ask} {k : ℕ} {p : Planner} {ws : List ℕ} → Steps a k p ws → ChosenRun (a .table) k (plannerOf p) ws
+steps-run {a} none = subst (λ (q : rules.Planner). ChosenRun (a .table) zero q []) (sym fresh-is) chosen.none
+steps-run {a} (more {p = p} {r = r} {was = was} {now = now} s A z) =
     let w = A .chosen z in
     let e = step-words was now (w .0) (w .1) (w .2) in
-    chosen.more (steps-run s) (subst (Chosen (fileTable f) (plannerOf p) (plannerOf (r .planner))) (sym e) (w .1))
+    chosen.more (steps-run s) (subst (Chosen (a .table) (plannerOf p) (plannerOf (r .planner))) (sym e) (w .1))
 
 -- ---- the whole plan
 
 pub whole-is-steps : Whole-is-steps
-whole-is-steps f r was now p ws A z s =
+whole-is-steps a r was now p ws P A z s =
     let w = A .chosen z in
-    let e = run-only (intervals (fileTable f)) (w .2) (steps-run s) in
-    let a = admissible-of f (plan-passed f (length was) (r .place) (rw z at (A .planned .answers))) in (
+    let e = run-only (intervals (a .table)) (w .2) (steps-run s) in
+    let d = P .admissible (plan-passed (a .checks) (P .numbered) (a .table) (length was) (r .place) (rw z at (A .planned .answers))) in (
       w .3 ∙ ap (λ (vs : List ℕ). lent vs was) (e .1),
-      stage-same (p .stage) Finished (plan-finished a (plannerOf p, chosen-run (steps-run s))),
+      stage-same (p .stage) Finished (plan-finished d (plannerOf p, chosen-run (steps-run s))),
     )
 
 pub carried : Carried
-carried f r was now A a room =
-    let e = answers-only (plan-checks f (length was)) _ 0 _ 0 (A .planned .answers) (plan-done f (admitted-none f a) (length was) room) in
+carried a r was now P A d room =
+    let t = a .table in
+    let e = answers-only (plan-checks (a .checks) t (length was)) _ 0 _ 0 (A .planned .answers)
+    (own-plan a (length was) 0 0 (admitted-none a P d) (plan-done t (length was) room)) in
     let w = A .planned .done (e .0) in
-    (e .0, e .1, (w .0, plan-carries (fileTable f) (w .0) (admitted-table f a) (w .1), w .2))
+    (e .0, e .1, (w .0, plan-carries t (w .0) (admitted-table a P d) (w .1), w .2))
 
 -- ---- standings
 
 pub standings-between : Standings-between
-standings-between f p r A z i l =
-    let n = standings-passed f (plannerOf p) (r .place) (rw z at (A .stood .answers)) in
-    let a = admissible-of f (n .0) in
+standings-between a p r P A z i l =
+    let n = standings-passed (a .checks) (P .numbered) (a .table) (plannerOf p) (r .answer .place) (rw z at (A .stood .answers)) in
+    let d = P .admissible (n .0) in
     let o = not-off .0 (n .1) in
-    rw (A .stood .done z .0 i l) (standing-above a o i l, standing-below a o i l)
+    rw (A .stood .done z .0 i l) (standing-above d o i l, standing-below d o i l)
 
 pub promises : Promises
 promises = record {
+  file-proper = file-proper;
   one-step = step-only;
   one-plan = plan-only;
   one-standings = standings-only;

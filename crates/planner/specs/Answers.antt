@@ -1,8 +1,8 @@
 -- What the planner's calls answer. `was` and `now` are what the lent slice holds before and after.
 --
---   StepAnswer f p r was now   a step of p with file f answers r
---   StandingsAnswer f p r      the standings of p with file f are r
---   PlanAnswer f r was now     the whole plan of file f answers r
+--   StepAnswer a p r was now   a step of p answers r to ask a
+--   StandingsAnswer a p r      the standings of p answer r to ask a
+--   PlanAnswer a r was now     the whole plan answers r to ask a
 --
 -- Each holds what document 01 says of the call, and beside it which of the steps that document 01 allows is taken. Only one answer fits
 -- (proofs/Only).
@@ -13,10 +13,9 @@ use Prim.Native.Nat.{ℕ}
 use lib.IntN.{pos}
 use lib.ListN.{length, getD}
 use Rattle.rules.specs.Bounds.{max-rows}
-use Rattle.rules.specs.TableFile.{fileTable}
 use Rattle.rules.specs.Loads.{intervals}
 use Rattle.rules.specs.Planner as rules
-use Rattle.rules.specs.Calls.{lent, Planned, Stepped, Stood}
+use Rattle.rules.specs.Calls.{lent, Ask, Planned, Stepped, Stood}
 use Rattle.table.specs.declared.Answer.{Answer}
 use Rattle.planner.specs.declared.Planner.{Planner}
 use Rattle.planner.specs.declared.MovedOn.{MovedOn}
@@ -25,17 +24,17 @@ use Rattle.planner.specs.State.{plannerOf}
 use Rattle.planner.specs.Chosen.{Chosen, ChosenRun}
 
 -- A refusal hands back the very planner it was given.
-pub record StepAnswer (f : List ℕ) (p : Planner) (r : MovedOn) (was now : List ℕ) : Type 0 where
-  pub stepped : Stepped f (plannerOf p) (plannerOf (r .planner)) was now (r .number) (r .place)
-  pub chosen : r .number ≡ 0 → (ws : List ℕ) × Chosen (fileTable f) (plannerOf p) (plannerOf (r .planner)) ws × (now ≡ lent ws was)
-  pub same : r .number ≢ 0 → r .planner ≡ p
+pub record StepAnswer (a : Ask) (p : Planner) (r : MovedOn) (was now : List ℕ) : Type 0 where
+  pub stepped : Stepped a (plannerOf p) (plannerOf (r .planner)) was now (r .answer .number) (r .answer .place)
+  pub chosen : r .answer .number ≡ 0 → (ws : List ℕ) × Chosen (a .table) (plannerOf p) (plannerOf (r .planner)) ws × (now ≡ lent ws was)
+  pub same : r .answer .number ≢ 0 → r .planner ≡ p
   pub size : length (r .planner .totals) ≡ max-rows
 
-pub record StandingsAnswer (f : List ℕ) (p : Planner) (r : Standings) : Type 0 where
-  pub stood : Stood f (plannerOf p) (λ i. getD (r .values) i (pos 0)) (r .number) (r .place)
+pub record StandingsAnswer (a : Ask) (p : Planner) (r : Standings) : Type 0 where
+  pub stood : Stood a (plannerOf p) (λ i. getD (r .values) i (pos 0)) (r .answer .number) (r .answer .place)
   pub size : length (r .values) ≡ max-rows
 
-pub record PlanAnswer (f : List ℕ) (r : Answer) (was now : List ℕ) : Type 0 where
-  pub planned : Planned f was now (r .number) (r .place)
+pub record PlanAnswer (a : Ask) (r : Answer) (was now : List ℕ) : Type 0 where
+  pub planned : Planned a was now (r .number) (r .place)
   pub chosen : r .number ≡ 0
-      → (q : rules.Planner) × (ws : List ℕ) × ChosenRun (fileTable f) (intervals (fileTable f)) q ws × (now ≡ lent ws was)
+      → (q : rules.Planner) × (ws : List ℕ) × ChosenRun (a .table) (intervals (a .table)) q ws × (now ≡ lent ws was)

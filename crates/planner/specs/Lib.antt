@@ -1,5 +1,7 @@
 pub mod State
-pub mod Timed
+pub mod Plannable
 pub mod Chosen
 pub mod Answers
+pub mod Analysed
+pub mod Proper
 pub mod Promises

@@ -1,22 +1,30 @@
 // The planner (document 01, "The planner"): a step, the standings, and the whole plan.
 //
-// A planner is kept by the caller and any state may be handed in. So its interval number is held to the table's intervals first, then its
-// spare totals, and then its totals row by row, before any product is taken. Arrays are lent where they can be: the supervisor's stack is
-// small.
+// Each call analyses a file's table, and then does its work on the analysis: `step_on`, `standings_on` and `plan_on` serve any table,
+// whatever it was analysed from.
+//
+// A planner is kept by the caller and any state may be handed in. So the slot that it has reached is held to the hyperperiod first, then
+// its spare totals, and then its totals row by row, before any product is taken. Arrays are lent where they can be: the supervisor's
+// stack is small.
 use flow::ARCS;
+use outline::Time;
 use table::Answer;
 use table::Table;
+use verdict::Analysis;
 ghost use mathlib.Core.Path.{_≡_};
-ghost use Prim.Native.Nat.{_/_, _≤_, _<_};
+ghost use Prim.Native.Nat.{ℕ};
 ghost use lib.ListN.{length};
-ghost use Rattle.rules.specs.Bounds.{max-slots};
 ghost use Rattle.rules.specs.Bus as bus;
 ghost use Rattle.rules.specs.Planner.{Off};
+ghost use Rattle.rules.specs.Calls.{fileAsk};
 ghost use Rattle.numbers.specs.Decides.{Decides};
-ghost use Rattle.planner.specs.Timed.{Timed, Plannable};
-ghost use Rattle.planner.specs.State.{plannerOf, freshPlanner, InRange, slotOf, stageAt, unmovedOf, noStandings};
+ghost use Rattle.outline.specs.Time.{Timed};
+ghost use Rattle.verdict.specs.Analysed.{Accepted};
+ghost use Rattle.planner.specs.State.{plannerOf, freshPlanner, slotOf, lateAt, stageAfter, unmovedOf, noStandings};
+ghost use Rattle.planner.specs.Plannable.{Plannable};
 ghost use Rattle.planner.specs.Chosen.{Coursed};
 ghost use Rattle.planner.specs.Answers.{StepAnswer, StandingsAnswer, PlanAnswer};
+ghost use Rattle.planner.specs.Analysed.{Usable, SteppedOn, StandingsOn, PlannedOn};
 
 // Due, with the number of the next interval, or finished.
 pub enum Stage {
@@ -30,85 +38,76 @@ pub struct Planner {
     pub totals: [u64; Table::ROWS],
 }
 
-// What a step answers: the planner moved on by one interval, or the one it was given and the number and place of a refusal.
+// What a step answers: the planner moved on by one interval, or the one it was given and a refusal.
 pub struct MovedOn {
     pub planner: Planner,
-    pub number: u32,
-    pub place: u32,
+    pub answer: Answer,
 }
 
 // All standings together, 0 past the last row.
 pub struct Standings {
-    pub number: u32,
-    pub place: u32,
+    pub answer: Answer,
     pub values: [i64; Table::ROWS],
 }
 
 // ---- stages
 
-// The interval due is one of the table's.
-fn in_range(stage: Stage, hyper: u64, interval: u64) -> bool
-    requires { ⌜ 0 < interval ⌝ }
-    ensures { λ r. ⌜ Decides (InRange stage (hyper / interval)) r ⌝ }
+// The first slot of the interval due, or h when finished; h also where the interval due is none of the table's.
+fn slot_reached(stage: Stage, time: Time) -> u64
+    requires { ⌜ ((t : bus.Table) × Timed t time) ⌝ }
+    ensures { λ r. ⌜ ((t : bus.Table) → Timed t time → r ≡ slotOf t stage) ⌝ }
 {
     match stage {
-        Stage::Due(k) => k < hyper / interval,
-        Stage::Finished => true,
+        Stage::Due(k) => time.start_of(k),
+        Stage::Finished => time.hyper,
     }
 }
 
-// The first slot of the interval due, or h when finished.
-fn slot_reached(stage: Stage, hyper: u64, interval: u64) -> u64
-    requires { ⌜ (0 < interval) × (hyper ≤ max-slots) × InRange stage (hyper / interval) ⌝ }
-    ensures { λ r. ⌜ r ≡ slotOf hyper interval stage ⌝ }
+// The interval due is none of the table's: no interval starts at h.
+fn is_late(stage: Stage, slot: u64, hyper: u64) -> bool
+    ensures { λ r. ⌜ r ≡ lateAt stage slot hyper ⌝ }
 {
     match stage {
-        Stage::Due(k) => k * interval,
-        Stage::Finished => hyper,
+        Stage::Due(_) => slot == hyper,
+        Stage::Finished => false,
     }
 }
 
-// The stage when the intervals below number `k` are done: finished after the last.
-fn stage_at(k: u64, intervals: u64) -> Stage
-    ensures { λ r. ⌜ r ≡ stageAt intervals k ⌝ }
+// The stage after an interval that ends at slot `end`: finished after the last, and else the next is due.
+fn stage_after(end: u64, hyper: u64, next: u64) -> Stage
+    ensures { λ r. ⌜ r ≡ stageAfter end hyper next ⌝ }
 {
-    if k == intervals {
+    if end == hyper {
         return Stage::Finished;
     }
-    Stage::Due(k)
+    Stage::Due(next)
 }
 
 // ---- intervals
 
-// Plans the intervals from number `from` up to number `to` of an admitted table, for rows that have had `totals`: writes their words to the
+// Plans the intervals from slot `from` up to slot `until` of an admitted table, for rows that have had `totals`: writes their words to the
 // front of `plan`, each interval's to its own stretch, and gives the totals after the last. What the intervals share is laid out once,
 // and so are the arrays that are lent to each of them for its work.
-fn plan_intervals<'a>(
-    rows: usize,
-    sets: usize,
-    elements: usize,
-    hyper: u64,
-    interval: u64,
-    first: &'a [u8; Table::ROWS],
-    second: &'a [u8; Table::ROWS],
-    rate: &'a [u64; Table::ROWS],
-    words: &'a [u64; Table::ROWS],
+fn plan_intervals(
+    table: Analysis,
     from: u64,
-    to: u64,
+    until: u64,
     totals: [u64; Table::ROWS],
     plan: &mut [u64],
 ) -> [u64; Table::ROWS]
-    requires { ⌜ ((t : bus.Table) × Plannable t rows sets elements hyper interval (now first) (now second) (now rate) (now words)
-        from to totals (length (now plan))) ⌝ }
-    ensures { λ r. ⌜ ((t : bus.Table) → Plannable t rows sets elements hyper interval (now (first .entry)) (now (second .entry))
-        (now (rate .entry)) (now (words .entry)) from to totals (length (now (plan .entry)))
-        → Coursed t from to totals r (now (plan .entry)) (now (plan .exit))) ⌝ }
+    requires { ⌜ ((t : bus.Table) × (k : ℕ) × (m : ℕ) × Plannable t table k m from until totals (length (now plan))) ⌝ }
+    ensures { λ r. ⌜ ((t : bus.Table) (k m : ℕ) → Plannable t table k m from until totals (length (now (plan .entry)))
+        → Coursed t k m totals r (now (plan .entry)) (now (plan .exit))) ⌝ }
 {
-    let ranges = interval::ranges_of(rows, sets, words);
+    let rows = table.outline.rows;
+    let sets = table.outline.sets;
+    let top = table.outline.elements + 1;
+    let time = table.outline.time;
+    let ranges = interval::ranges_of(rows, sets, &table.outline.words);
     let lowest = ranges.from;
     let highest = ranges.to;
     let net = loads::lay(&lowest, &highest, rows, sets);
-    let chains = slots::chain(first, rows);
+    let chains = slots::chain(&table.outline.first, rows);
     let head = chains.head;
     let next = chains.next;
     let mut x = [0u64; ARCS];
@@ -117,21 +116,20 @@ fn plan_intervals<'a>(
     let mut load = [0u64; Table::ROWS];
     let mut last = [0u8; Table::SLOTS];
     let mut after = totals;
-    let mut slot = (from * interval) as usize;
+    let mut slot = from;
     let mut at: usize = 0;
-    let mut k = from;
-    while k < to {
-        let end = slot + interval as usize;
+    while slot < until {
+        let end = time.next_end(slot);
         interval::advance(
-            slot,
-            end,
+            slot as usize,
+            end as usize,
             rows,
             sets,
-            elements + 1,
-            hyper,
-            first,
-            second,
-            rate,
+            top,
+            time.hyper,
+            &table.outline.first,
+            &table.outline.second,
+            &table.rate,
             &lowest,
             &highest,
             &net.tail,
@@ -150,21 +148,19 @@ fn plan_intervals<'a>(
             &mut last,
             &mut plan[at..],
         );
-        at += end - slot;
+        at += (end - slot) as usize;
         slot = end;
-        k += 1;
     }
     after
 }
 
 // ---- standings
 
-fn no_standings(number: u32, place: u32) -> Standings
-    ensures { λ r. ⌜ r ≡ noStandings number place ⌝ }
+fn no_standings(answer: Answer) -> Standings
+    ensures { λ r. ⌜ r ≡ noStandings answer ⌝ }
 {
     Standings {
-        number: number,
-        place: place,
+        answer: answer,
         values: [0; Table::ROWS],
     }
 }
@@ -180,159 +176,134 @@ impl Planner {
         }
     }
 
-    // The state is off, on an admitted table.
-    fn is_off<'a>(
-        self,
-        rows: usize,
-        sets: usize,
-        hyper: u64,
-        interval: u64,
-        rate: &'a [u64; Table::ROWS],
-        words: &'a [u64; Table::ROWS],
-    ) -> bool
-        requires { ⌜ ((t : bus.Table) × Timed t rows sets hyper interval (now rate) (now words)) ⌝ }
-        ensures { λ r. ⌜ ((t : bus.Table) → Timed t rows sets hyper interval (now (rate .entry)) (now (words .entry))
-            → Decides (Off t (plannerOf self)) r) ⌝ }
+    // The state is off, on an admitted table, where it has reached `slot`.
+    fn is_off(self, slot: u64, table: Analysis) -> bool
+        requires { ⌜ ((t : bus.Table) × Accepted t table × (slot ≡ slotOf t (self .stage))) ⌝ }
+        ensures { λ r. ⌜ ((t : bus.Table) → Accepted t table → slot ≡ slotOf t (self .stage) → Decides (Off t (plannerOf self)) r) ⌝ }
     {
         let stage = self.stage;
-        if !in_range(stage, hyper, interval) {
+        let hyper = table.outline.time.hyper;
+        let rows = table.outline.rows;
+        let sets = table.outline.sets;
+        if is_late(stage, slot, hyper) {
             return true;
         }
         if !steady::spare_clear(rows, &self.totals) {
             return true;
         }
-        let slot = slot_reached(stage, hyper, interval);
-        !steady::keeps_step(rows, hyper, slot, rate, sets, words, &self.totals)
+        !steady::keeps_step(
+            rows,
+            hyper,
+            slot,
+            &table.rate,
+            sets,
+            &table.outline.words,
+            &self.totals,
+        )
     }
 
-    // The standings: each row's total × h, less its share at the slot reached in units of 1 / h.
-    pub fn standings(self, file: &[u8]) -> Standings
-        ensures { λ r. ⌜ StandingsAnswer (now (file .entry)) self r ⌝ }
+    // The standings on an analysed table: each row's total × h, less its share at the slot reached in units of 1 / h.
+    pub fn standings_on(self, table: Analysis) -> Standings
+        requires { ⌜ Usable table ⌝ }
+        ensures { λ r. ⌜ StandingsOn table self r ⌝ }
     {
-        let table = verdict::analyse(file);
-        if table.number != Answer::DONE {
-            return no_standings(table.number, table.place);
-        }
-        if self.is_off(
-            table.rows,
-            table.sets,
-            table.hyper,
-            table.interval,
-            &table.rate,
-            &table.words,
-        ) {
-            return no_standings(Answer::OFF_STATE, 0);
+        let answer = table.outline.answer;
+        if answer.number != Answer::DONE {
+            return no_standings(answer);
         }
         let stage = self.stage;
-        let slot = slot_reached(stage, table.hyper, table.interval);
-        Standings {
-            number: Answer::DONE,
-            place: 0,
-            values: steady::standings(table.rows, table.hyper, slot, &table.rate, &self.totals),
+        let time = table.outline.time;
+        let slot = slot_reached(stage, time);
+        if self.is_off(slot, table) {
+            return no_standings(Answer::at(Answer::OFF_STATE, 0));
         }
+        let rows = table.outline.rows;
+        Standings {
+            answer: Answer::done(),
+            values: steady::standings(rows, time.hyper, slot, &table.rate, &self.totals),
+        }
+    }
+
+    // The standings on a file's table.
+    pub fn standings(self, file: &[u8]) -> Standings
+        ensures { λ r. ⌜ StandingsAnswer (fileAsk (now (file .entry))) self r ⌝ }
+    {
+        self.standings_on(verdict::analyse(file))
     }
 
     // A step refused: the planner is the one given.
-    fn unmoved(self, number: u32, place: u32) -> MovedOn
-        ensures { λ r. ⌜ r ≡ unmovedOf self number place ⌝ }
+    fn unmoved(self, answer: Answer) -> MovedOn
+        ensures { λ r. ⌜ r ≡ unmovedOf self answer ⌝ }
     {
         MovedOn {
             planner: self,
-            number: number,
-            place: place,
+            answer: answer,
         }
     }
 
-    // One interval: writes its words to the front of `out` and hands back the planner moved on by it.
-    pub fn step(mut self, file: &[u8], out: &mut [u64]) -> MovedOn
-        ensures { λ r. ⌜ StepAnswer (now (file .entry)) self r (now (out .entry)) (now (out .exit)) ⌝ }
+    // One interval of an analysed table: writes its words to the front of `out` and hands back the planner moved on by it.
+    pub fn step_on(mut self, table: Analysis, out: &mut [u64]) -> MovedOn
+        requires { ⌜ Usable table ⌝ }
+        ensures { λ r. ⌜ SteppedOn table self r (now (out .entry)) (now (out .exit)) ⌝ }
     {
-        let table = verdict::analyse(file);
-        if table.number != Answer::DONE {
-            return self.unmoved(table.number, table.place);
-        }
-        if self.is_off(
-            table.rows,
-            table.sets,
-            table.hyper,
-            table.interval,
-            &table.rate,
-            &table.words,
-        ) {
-            return self.unmoved(Answer::OFF_STATE, 0);
+        let answer = table.outline.answer;
+        if answer.number != Answer::DONE {
+            return self.unmoved(answer);
         }
         let stage = self.stage;
-        let Stage::Due(k) = stage else {
-            return self.unmoved(Answer::HAS_FINISHED, 0);
-        };
-        if out.len() < table.interval as usize {
-            return self.unmoved(Answer::SHORT_OUTPUT, 0);
+        let time = table.outline.time;
+        let slot = slot_reached(stage, time);
+        if self.is_off(slot, table) {
+            return self.unmoved(Answer::at(Answer::OFF_STATE, 0));
         }
-        let next = k + 1;
+        let Stage::Due(k) = stage else {
+            return self.unmoved(Answer::at(Answer::HAS_FINISHED, 0));
+        };
+        let end = time.next_end(slot);
+        if out.len() < (end - slot) as usize {
+            return self.unmoved(Answer::at(Answer::SHORT_OUTPUT, 0));
+        }
         let totals = self.totals;
-        let after = plan_intervals(
-            table.rows,
-            table.sets,
-            table.elements,
-            table.hyper,
-            table.interval,
-            &table.first,
-            &table.second,
-            &table.rate,
-            &table.words,
-            k,
-            next,
-            totals,
-            out,
-        );
+        let after = plan_intervals(table, slot, end, totals, out);
         self = Planner {
-            stage: stage_at(next, table.hyper / table.interval),
+            stage: stage_after(end, time.hyper, k + 1),
             totals: after,
         };
         MovedOn {
             planner: self,
-            number: Answer::DONE,
-            place: 0,
+            answer: Answer::done(),
         }
+    }
+
+    // One interval of a file's table.
+    pub fn step(mut self, file: &[u8], out: &mut [u64]) -> MovedOn
+        ensures { λ r. ⌜ StepAnswer (fileAsk (now (file .entry))) self r (now (out .entry)) (now (out .exit)) ⌝ }
+    {
+        self.step_on(verdict::analyse(file), out)
     }
 }
 
-// The whole plan: the words of every interval, each at its own slots, as a fresh planner's steps write them.
-pub fn whole_plan(file: &[u8], plan: &mut [u64]) -> Answer
-    ensures { λ r. ⌜ PlanAnswer (now (file .entry)) r (now (plan .entry)) (now (plan .exit)) ⌝ }
+// The whole plan of an analysed table: the words of every interval, each at its own slots, as a fresh planner's steps write them.
+pub fn plan_on(table: Analysis, plan: &mut [u64]) -> Answer
+    requires { ⌜ Usable table ⌝ }
+    ensures { λ r. ⌜ PlannedOn table r (now (plan .entry)) (now (plan .exit)) ⌝ }
 {
-    let table = verdict::analyse(file);
-    if table.number != Answer::DONE {
-        return Answer {
-            number: table.number,
-            place: table.place,
-        };
+    let answer = table.outline.answer;
+    if answer.number != Answer::DONE {
+        return answer;
     }
-    if plan.len() < table.hyper as usize {
-        return Answer {
-            number: Answer::SHORT_OUTPUT,
-            place: 0,
-        };
+    let hyper = table.outline.time.hyper;
+    if plan.len() < hyper as usize {
+        return Answer::at(Answer::SHORT_OUTPUT, 0);
     }
-    let fresh = Planner::fresh();
-    let totals = fresh.totals;
-    plan_intervals(
-        table.rows,
-        table.sets,
-        table.elements,
-        table.hyper,
-        table.interval,
-        &table.first,
-        &table.second,
-        &table.rate,
-        &table.words,
-        0,
-        table.hyper / table.interval,
-        totals,
-        plan,
-    );
-    Answer {
-        number: Answer::DONE,
-        place: 0,
-    }
+    let fresh = [0u64; Table::ROWS];
+    plan_intervals(table, 0, hyper, fresh, plan);
+    Answer::done()
+}
+
+// The whole plan of a file's table.
+pub fn whole_plan(file: &[u8], plan: &mut [u64]) -> Answer
+    ensures { λ r. ⌜ PlanAnswer (fileAsk (now (file .entry))) r (now (plan .entry)) (now (plan .exit)) ⌝ }
+{
+    plan_on(verdict::analyse(file), plan)
 }

@@ -219,7 +219,7 @@ fn plan_cases() {
 
 fn step(name: &[u8], planner: Planner, file: &[u8], words: &mut [u64]) -> Planner {
     let r = planner.step(file, words);
-    answer(b"step", name, r.number, r.place);
+    answer(b"step", name, r.answer.number, r.answer.place);
     let after = r.planner;
     put_planner(after);
     put_words(words);
@@ -345,7 +345,7 @@ fn standing(x: i64) {
 
 fn stand(name: &[u8], planner: Planner, file: &[u8]) {
     let r = planner.standings(file);
-    answer(b"standings", name, r.number, r.place);
+    answer(b"standings", name, r.answer.number, r.answer.place);
     let values = r.values;
     standing(values[0]);
     standing(values[1]);

@@ -56,7 +56,8 @@ verdict-small f n p r =
 abbrev room-check : List ℕ → ℕ → List Check
 room-check f room = short-output (room < hyperperiod (fileTable f)) ∷ []
 
-pub plan-small : (f : List ℕ) (room n p : ℕ) → Answers (plan-checks f room) n p → (n ≤ last-number) × (p ≤ last-place)
+pub plan-small : (f : List ℕ) (room n p : ℕ) → Answers (plan-checks (verdict-checks f) (fileTable f) room) n p
+    → (n ≤ last-number) × (p ≤ last-place)
 unfolding plan-checks Fit
 plan-small f room n p r =
     ⊎-elim (λ a. verdict-small f n p a)

@@ -5,6 +5,8 @@
 --   Read, Written       the reader and the writer
 --   Judged              the verdict
 --   Listed              the list of sets
+--   Ask                 what the planner's calls are asked about: a table, and the checks before their own
+--   fileAsk f           a file's table, and 1 to 14
 --   Planned             the whole plan
 --   Stepped             a planner step
 --   Stood               the standings
@@ -78,21 +80,31 @@ Listed file was now number place sets =
     ((ws : List ℕ) × Sets (fileTable file) ws × (sets ≡ length ws) × (now ≡ lent ws was))
     ((sets ≡ 0) × (now ≡ was))
 
-abbrev pub Planned : (file was now : List ℕ) (number place : ℕ) → Type 0
-Planned file was now number place =
-    Call (plan-checks file (length was)) number place ((ws : List ℕ) × WholePlan (fileTable file) ws × (now ≡ lent ws was)) (now ≡ was)
+-- Whole plan, step and standings use 1 to 14 as the verdict does, and then numbers of their own. So they are said of any table with checks
+-- before their own.
+pub record Ask : Type 1 where
+  pub checks : List Check
+  pub table : Table
 
-abbrev pub Stepped : (file : List ℕ) (p q : Planner) (was now : List ℕ) (number place : ℕ) → Type 0
-Stepped file p q was now number place =
-    Call (step-checks file p (length was)) number place ((ws : List ℕ) × Step (fileTable file) p q ws × (now ≡ lent ws was))
-    ((q ≡ p) × (now ≡ was))
+abbrev pub fileAsk : List ℕ → Ask
+fileAsk f = record { checks = verdict-checks f; table = fileTable f }
+
+abbrev pub Planned : (a : Ask) (was now : List ℕ) (number place : ℕ) → Type 0
+Planned a was now number place =
+    Call (plan-checks (a .checks) (a .table) (length was)) number place
+    ((ws : List ℕ) × WholePlan (a .table) ws × (now ≡ lent ws was)) (now ≡ was)
+
+abbrev pub Stepped : (a : Ask) (p q : Planner) (was now : List ℕ) (number place : ℕ) → Type 0
+Stepped a p q was now number place =
+    Call (step-checks (a .checks) (a .table) p (length was)) number place
+    ((ws : List ℕ) × Step (a .table) p q ws × (now ≡ lent ws was)) ((q ≡ p) × (now ≡ was))
 
 -- All 64 standings are given together, 0 past the last row.
-abbrev pub Stood : (file : List ℕ) (p : Planner) (standings : ℕ → ℤ) (number place : ℕ) → Type 0
-Stood file p standings number place =
-    Call (standings-checks file p) number place
-    (((i : ℕ) → i < fileTable file .rows → standings i ≡ standing (fileTable file) p i)
-    × ((i : ℕ) → fileTable file .rows ≤ i → i < max-rows → standings i ≡ pos 0))
+abbrev pub Stood : (a : Ask) (p : Planner) (standings : ℕ → ℤ) (number place : ℕ) → Type 0
+Stood a p standings number place =
+    Call (standings-checks (a .checks) (a .table) p) number place
+    (((i : ℕ) → i < a .table .rows → standings i ≡ standing (a .table) p i)
+    × ((i : ℕ) → a .table .rows ≤ i → i < max-rows → standings i ≡ pos 0))
     ((i : ℕ) → i < max-rows → standings i ≡ pos 0)
 
 abbrev pub c-answer : ℕ → ℕ → ℕ

@@ -160,19 +160,18 @@ sets-checks f room =
     file-checks f ++ line-checks (fileTable f)
     ++ (short-output ((ws : List ℕ) × Sets (fileTable f) ws × (room < length ws)) ∷ [])
 
--- the whole plan 1 to 14, then 17
-unfoldable pub plan-checks : List ℕ → ℕ → List Check
-plan-checks f room = verdict-checks f ++ (short-output (room < hyperperiod (fileTable f)) ∷ [])
+-- the whole plan 1 to 14, here cs, then 17
+unfoldable pub plan-checks : List Check → Table → ℕ → List Check
+plan-checks cs t room = cs ++ (short-output (room < hyperperiod t) ∷ [])
 
--- a planner step 1 to 14, 15, 16, 17; a finished planner has no interval left to write
+-- a planner step 1 to 14, here cs, 15, 16, 17; a finished planner has no interval left to write
 abbrev pub step-room : Table → Stage → ℕ
 step-room t (due k) = end t k - start t k
 step-room t finished = 0
 
-unfoldable pub step-checks : List ℕ → Planner → ℕ → List Check
-step-checks f p room =
-    verdict-checks f ++ (off-state (fileTable f) p ∷ has-finished p ∷ short-output (room < step-room (fileTable f) (p .stage)) ∷ [])
+unfoldable pub step-checks : List Check → Table → Planner → ℕ → List Check
+step-checks cs t p room = cs ++ (off-state t p ∷ has-finished p ∷ short-output (room < step-room t (p .stage)) ∷ [])
 
 -- the standings 1 to 15
-unfoldable pub standings-checks : List ℕ → Planner → List Check
-standings-checks f p = verdict-checks f ++ (off-state (fileTable f) p ∷ [])
+unfoldable pub standings-checks : List Check → Table → Planner → List Check
+standings-checks cs t p = cs ++ (off-state t p ∷ [])

@@ -9,10 +9,11 @@ use Rattle.rules.specs.TableFile.{fileTable}
 use Rattle.rules.specs.Line.{Sets}
 use Rattle.rules.specs.Loads.{hyperperiod}
 use Rattle.rules.specs.Refusals.{Check, Answers, short-output, bound-checks, verdict-checks, sets-checks}
-use Rattle.rules.specs.Calls.{lent, c-answer}
+use Rattle.rules.specs.Calls.{lent, c-answer, fileAsk}
 use Rattle.rules.proofs.Answers.{None, none-left, passed, done, joined, answered, answers-only}
 use Rattle.outline.specs.Outlined.{outline-checks}
 use Rattle.outline.proofs.Outlined.{outline-list-only}
+use Rattle.planner.proofs.Asks.{file-proper}
 use Rattle.planner.proofs.Promises.{carried}
 use Rattle.supervisor.specs.ToC.{Valued, ValuesToC}
 use Rattle.supervisor.specs.Boundary.{Carried-to-C, Values-are, Carried-by-value, Listed-by-value, Boundary}
@@ -33,7 +34,7 @@ carried-to-c f was now r s A P z room =
     let n = number-zero r (A .number) (A .place) (A .as-one) z in
     let p = place-zero r (A .number) (A .place) (A .as-one) z in
     let a : Answers (verdict-checks f) 0 0 = rw (n, p) at (A .answers) in
-    let w = carried f (P .answer) was now (P .planned) a room in
+    let w = carried (fileAsk f) (P .answer) was now (file-proper f) (P .planned) a room in
     (one-zero s _ _ (P .as-one) (w .0) (w .1), w .2)
 
 -- ---- with the values
@@ -81,7 +82,8 @@ values-are f was now r s A W z =
 pub carried-by-value : Carried-by-value
 carried-by-value f was now plan plan′ r s A P z room =
     let h = hyper-at f was now r A z in
-    let w = carried f (P .answer) plan plan′ (P .planned) (answered (verdict-checks f) (none f was now r A z)) (omega arith) in
+    let a = answered (verdict-checks f) (none f was now r A z) in
+    let w = carried (fileAsk f) (P .answer) plan plan′ (file-proper f) (P .planned) a (omega arith) in
     (one-zero s _ _ (P .as-one) (w .0) (w .1), w .2)
 
 pub listed-by-value : Listed-by-value

@@ -5,7 +5,7 @@ use Prim.Native.Nat.{ℕ}
 use native.Mathlib.Decide.{ℕ-discrete}
 use lib.ListN.{length}
 use Rattle.rules.specs.Refusals.{verdict-checks}
-use Rattle.rules.specs.Calls.{lent, c-answer}
+use Rattle.rules.specs.Calls.{lent, c-answer, fileAsk}
 use Rattle.rules.proofs.Answers.{None, answered, answers-only}
 use Rattle.table.specs.declared.Answer.{Answer}
 use Rattle.outline.proofs.Listed.{listed-only}
@@ -59,5 +59,5 @@ sets-to-c-only f was now then r s A B =
 
 pub plan-to-c-only : (f was now then : List ℕ) (r s : ℕ) → PlanToC f was now r → PlanToC f was then s → (r ≡ s) × (now ≡ then)
 plan-to-c-only f was now then r s A B =
-    let e = plan-only f (A .answer) (B .answer) was now then (A .planned) (B .planned) in
+    let e = plan-only (fileAsk f) (A .answer) (B .answer) was now then (A .planned) (B .planned) in
     (A .as-one ∙ ap (λ (a : Answer). c-answer (a .number) (a .place)) (e .0) ∙ sym (B .as-one), e .1)

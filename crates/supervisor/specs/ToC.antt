@@ -12,7 +12,7 @@ use Prim.Native.Nat.{ℕ, _<_}
 use lib.ListN.{length}
 use Rattle.rules.specs.TableFile.{fileTable}
 use Rattle.rules.specs.Refusals.{Check, Answers, short-output, verdict-checks}
-use Rattle.rules.specs.Calls.{Call, lent, Admitted, Listed, c-answer}
+use Rattle.rules.specs.Calls.{Call, lent, Admitted, Listed, fileAsk, c-answer}
 use Rattle.table.specs.declared.Answer.{Answer}
 use Rattle.planner.specs.Answers.{PlanAnswer}
 
@@ -61,5 +61,5 @@ pub record SetsToC (f was now : List ℕ) (r : ℕ) : Type 0 where
 
 pub record PlanToC (f was now : List ℕ) (r : ℕ) : Type 0 where
   pub answer : Answer
-  pub planned : PlanAnswer f answer was now
+  pub planned : PlanAnswer (fileAsk f) answer was now
   pub as-one : r ≡ c-answer (answer .number) (answer .place)

@@ -74,7 +74,7 @@ pub extern "C" fn ring_sets(file: &[u8], sets: &mut [u64]) -> u32
     ensures { λ r. ⌜ SetsToC (now (file .entry)) (now (sets .entry)) (now (sets .exit)) r ⌝ }
 {
     let listing = outline::list_of_sets(file, sets);
-    joined(listing.number, listing.place)
+    joined(listing.answer.number, listing.answer.place)
 }
 
 // Fills the whole plan of an admitted table.

@@ -24,26 +24,27 @@ use Rattle.verdict.proofs.Bound.{verdict-numbered, admissible-of, tie-n
 -- ---- the verdict of an analysis
 
 module _ (f : List ℕ) {a : Analysis} (A : Analysed (verdict-checks f) (fileTable f) a) where
-  pub judged-refused : a .number ≢ 0 → IsVerdict f (Refused (a .number) (a .place))
+  pub judged-refused : a .outline .answer .number ≢ 0 → IsVerdict f (Refused (a .outline .answer .number) (a .outline .answer .place))
   judged-refused h = record { answers = A .answers; done = λ e. absurd (h e); refused = λ e. (refl, refl, refl, refl, refl) }
 
-  pub judged-admitted : a .number ≡ 0 → (cut interval hyper load sets : ℕ) → cut ≡ a .cut → interval ≡ a .interval → hyper ≡ a .hyper
-      → load ≡ a .load → sets ≡ a .sets → IsVerdict f (Admitted cut interval hyper load sets)
+  pub judged-admitted : a .outline .answer .number ≡ 0 → (cut interval hyper load sets : ℕ) → cut ≡ a .outline .cut
+      → interval ≡ a .outline .time .interval → hyper ≡ a .outline .time .hyper → load ≡ a .load → sets ≡ a .outline .sets
+      → IsVerdict f (Admitted cut interval hyper load sets)
   judged-admitted z cut interval hyper load sets c i h l s =
       let F = A .found z in
       let O = F .outline in
-      let sound = O .sound in
-      let none = none-of (verdict-checks f) (a .place) (verdict-numbered f) (rw z at (A .answers)) in
+      let sound = O .timed .sound in
+      let none = none-of (verdict-checks f) (a .outline .answer .place) (verdict-numbered f) (rw z at (A .answers)) in
       record {
         answers = answered (verdict-checks f) none;
         done = λ e. record {
-          list = take (a .sets) (a .words);
+          list = take (a .outline .sets) (a .outline .words);
           listed = O .list;
           cut-is = c ∙ O .cut;
-          interval-is = i ∙ O .interval;
-          hyper-is = h ∙ O .hyper;
+          interval-is = i ∙ O .timed .interval;
+          hyper-is = h ∙ O .timed .hyper;
           load-is = l ∙ F .load;
-          sets-is = omega (arith, length-take (a .sets) (a .words), O .few, O .size);
+          sets-is = omega (arith, length-take (a .outline .sets) (a .outline .words), O .few, O .size);
         };
         refused = λ e. absurd (e refl);
       }

@@ -17,39 +17,26 @@ use Rattle.numbers.specs.Finite.{every, lowest, only, sum, largest}
 use Rattle.numbers.specs.Word.{bit}
 use Rattle.numbers.specs.Lists.{at}
 use Rattle.numbers.proofs.Truth.{both, fst, snd, decide, is-true, is-false, of-true, of-false, eqb-of, refutes}
-use Rattle.numbers.proofs.Finite.{every-of, every-at, lowest-is, lowest-none, lowest-le, lowest-has, lowest-below}
+use Rattle.numbers.proofs.Finite.{every-of, lowest-is, lowest-none, lowest-le, lowest-has, lowest-below}
 use Rattle.numbers.proofs.Finite.{sum-next, only-true, only-false, sumIn-eq, largest-next}
-use Rattle.numbers.proofs.Divisors.{gcd-divides}
 use Rattle.rules.specs.Bounds.{max-rows, max-slots}
 use Rattle.rules.specs.Bus.{Table}
 use Rattle.rules.specs.Loads.{hyperperiod, shortest, rate, load, equalPeriods, light, over}
 use Rattle.table.specs.Sound.{Sound}
 use Rattle.table.specs.Columns.{ByRow}
-use Rattle.lags.proofs.Intervals.{period-positive, period-divides, hyperperiod-positive, shortest-positive, equal-shortest, equal-hyperperiod, rate-le}
+use Rattle.lags.proofs.Intervals.{period-divides, hyperperiod-positive, shortest-positive, shortest-low, rate-le}
+use Rattle.lags.proofs.Intervals.{equal-shortest, equal-hyperperiod}
 use Rattle.verdict.specs.Weights.{Times, lightBy, SmallRates, weight, past, nextLowest, Weighed}
-
--- ---- the interval
-
--- L divides row 0's period, so it is no longer
-pub shortest-le : {t : Table} → Sound t → shortest t ≤ max-slots
-unfolding shortest
-shortest-le {t} s =
-    let r = s .row 0 (s .rows-low) in
-    omega (arith, le-of-dvd (r .period-low) (gcd-divides (t .rows) (t .period) (s .rows-low) (period-positive s) 0 (s .rows-low)))
 
 -- ---- equal periods
 
 -- L divides every period and every period divides h, so all are equal exactly if L is h
 module _ {t : Table} (s : Sound t) where
-  shortest-low : (i : ℕ) → i < t .rows → shortest t ≤ t .period i
-  unfolding shortest
-  shortest-low i l = le-of-dvd (period-positive s i l) (gcd-divides (t .rows) (t .period) (s .rows-low) (period-positive s) i l)
-
   all-equal : shortest t ≡ hyperperiod t → T (equalPeriods t)
   unfolding equalPeriods
   all-equal e =
       let same : (i : ℕ) → i < t .rows → t .period i ≡ hyperperiod t =
-      λ i l. omega (arith, shortest-low i l, le-of-dvd (hyperperiod-positive s) (period-divides s i l), e) in
+      λ i l. omega (arith, shortest-low s i l, le-of-dvd (hyperperiod-positive s) (period-divides s i l), e) in
       every-of (t .rows) (λ j. eqb (t .period j) (t .period 0))
       (λ j m. eqb-of (t .period j) (t .period 0) (same j m ∙ sym (same 0 (s .rows-low))))
 

@@ -4,7 +4,6 @@
 // rounded and no verdict uses it.
 use outline::Outline;
 use table::Answer;
-use table::Columns;
 use table::Table;
 ghost use mathlib.Core.Path.{_≡_};
 ghost use Prim.Native.Nat.{_+_, _-_, _*_, _/_, _<_, _≤_, max};
@@ -17,9 +16,9 @@ ghost use Rattle.rules.specs.TableFile.{fileTable};
 ghost use Rattle.rules.specs.Refusals.{verdict-checks};
 ghost use Rattle.rules.specs.Calls.{Judged};
 ghost use Rattle.table.specs.Sound.{Sound};
-ghost use Rattle.table.specs.Columns.{ByRow, tableOf};
+ghost use Rattle.table.specs.Columns.{ByRow, columnTable};
 ghost use Rattle.verdict.specs.Weights.{Times, lightBy, SmallRates, weight, past, nextLowest, Weighed};
-ghost use Rattle.verdict.specs.Analysed.{table-checks, analysisOf, blank, Analysed};
+ghost use Rattle.verdict.specs.Analysed.{table-checks, blank, Analysed};
 ghost use Rattle.verdict.specs.Verdict.{numberOf, placeOf, cutOf, intervalOf, hyperOf, loadOf, setsOf};
 
 // ---- rows
@@ -170,102 +169,70 @@ fn thousandths(load: u64, hyper: u64) -> u64
 
 // ---- the analysis
 
-// A table analysed: its outline, its rows' rates in units of 1 / h, and its reported load. All is 0 but number and place where it is
+// A table analysed: its outline, its reported load, and its rows' rates in units of 1 / h. All is 0 but the outline's answer where it is
 // refused.
 pub struct Analysis {
-    pub number: u32,
-    pub place: u32,
-    pub rows: usize,
-    pub elements: usize,
-    pub cut: usize,
-    pub hyper: u64,
-    pub interval: u64,
+    pub outline: Outline,
     pub load: u64,
-    pub sets: usize,
-    pub first: [u8; Table::ROWS],
-    pub second: [u8; Table::ROWS],
-    pub words: [u64; Table::ROWS],
     pub rate: [u64; Table::ROWS],
 }
 
-fn refuse(number: u32, place: u32) -> Analysis
-    ensures { λ r. ⌜ r ≡ blank number place ⌝ }
-{
-    Analysis {
-        number: number,
-        place: place,
-        rows: 0,
-        elements: 0,
-        cut: 0,
-        hyper: 0,
-        interval: 0,
-        load: 0,
-        sets: 0,
-        first: [0; Table::ROWS],
-        second: [0; Table::ROWS],
-        words: [0; Table::ROWS],
-        rate: [0; Table::ROWS],
-    }
-}
-
-fn accept(outline: Outline, rate: [u64; Table::ROWS], load: u64) -> Analysis
-    ensures { λ r. ⌜ r ≡ analysisOf outline rate load ⌝ }
-{
-    let first = outline.first;
-    let second = outline.second;
-    let words = outline.words;
-    Analysis {
-        number: outline.number,
-        place: outline.place,
-        rows: outline.rows,
-        elements: outline.elements,
-        cut: outline.cut,
-        hyper: outline.hyper,
-        interval: outline.interval,
-        load: load,
-        sets: outline.sets,
-        first: first,
-        second: second,
-        words: words,
-        rate: rate,
+impl Analysis {
+    pub fn refused(answer: Answer) -> Analysis
+        ensures { λ r. ⌜ r ≡ blank answer ⌝ }
+    {
+        Analysis {
+            outline: Outline::refused(answer),
+            load: 0,
+            rate: [0; Table::ROWS],
+        }
     }
 }
 
 // The analysis of a table: 10 to 12 are refused by its outline, then 13, then 14. All periods are equal exactly if L is h.
-pub fn analysis_of(columns: Columns) -> Analysis
-    requires { ⌜ Sound (tableOf columns) ⌝ }
-    ensures { λ r. ⌜ Analysed (table-checks (tableOf columns)) (tableOf columns) r ⌝ }
+pub fn analysis_of<'a>(
+    elements: usize,
+    rows: usize,
+    cost: &'a [u16; Table::ROWS],
+    period: &'a [u16; Table::ROWS],
+    first: &'a [u8; Table::ROWS],
+    second: &'a [u8; Table::ROWS],
+) -> Analysis
+    requires { ⌜ Sound (columnTable elements rows (now cost) (now period) (now first) (now second)) ⌝ }
+    ensures { λ r. ⌜ Analysed
+        (table-checks
+        (columnTable elements rows (now (cost .entry)) (now (period .entry)) (now (first .entry)) (now (second .entry))))
+        (columnTable elements rows (now (cost .entry)) (now (period .entry)) (now (first .entry)) (now (second .entry))) r ⌝ }
 {
-    let found = outline::outline_of(columns);
-    if found.number != Answer::DONE {
-        return refuse(found.number, found.place);
+    let outline = outline::outline_of(elements, rows, period, first, second);
+    let answer = outline.answer;
+    if answer.number != Answer::DONE {
+        return Analysis::refused(answer);
     }
-    let equal = found.interval == found.hyper;
-    let light = lowest_light(
-        found.rows,
-        &columns.cost,
-        &columns.period,
-        found.interval,
-        equal,
-    );
-    if light < found.rows {
-        return refuse(Answer::LIGHT_ROW, light as u32);
+    let time = outline.time;
+    let equal = time.interval == time.hyper;
+    let light = lowest_light(outline.rows, cost, period, time.interval, equal);
+    if light < outline.rows {
+        return Analysis::refused(Answer::at(Answer::LIGHT_ROW, light));
     }
-    let rate = rates(found.rows, found.hyper, &columns.cost, &columns.period);
-    let words = found.words;
+    let rate = rates(outline.rows, time.hyper, cost, period);
     let weights = weigh_sets(
-        &words,
-        found.sets,
+        &outline.words,
+        outline.sets,
         &rate,
-        found.rows,
-        found.hyper,
-        found.interval,
+        outline.rows,
+        time.hyper,
+        time.interval,
         equal,
     );
-    if weights.over < found.sets {
-        return refuse(Answer::OVER_BOUND, weights.over as u32);
+    if weights.over < outline.sets {
+        return Analysis::refused(Answer::at(Answer::OVER_BOUND, weights.over));
     }
-    accept(found, rate, thousandths(weights.largest, found.hyper))
+    Analysis {
+        outline: outline,
+        load: thousandths(weights.largest, time.hyper),
+        rate: rate,
+    }
 }
 
 // The analysis of a file's table, or the first refusal of 1 to 14.
@@ -275,10 +242,16 @@ pub fn analyse(file: &[u8]) -> Analysis
     let found = table::decode(file);
     let answer = found.answer;
     if answer.number != Answer::DONE {
-        return refuse(answer.number, answer.place);
+        return Analysis::refused(answer);
     }
-    let columns = found.columns;
-    analysis_of(columns)
+    analysis_of(
+        found.columns.elements,
+        found.columns.rows,
+        &found.columns.cost,
+        &found.columns.period,
+        &found.columns.first,
+        &found.columns.second,
+    )
 }
 
 // ---- the verdict
@@ -334,18 +307,21 @@ impl Verdict {
 pub fn judge(file: &[u8]) -> Verdict
     ensures { λ r. ⌜ Judged (now (file .entry)) (numberOf r) (placeOf r) (cutOf r) (intervalOf r) (hyperOf r) (loadOf r) (setsOf r) ⌝ }
 {
-    let found = analyse(file);
-    if found.number != Answer::DONE {
+    let table = analyse(file);
+    let outline = table.outline;
+    let answer = outline.answer;
+    if answer.number != Answer::DONE {
         return Verdict::Refused {
-            number: found.number,
-            place: found.place,
+            number: answer.number,
+            place: answer.place,
         };
     }
+    let time = outline.time;
     Verdict::Admitted {
-        cut: found.cut as u32,
-        interval: found.interval as u32,
-        hyper: found.hyper as u32,
-        load: found.load as u32,
-        sets: found.sets as u32,
+        cut: outline.cut as u32,
+        interval: time.interval as u32,
+        hyper: time.hyper as u32,
+        load: table.load as u32,
+        sets: outline.sets as u32,
     }
 }

@@ -1,117 +1,136 @@
 -- outline_of: each refusal stands as its check gives it, and what is left is found.
-use mathlib.Core.Path.{_≡_, refl, _∙_}
-use Prim.Native.Nat.{_≤_}
+use mathlib.Core.Path.{_≡_, refl, ap, _∙_}
+use Prim.Native.Nat.{ℕ, _≤_}
 use native.Mathlib.Omega.{arith}
 use borrow.Author.Needs.{needs}
 use lib.ListN.{take}
 use Rattle.numbers.specs.Lists.{at}
 use Rattle.rules.specs.Bus.{Table}
 use Rattle.rules.specs.Line.{cut}
-use Rattle.table.specs.Columns.{tableOf}
 use Rattle.ring.proofs.Rows.{sound-routes, ring-cut, laid-first, laid-second}
 use Rattle.ring.proofs.Cut.{cut-low}
-use Rattle.outline.proofs.Periods.{periods-of, falling-shortest, hyperperiod-positive, capped-hyper, capped-some, capped-none}
+use Rattle.lags.proofs.Intervals.{hyperperiod-positive, shortest-is}
+use Rattle.outline.specs.Outlined.{tableWith}
+use Rattle.outline.proofs.Periods.{periods-of, capped-hyper, capped-some, capped-none}
 use Rattle.outline.proofs.Sets.{Ends, ends-on-line, ring-list}
-use Rattle.outline.proofs.Outlined.{cut-refused, long-refused, outlined-refused, outlined-found}
+use Rattle.outline.proofs.Outlined.{cut-refused, long-refused, outlined-refused, outlined-found, answers-at}
 use Rattle.outline.proofs.outline_of.Statement.{statement}
 use Rattle.outline.proofs.outline_of.Tie as tie
 
--- the table, and its cut
-abbrev table : tie.Start → Table
-table z = tableOf (z .args .t1)
+-- the table, whatever its costs, and its cut
+abbrev table : tie.Start → (ℕ → ℕ) → Table
+table z cost =
+    tableWith cost (z .args .elements) (z .args .rows) (z .args .period .now) (z .args .first .now) (z .args .second .now)
 
-is-cut : (d : tie.After-find-cut) → d .find-cut .result ≡ cut (table (d .before .before .before .before))
-is-cut d = d .find-cut .ensures ∙ ring-cut (table (d .before .before .before .before))
+is-cut : (d : tie.After-find-cut) (cost : ℕ → ℕ) → d .find-cut .result ≡ cut (table (d .before) cost)
+is-cut d cost = d .find-cut .ensures ∙ ring-cut (table (d .before) cost)
 
 find-cut-requires : tie.Need-find-cut-requires
-find-cut-requires c κs = sound-routes (c .before .before .before .pre)
+find-cut-requires c κs = sound-routes (c .pre .1)
 
-refuse-requires : tie.Need-refuse-requires
-refuse-requires c κs = search needs
+at-requires : tie.Need-at-requires
+at-requires c κs = search needs
+
+refused-requires : tie.Need-refused-requires
+refused-requires c κs = search needs
 
 returns : tie.Need-returns
-returns c =
-    let d = c .before .before in
-    let t = table (d .before .before .before .before) in
-    rw (c .refuse .ensures) (outlined-refused _ _ (λ q. omega arith) (cut-refused t (omega (arith, is-cut d))))
+returns c cost s =
+    let d = c .before .before .before in
+    let t = table (d .before) cost in
+    rw (c .refused .ensures)
+    (outlined-refused _ (λ q. omega (arith, c .before .at .ensures .0))
+    (answers-at _ _ _ _ (c .before .at .ensures) (cut-refused t (omega (arith, is-cut d cost, c .before .before .if1 .taken)))))
 
 hyperperiod-of-requires : tie.Need-hyperperiod-of-requires
-hyperperiod-of-requires c κs = periods-of (c .before .before .before .before .before .before .before .pre)
+hyperperiod-of-requires c κs = periods-of (c .before .before .pre .1)
 
-refuse-requires-2 : tie.Need-refuse-requires-2
-refuse-requires-2 c κs = search needs
+at-requires-2 : tie.Need-at-requires-2
+at-requires-2 c κs = search needs
+
+refused-requires-2 : tie.Need-refused-requires-2
+refused-requires-2 c κs = search needs
 
 returns-2 : tie.Need-returns-2
-returns-2 c =
-    let d = c .before .before .before .before .before .before in
-    let z = d .before .before .before .before in
-    let t = table z in
-    let h = capped-none (capped-hyper t (c .before .before .hyperperiod-of .ensures)) (c .before .if2 .taken) (hyperperiod-positive (z .pre)) in
-    rw (c .refuse2 .ensures) (outlined-refused _ _ (λ q. omega arith) (long-refused t (omega (arith, is-cut d)) h))
+returns-2 c cost s =
+    let h = c .before .before .before in
+    let d = h .before .before in
+    let t = table (d .before) cost in
+    let long = capped-none (capped-hyper t (h .hyperperiod-of .ensures)) (c .before .before .if2 .taken) (hyperperiod-positive s) in
+    rw (c .refused2 .ensures)
+    (outlined-refused _ (λ q. omega (arith, c .before .at2 .ensures .0))
+    (answers-at _ _ _ _ (c .before .at2 .ensures) (long-refused t (omega (arith, is-cut d cost, h .before .if1 .left)) long)))
 
 -- ---- past both tests all is found
 
--- the way back to the cut from where h is in range, and to there from the line
 abbrev at-cut : tie.Else2 → tie.After-find-cut
-at-cut e = e .before .before .before .before .before
+at-cut e = e .before .before .before
 
 abbrev entry : tie.Else2 → tie.Start
-entry e = at-cut e .before .before .before .before
+entry e = at-cut e .before
 
-abbrev in-time : tie.After-lay → tie.Else2
-in-time d = d .before .before .before .before
-
-clear : (e : tie.Else2) → cut (table (entry e)) ≤ table (entry e) .elements
-clear e = omega (arith, is-cut (at-cut e), e .before .before .before .before .if1 .left)
+module _ (e : tie.Else2) (cost : ℕ → ℕ) where
+  clear : cut (table (entry e) cost) ≤ table (entry e) cost .elements
+  clear = omega (arith, is-cut (at-cut e) cost, e .before .before .if1 .left)
 
 lay-requires : tie.Need-lay-requires
 lay-requires c κs =
-    let e = c .before .before .before in
-    (sound-routes (entry e .pre), omega (arith, is-cut (at-cut e), clear e, cut-low (table (entry e))))
+    let p = entry c .pre in
+    (sound-routes (p .1), omega (arith, is-cut (at-cut c) (p .0), clear c (p .0), cut-low (table (entry c) (p .0))))
+
+abbrev laid : tie.After-line-second2 → tie.After-lay
+laid c = c .before .before .before .before
 
 add-list-sets : tie.Need-add-list-sets
-add-list-sets c = let s = entry (in-time (c .before .before .before .before)) .pre in omega arith
+add-list-sets c = let s = entry (laid c .before) .pre .1 in omega arith
 
 -- the ends that are laid are the table's
-ends : (d : tie.After-lay) → Ends (table (entry (in-time d))) (at (d .lay .result .first)) (at (d .lay .result .second))
-ends d i l =
-    let e = in-time d in
-    let q = is-cut (at-cut e) in
-    (laid-first (table (entry e)) q (d .lay .ensures) .row i l, laid-second (table (entry e)) q (d .lay .ensures) .row i l)
+ends : (d : tie.After-lay) (cost : ℕ → ℕ) → Ends (table (entry (d .before)) cost) (at (d .lay .result .first)) (at (d .lay .result .second))
+ends d cost i l =
+    let e = d .before in
+    let t = table (entry e) cost in
+    let q = is-cut (at-cut e) cost in
+    (laid-first t q (d .lay .ensures) .row i l, laid-second t q (d .lay .ensures) .row i l)
 
 list-sets-requires : tie.Need-list-sets-requires
 list-sets-requires c κs =
-    let d = c .before .before .before .before in
-    let e = in-time d in
-    ends-on-line (table (entry e)) (entry e .pre) (clear e) _ _ (ends d)
+    let d = laid c in
+    let e = d .before in
+    let p = entry e .pre in
+    ends-on-line (table (entry e) (p .0)) (p .1) (clear e (p .0)) _ _ (ends d (p .0))
+
+done-requires : tie.Need-done-requires
+done-requires c κs = search needs
 
 shortest-of-requires : tie.Need-shortest-of-requires
-shortest-of-requires c κs = periods-of (entry (in-time (c .before .before .before .before .before .before .before .before)) .pre)
+shortest-of-requires c κs = periods-of (entry (laid (c .before .before .before) .before) .pre .1)
 
 returns-3 : tie.Need-returns-3
-returns-3 c =
-    let d = c .before .before .before .before .before .before .before .before .before in
-    let e = in-time d in
-    let z = entry e in
-    let t = table z in
-    let q = is-cut (at-cut e) in
+returns-3 c cost z =
+    let L = c .before .before .before in
+    let d = laid (L .before) in
+    let e = d .before in
+    let t = table (entry e) cost in
+    let q = is-cut (at-cut e) cost in
     let h = capped-some (capped-hyper t (e .before .hyperperiod-of .ensures)) (e .if2 .left) in
-    let s = c .before .before .before .before .list-sets .result in
-    let S = c .before .before .before .before .list-sets .ensures in
-    outlined-found t _ refl refl
+    let s = L .list-sets .result in
+    let S = L .list-sets .ensures in
+    outlined-found t _ (c .before .done .ensures)
     (record {
-      sound = z .pre;
-      clear = clear e;
-      short = omega (arith, h);
+      timed = record {
+        sound = z;
+        short = omega (arith, h);
+        hyper = h .0;
+        interval = shortest-is z (c .shortest-of .ensures);
+      };
+      clear = clear e cost;
       elements = refl;
       rows = refl;
       cut = q;
-      hyper = h .0;
-      interval = falling-shortest t (c .shortest-of .ensures);
       first = laid-first t q (d .lay .ensures);
       second = laid-second t q (d .lay .ensures);
       few = S .few;
-      list = ring-list t (z .pre) (clear e) _ _ (ends d) (take (s .count) (s .words)) (S .sets);
+      list = ring-list t z (clear e cost) _ _ (ends d cost) (take (s .count) (s .words)) (S .sets);
       size = S .size;
       rest = S .rest;
     })
@@ -121,13 +140,16 @@ outline-of-spec =
     tie.close
     (tie.spec
     find-cut-requires
-    refuse-requires
+    at-requires
+    refused-requires
     returns
     hyperperiod-of-requires
-    refuse-requires-2
+    at-requires-2
+    refused-requires-2
     returns-2
     lay-requires
     add-list-sets
     list-sets-requires
+    done-requires
     shortest-of-requires
     returns-3)

@@ -1,207 +1,186 @@
 -- `planner::plan_intervals` meets its contract: `Planning` says what its loop keeps.
 use mathlib.Core.Path.{_≡_, refl, sym}
-use Prim.Native.Nat.{_+_, _-_, _≤_, _<_}
+use Prim.Native.Nat.{ℕ, _+_, _-_, _≤_, _<_}
 use native.Mathlib.Omega.{arith}
 use lib.ListN.{length, length-take, length-drop}
 use Rattle.rules.specs.Bounds.{max-slots}
 use Rattle.rules.specs.Bus.{Table}
-use Rattle.interval.specs.Ready.{Due}
-use Rattle.planner.specs.Timed.{Plannable}
+use Rattle.rules.specs.Loads.{end}
 use Rattle.loads.specs.Laid.{Lent}
-use Rattle.planner.proofs.Timed.{few-rows, few-sets, start-is, end-is, start-small, end-small}
-use Rattle.planner.proofs.Laying.{few-elements, ranges-span, ready-of}
-use Rattle.planner.proofs.Course.{Planning, planning-start, planning-room, planning-next, planning-end}
+use Rattle.interval.specs.Ready.{Due}
+use Rattle.planner.specs.Plannable.{Plannable}
+use Rattle.planner.proofs.Accepted.{timed, few-rows, few-sets, few-elements}
+use Rattle.planner.proofs.Laying.{ranges-span, ready-of}
+use Rattle.planner.proofs.Course.{Planning, planning-start, planning-begins, planning-due, planning-low, planning-room}
+use Rattle.planner.proofs.Course.{planning-next, planning-end}
 use Rattle.planner.proofs.plan_intervals.Statement.{statement}
 use Rattle.planner.proofs.plan_intervals.Tie as tie
 
 abbrev Inv-loop : tie.InvT-loop
-Inv-loop rows sets elements hyper interval first second rate words from to plan₀ lowest highest net head next x₀ low₀ high₀ load₀ last₀ after₀
-    slot₀ at₀ k₀ plan x low high load last after slot at k =
-    (k ≤ to) × (length last ≡ max-slots)
-    × ((t : Table) → Plannable t rows sets elements hyper interval first second rate words from to after₀ (length plan₀)
-    → Planning t from after₀ plan₀ k slot at after plan)
+Inv-loop from until plan₀ table rows sets top time lowest highest net head next x₀ low₀ high₀ load₀ last₀ after₀ slot₀ at₀
+    plan x low high load last after slot at =
+    (length last ≡ max-slots)
+    × ((t : Table) (k m : ℕ) → Plannable t table k m from until after₀ (length plan₀) → Planning t k m after₀ plan₀ slot at after plan)
     × Lent x low high load
 
 abbrev μ-loop : tie.MeasureT-loop
-μ-loop rows sets elements hyper interval first second rate words from to plan₀ lowest highest net head next x₀ low₀ high₀ load₀ last₀ after₀
-    slot₀ at₀ k₀ plan x low high load last after slot at k =
-    to - k
+μ-loop from until plan₀ table rows sets top time lowest highest net head next x₀ low₀ high₀ load₀ last₀ after₀ slot₀ at₀
+    plan x low high load last after slot at =
+    until - slot
 
 -- ---- what the intervals share
 
 -- the function's entry, from where the sets of each row are known
 abbrev entry : tie.After-ranges-of Inv-loop μ-loop → tie.Start Inv-loop μ-loop
-entry c = c .before .before
+entry c = c .before .before .before .before .before
+
+add-top : tie.Need-add-top Inv-loop μ-loop
+add-top c = record { fits = omega (arith, few-elements (c .before .pre .3 .accepted)) }
 
 ranges-of-requires : tie.Need-ranges-of-requires Inv-loop μ-loop
-ranges-of-requires c κs = let H = c .before .pre .1 .timed in (few-rows H, few-sets H)
+ranges-of-requires c κs = let A = c .before .before .before .before .pre .3 .accepted in (few-rows A, few-sets A)
 
 lay-requires : tie.Need-lay-requires Inv-loop μ-loop
-lay-requires c κs = let R = c .before .before .before .before in ranges-span (entry R .pre .1) (R .ranges-of .ensures)
+lay-requires c κs = let R = c .before .before .before .before in ranges-span (entry R .pre .3 .accepted) (R .ranges-of .ensures)
 
 chain-requires : tie.Need-chain-requires Inv-loop μ-loop
-chain-requires c κs = few-rows (entry (c .before .before .before .before .before) .pre .1 .timed)
+chain-requires c κs = few-rows (entry (c .before .before .before .before .before .before .before) .pre .3 .accepted)
 
 -- ---- where the loop begins
 
 abbrev ranged : tie.After-next Inv-loop μ-loop → tie.After-ranges-of Inv-loop μ-loop
-ranged c = c .before .before .before .before .before .before .before .before
+ranged c = c .before .before .before .before .before .before .before .before .before .before
 
-mul-slot : tie.Need-mul-slot Inv-loop μ-loop
-mul-slot c =
-    let S = entry (ranged c) in
-    let P = S .pre .1 in
-    let H = P .timed in
-    let low = start-small H (S .args .from) (omega (arith, P .order, P .in-range)) in
-    record { fits = omega (arith, start-is H (S .args .from), low) }
+abbrev laid : tie.After-next Inv-loop μ-loop → tie.After-lay Inv-loop μ-loop
+laid c = c .before .before .before .before .before
 
 loop-holds : tie.Need-loop-holds Inv-loop μ-loop
-loop-holds c =
-    let S = entry (ranged c) in (
-      S .pre .1 .order,
-      refl,
-      λ t P.
-          let H = P .timed in
-          let e = start-is H (S .args .from) in
-          planning-start (H .admissible) (S .args .from) (S .args .totals) (S .args .plan .now) _ e (P .totals) (rw e (P .steady)),
-      record { x-size = refl; low-size = refl; high-size = refl; loads-size = refl },
-    )
+loop-holds c = (
+  refl,
+  λ t k m P. planning-start (entry (ranged c) .args .plan .now) P,
+  record { x-size = refl; low-size = refl; high-size = refl; loads-size = refl },
+)
 
--- ---- a turn: interval k is one of the table's, and there is room for it
+-- ---- a turn: an interval of the table begins, and there is room for it
 
 abbrev begun : tie.In-loop Inv-loop μ-loop → tie.Start Inv-loop μ-loop
 begun c = entry (ranged (c .before .before))
 
 -- t is a table that is given to be planned
-abbrev Given : tie.Start Inv-loop μ-loop → Table → Type 0
-Given S t =
-    Plannable t (S .args .rows) (S .args .sets) (S .args .elements) (S .args .hyper) (S .args .interval) (S .args .first .now)
-    (S .args .second .now) (S .args .rate .now) (S .args .words .now) (S .args .from) (S .args .to) (S .args .totals)
-    (length (S .args .plan .now))
-
-module _ (c : tie.In-loop Inv-loop μ-loop) {t : Table} (P : Given (begun c) t) where
-  due : Due t (c .before .loop .k) (c .before .loop .slot) (c .before .loop .slot + begun c .args .interval) (c .before .loop .after)
-  due =
-      let L = c .before .loop .inv .2 t P in
-      record {
-        in-range = omega (arith, c .loop-test .taken, P .in-range);
-        begins = L .slot;
-        ends = end-is (P .timed) (c .before .loop .k) (c .before .loop .slot) (L .slot);
-        steady = L .steady;
-      }
-
-  ends-low : c .before .loop .slot + begun c .args .interval ≤ max-slots
-  ends-low = omega (arith, due .ends, end-small (P .timed) (c .before .loop .k) (due .in-range))
-
-  roomy : (c .before .loop .slot ≤ c .before .loop .slot + begun c .args .interval)
-      × (c .before .loop .at + (c .before .loop .slot + begun c .args .interval - c .before .loop .slot)
-      ≤ length (begun c .args .plan .now))
-      × (length (c .before .loop .plan) ≡ length (begun c .args .plan .now))
-  roomy =
-      let S = begun c in
-      planning-room (P .timed .admissible) (S .args .from) (S .args .totals) (S .args .plan .now) (S .args .to) (P .in-range)
-      (P .roomy) (c .before .loop .inv .2 t P) (c .loop-test .taken) _ (due .ends)
-
-  place-low : c .before .loop .at ≤ max-slots
-  place-low = omega (arith, c .before .loop .inv .2 t P .place, ends-low)
+abbrev Given : tie.Start Inv-loop μ-loop → Table → ℕ → ℕ → Type 0
+Given S t k m = Plannable t (S .args .t1) k m (S .args .from) (S .args .until) (S .args .totals) (length (S .args .plan .now))
 
 -- the one that the call was made with
-abbrev given : (c : tie.In-loop Inv-loop μ-loop) → Given (begun c) (begun c .pre .0)
-given c = begun c .pre .1
+abbrev given : (c : tie.In-loop Inv-loop μ-loop) → Given (begun c) (begun c .pre .0) (begun c .pre .1) (begun c .pre .2)
+given c = begun c .pre .3
 
-add-end : tie.Need-add-end Inv-loop μ-loop
-add-end c = record { fits = omega (arith, ends-low c (given c)) }
+next-end-requires : tie.Need-next-end-requires Inv-loop μ-loop
+next-end-requires c κs =
+    let P = given c in
+    let L = c .before .loop .inv .1 _ _ _ P in
+    (begun c .pre .0, L .number, timed (P .accepted), planning-begins (begun c .args .plan .now) P L (c .loop-test .taken))
 
-add-advance : tie.Need-add-advance Inv-loop μ-loop
-add-advance c = record { fits = omega (arith, few-elements (given c)) }
+module _ (c : tie.After-next-end Inv-loop μ-loop) {t : Table} {k m : ℕ} (P : Given (begun (c .before)) t k m) where
+  abbrev done : Planning t k m (begun (c .before) .args .totals) (begun (c .before) .args .plan .now) (c .before .before .loop .slot)
+      (c .before .before .loop .at) (c .before .before .loop .after) (c .before .before .loop .plan)
+  done = c .before .before .loop .inv .1 t k m P
 
--- the turn, from where all that the intervals share is lent
-abbrev sharing : tie.After-next2 Inv-loop μ-loop → tie.In-loop Inv-loop μ-loop
-sharing c = c .before .before .before .before .before .before .before .before .before .before .before
+  ends : c .next-end .result ≡ end t (done .number)
+  ends =
+      c .next-end .ensures t (done .number) (timed (P .accepted))
+      (planning-begins (begun (c .before) .args .plan .now) P done (c .before .loop-test .taken))
 
--- the turn, from where the arrays for its work are lent too
-abbrev lending : tie.After-last Inv-loop μ-loop → tie.In-loop Inv-loop μ-loop
+  due : Due t (done .number) (c .before .before .loop .slot) (c .next-end .result) (c .before .before .loop .after)
+  due = planning-due (begun (c .before) .args .plan .now) P done (c .before .loop-test .taken) _ ends
+
+  ends-low : c .next-end .result ≤ max-slots
+  ends-low = planning-low (begun (c .before) .args .plan .now) P done (c .before .loop-test .taken) _ ends
+
+  roomy : (c .before .before .loop .slot < c .next-end .result)
+      × (c .before .before .loop .at + (c .next-end .result - c .before .before .loop .slot) ≤ length (begun (c .before) .args .plan .now))
+      × (length (c .before .before .loop .plan) ≡ length (begun (c .before) .args .plan .now))
+  roomy = planning-room (begun (c .before) .args .plan .now) P done (c .before .loop-test .taken) _ ends
+
+  place-low : c .before .before .loop .at ≤ max-slots
+  place-low = omega (arith, done .place, ends-low, roomy .0)
+
+-- the turn, from where the arrays for its work are lent
+abbrev sharing : tie.After-next2 Inv-loop μ-loop → tie.After-next-end Inv-loop μ-loop
+sharing c = c .before .before .before .before .before .before .before .before .before .before .before .before .before .before .before
+
+abbrev lending : tie.After-last Inv-loop μ-loop → tie.After-next-end Inv-loop μ-loop
 lending c = sharing (c .before .before .before .before .before .before)
 
 slice-aggregate-advance : tie.Need-slice-aggregate-advance Inv-loop μ-loop
-slice-aggregate-advance c = sym (lending c .before .loop .inv .1)
+slice-aggregate-advance c = sym (lending c .before .before .loop .inv .0)
 
 mul-advance : tie.Need-mul-advance Inv-loop μ-loop
-mul-advance c = omega (arith, place-low (lending c) (given (lending c)))
+mul-advance c = let I = lending c in omega (arith, place-low I (given (I .before)))
 
 sub-advance : tie.Need-sub-advance Inv-loop μ-loop
-sub-advance c = omega (arith, roomy (lending c) (given (lending c)))
+sub-advance c = let I = lending c in omega (arith, roomy I (given (I .before)))
 
 part-advance-start : tie.Need-part-advance-start Inv-loop μ-loop
-part-advance-start c = omega (arith, roomy (lending c) (given (lending c)))
+part-advance-start c = let I = lending c in omega (arith, roomy I (given (I .before)))
 
 part-advance-end : tie.Need-part-advance-end Inv-loop μ-loop
-part-advance-end c = omega (arith, roomy (lending c) (given (lending c)))
+part-advance-end c = let I = lending c in omega (arith, roomy I (given (I .before)))
 
 advance-requires : tie.Need-advance-requires Inv-loop μ-loop
 advance-requires c κs =
     let I = lending (c .before) in
-    let L = I .before .loop in
-    let N = I .before .before in
-    let P = given I in (
+    let L = I .before .before .loop in
+    let N = I .before .before .before in
+    let P = given (I .before) in (
       (
-        begun I .pre .0,
-        L .k,
-        ready-of P (ranged N .ranges-of .ensures) (N .before .before .before .lay .ensures) (N .before .before .chain .ensures),
+        begun (I .before) .pre .0,
+        done I P .number,
+        ready-of (P .accepted) (ranged N .ranges-of .ensures) (laid N .lay .ensures) (N .before .before .chain .ensures),
         due I P,
       ),
-      L .inv .2 _ P .size,
-      L .inv .3,
-      omega (arith, L .inv .1, ends-low I P),
+      done I P .size,
+      L .inv .2,
+      omega (arith, L .inv .0, ends-low I P),
       simp (length-take, length-drop) (omega (arith, roomy I P)),
     )
 
 -- the turn, from where the interval is done
-abbrev turn : tie.After-slice-known2 Inv-loop μ-loop → tie.In-loop Inv-loop μ-loop
+abbrev turn : tie.After-slice-known2 Inv-loop μ-loop → tie.After-next-end Inv-loop μ-loop
 turn c = lending (c .before .before .before .before .before)
 
 sub-at : tie.Need-sub-at Inv-loop μ-loop
-sub-at c = omega arith
+sub-at c = let I = turn c in omega (arith, roomy I (given (I .before)))
 
 add-at : tie.Need-add-at Inv-loop μ-loop
-add-at c = omega (arith, place-low (turn c) (given (turn c)), ends-low (turn c) (given (turn c)))
-
-add-k : tie.Need-add-k Inv-loop μ-loop
-add-k c = omega (arith, turn c .loop-test .taken, begun (turn c) .fits .to)
+add-at c = let I = turn c in omega (arith, place-low I (given (I .before)), ends-low I (given (I .before)))
 
 loop-less : tie.Need-loop-less Inv-loop μ-loop
-loop-less c = omega (arith, turn c .loop-test .taken)
+loop-less c = let I = turn c in omega (arith, I .before .loop-test .taken, roomy I (given (I .before)) .0)
 
 loop-again : tie.Need-loop-again Inv-loop μ-loop
 loop-again c =
     let I = turn c in
-    let L = I .before .loop in
-    let S = begun I in
-    let N = I .before .before in
+    let L = I .before .before .loop in
+    let N = I .before .before .before in
     let D = c .before .before .before .advance in
     let last = D .last .1 .1 .1 .1 .1 .1 .1 .1 .1 .1 .1 .1 .1 .1 .1 .1 .1 .1 .1 in (
-      omega (arith, I .loop-test .taken),
-      omega (arith, D .ensures .2, L .inv .1),
-      λ t P.
-          planning-next (P .timed .admissible) (S .args .from) (S .args .totals) (S .args .plan .now) (S .args .to) (P .in-range)
-          (P .roomy) (L .inv .2 t P) (I .loop-test .taken) _ (due I P .ends) (last .0) (last .1 .1 .1 .1 .1 .1 .0)
-          (D .ensures .0 t (L .k)
-          (ready-of P (ranged N .ranges-of .ensures) (N .before .before .before .lay .ensures) (N .before .before .chain .ensures))
-          (due I P)),
+      omega (arith, D .ensures .2, L .inv .0),
+      λ t k m P.
+          planning-next (begun (I .before) .args .plan .now) P (done I P) (I .before .loop-test .taken) _ (ends I P) (last .0)
+          (last .1 .1 .1 .1 .1 .1 .0) (D .ensures .0 t (done I P .number)
+          (ready-of (P .accepted) (ranged N .ranges-of .ensures) (laid N .lay .ensures) (N .before .before .chain .ensures)) (due I P)),
       D .ensures .1,
     )
 
 -- ---- the end
 
 same-length : tie.Need-same-length Inv-loop μ-loop
-same-length c = let S = entry (ranged (c .before .before)) in c .before .loop .inv .2 (S .pre .0) (S .pre .1) .filled .same
+same-length c = let S = entry (ranged (c .before .before)) in c .before .loop .inv .1 _ _ _ (S .pre .3) .filled .same
 
 returns : tie.Need-returns Inv-loop μ-loop
-returns c t P =
-    let L = c .before .loop in
+returns c t k m P =
     let S = entry (ranged (c .before .before)) in
-    let e : L .k ≡ S .args .to = omega (arith, c .loop-test .left, L .inv .0) in
-    rw (← e) (planning-end (P .timed .admissible) (S .args .from) (S .args .totals) (S .args .plan .now) (L .inv .2 t P))
+    planning-end (S .args .plan .now) P (c .before .loop .inv .1 t k m P) (c .loop-test .left)
 
 pub plan-intervals-spec : {M : Type 1} → statement M
 plan-intervals-spec =
@@ -209,13 +188,12 @@ plan-intervals-spec =
     (tie.spec
     Inv-loop
     μ-loop
+    add-top
     ranges-of-requires
     lay-requires
     chain-requires
-    mul-slot
     loop-holds
-    add-end
-    add-advance
+    next-end-requires
     slice-aggregate-advance
     mul-advance
     sub-advance
@@ -224,7 +202,6 @@ plan-intervals-spec =
     advance-requires
     sub-at
     add-at
-    add-k
     loop-less
     loop-again
     same-length

@@ -1,29 +1,22 @@
 -- `planner::slot_reached` meets its contract.
 use borrow.Author.Needs.{needs}
-use native.Mathlib.Omega.{arith}
-use Prim.Native.Nat.{ℕ, _/_, _<_}
-use Rattle.planner.proofs.Timed.{slot-fits}
 use Rattle.planner.proofs.slot_reached.Statement.{statement}
 use Rattle.planner.proofs.slot_reached.Tie as tie
 
 enum-known-stage : tie.Need-enum-known-stage
 enum-known-stage c = search needs
 
-mul-result : tie.Need-mul-result
-mul-result c =
-    let a = c .before .before .before in
-    let k : ℕ = c .before .stage .given .0 .0 in
-    let l : k < a .args .hyper / a .args .interval = a .pre .2 k (c .before .stage .given .1) in
-    omega (arith, slot-fits (a .args .hyper) (a .args .interval) k l)
+start-of-requires : tie.Need-start-of-requires
+start-of-requires c κs = search needs
 
 enum-told : tie.Need-enum-told
 enum-told c = search needs
 
 returns : tie.Need-returns
-returns c = rw (c .before .stage .given .1)
+returns c t T = rw (c .before .before .stage .given .1) (c .start-of .ensures t T)
 
 returns-2 : tie.Need-returns-2
-returns-2 c = search needs
+returns-2 c t T = rw (c .enum-told .given .1) (T .hyper)
 
 pub slot-reached-spec : {M : Type 1} → statement M
-slot-reached-spec = tie.close (tie.spec enum-known-stage mul-result enum-told returns returns-2)
+slot-reached-spec = tie.close (tie.spec enum-known-stage start-of-requires enum-told returns returns-2)

@@ -4,8 +4,8 @@ use native.Mathlib.Omega.{arith}
 use borrow.Author.Needs.{needs}
 use Rattle.numbers.specs.Lists.{at}
 use Rattle.outline.proofs.Periods.{Falling, falling-start, falling-next, falling-end}
-use Rattle.outline.proofs.shortest_of.Statement.{statement}
-use Rattle.outline.proofs.shortest_of.Tie as tie
+use Rattle.outline.proofs.time.shortest_of.Statement.{statement}
+use Rattle.outline.proofs.time.shortest_of.Tie as tie
 
 abbrev Inv-loop : tie.InvT-loop
 Inv-loop rows period l₀ i₀ l i = Falling rows (at period) i l

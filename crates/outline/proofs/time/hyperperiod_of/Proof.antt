@@ -3,8 +3,8 @@ use Prim.Native.Nat.{_-_}
 use native.Mathlib.Omega.{arith}
 use Rattle.numbers.specs.Lists.{at}
 use Rattle.outline.proofs.Periods.{Rising, rising-start, rising-next, rising-over, rising-end}
-use Rattle.outline.proofs.hyperperiod_of.Statement.{statement}
-use Rattle.outline.proofs.hyperperiod_of.Tie as tie
+use Rattle.outline.proofs.time.hyperperiod_of.Statement.{statement}
+use Rattle.outline.proofs.time.hyperperiod_of.Tie as tie
 
 abbrev Inv-loop : tie.InvT-loop
 Inv-loop rows period h₀ i₀ h i = Rising rows (at period) i h
