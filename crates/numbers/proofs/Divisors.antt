@@ -7,21 +7,21 @@
 --   Multiple n g m    all divide m
 --   Greatest n g d    d divides all, and whatever divides all divides d
 --   Least n g m       all divide m, and m divides whatever all divide
-use mathlib.Core.Path.{_≡_, refl, sym, ap, ap₂, subst, fun-ext}
+use mathlib.Core.Path.{_≡_, sym, subst}
 use mathlib.Core.Logic.{⊎-elim}
-use mathlib.Core.Bool.{Bool, _&&_}
-use Prim.Native.Nat.{ℕ, zero, suc, _+_, _*_, _/_, _%_, _≤_, _<_, _∣_}
-use native.Mathlib.Nat.{eq-or-lt-of-le, le-of-suc-le-suc, mul-pos, mul-div-cancel', dvd-of-mod-eq-zero, mod-eq-zero-of-dvd}
+use mathlib.Core.Bool.{_&&_}
+use Prim.Native.Nat.{ℕ, zero, suc, _+_, _*_, _%_, _≤_, _<_, _∣_}
+use native.Mathlib.Nat.{eq-or-lt-of-le, le-of-suc-le-suc, mul-pos, dvd-of-mod-eq-zero, mod-eq-zero-of-dvd}
 use native.Mathlib.Nat.{dvd-refl, dvd-trans, one-dvd, le-of-dvd, pos-of-dvd-of-pos, dvd-mul-left, dvd-mul-right-of-dvd}
 use native.Mathlib.Numerals.{add-one}
 use native.Mathlib.Omega.{arith}
 use borrow.Author.Tests.{eq-eqb}
 use lib.Dec.{T, ltb, eqb→eq, ltb→lt, lt→ltb}
-use Rattle.numbers.specs.Finite.{every, lowest, highest}
+use Rattle.numbers.specs.Finite.{every}
 use Rattle.numbers.specs.Divisors.{divides, product, gcd, lcm}
 use Rattle.numbers.specs.Pairs.{IsGcd, IsLcm}
 use Rattle.numbers.proofs.Truth.{both, fst, snd}
-use Rattle.numbers.proofs.Finite.{every-at, every-of, every-eq, lowest-is, highest-is}
+use Rattle.numbers.proofs.Finite.{every-at, every-of, lowest-is, highest-is}
 use Rattle.numbers.proofs.Pairs.{pair-gcd, pair-lcm, pair-lcm-positive}
 
 -- ---- the test
@@ -31,9 +31,6 @@ dvd-of d m t = dvd-of-mod-eq-zero d (eqb→eq (m % d) 0 t)
 
 pub of-dvd : (d m : ℕ) → d ∣ m → T (divides d m)
 of-dvd d m h = rw (eq-eqb (m % d) 0 (mod-eq-zero-of-dvd d h)) tt
-
-pub divides-quotient : (d m : ℕ) → T (divides d m) → d * (m / d) ≡ m
-divides-quotient d m t = mul-div-cancel' d (dvd-of d m t)
 
 -- ---- notions
 
@@ -76,11 +73,6 @@ product-multiple (suc n) g =
     step n (λ i. g i ∣ product n g * g n)
     (λ i l. dvd-mul-right-of-dvd (g i) (product-multiple n g i l) (g n))
     (dvd-mul-left (g n) (product n g))
-
-pub product-eq : (n : ℕ) (f g : ℕ → ℕ) → ((i : ℕ) → i < n → f i ≡ g i) → product n f ≡ product n g
-unfolding product
-product-eq zero f g e = refl
-product-eq (suc n) f g e = ap₂ _*_ (product-eq n f g (λ i l. e i (omega arith))) (e n (omega arith))
 
 -- ---- the least common multiple
 
@@ -133,9 +125,6 @@ module _ (n : ℕ) (g : ℕ → ℕ) (pos : Positive n g) where
   pub lcm-positive : 0 < lcm n g
   lcm-positive = pos-of-dvd-of-pos (lcm-divides (product n g) (product-multiple n g)) (product-positive n g pos)
 
-  pub lcm-least : (m : ℕ) → 0 < m → Multiple n g m → lcm n g ≤ m
-  lcm-least m mp M = le-of-dvd mp (lcm-divides m M)
-
 -- that of the first m numbers divides it, and so is no greater: a loop may stop once it is above a bound
 pub lcm-prefix : (m n : ℕ) (g : ℕ → ℕ) → Positive n g → m ≤ n → lcm m g ∣ lcm n g
 lcm-prefix m n g pos l = lcm-divides m g (λ i k. pos i (omega arith)) (lcm n g) (λ i k. lcm-multiple n g pos i (omega arith))
@@ -145,13 +134,6 @@ lcm-grows m n g pos l = le-of-dvd (lcm-positive n g pos) (lcm-prefix m n g pos l
 
 pub lcm-none : (g : ℕ → ℕ) → lcm 0 g ≡ 1
 lcm-none g = lcm-of-least 0 g (λ i l. absurd (omega arith)) 1 (least-none g)
-
-pub lcm-one : (g : ℕ → ℕ) → 0 < g 0 → lcm 1 g ≡ g 0
-lcm-one g pos =
-    lcm-of-least 1 g (λ i l. rw (only-zero i l) pos) (g 0) (record {
-      multiple = λ i l. rw (only-zero i l) (dvd-refl (g 0));
-      least = λ k M. M 0 (omega arith);
-    })
 
 pub lcm-next : (n : ℕ) (g : ℕ → ℕ) → Positive (n + 1) g → (m : ℕ) → IsLcm (lcm n g) (g n) m → lcm (n + 1) g ≡ m
 lcm-next n g pos m P =
@@ -164,13 +146,6 @@ lcm-same n g c some pos e =
       multiple = λ i l. rw (e i l) (dvd-refl c);
       least = λ k M. rw (e 0 some) at (M 0 some);
     })
-
-pub lcm-eq : (n : ℕ) (f g : ℕ → ℕ) → ((i : ℕ) → i < n → f i ≡ g i) → lcm n f ≡ lcm n g
-unfolding lcm
-lcm-eq n f g e =
-    ap₂ (λ (k : ℕ) (p : ℕ → Bool). lowest (suc k) (λ m. ltb 0 m && p m))
-    (product-eq n f g e)
-    (fun-ext (λ m. every-eq n (λ i. divides (f i) m) (λ i. divides (g i) m) (λ i l. ap (λ (k : ℕ). divides k m) (e i l))))
 
 -- ---- the greatest common divisor
 
@@ -215,12 +190,6 @@ module _ (n : ℕ) (g : ℕ → ℕ) (some : 0 < n) (pos : Positive n g) where
   pub gcd-positive : 0 < gcd n g
   gcd-positive = pos-of-dvd-of-pos (gcd-divides 0 some) (pos 0 some)
 
-  pub gcd-multiple : (d : ℕ) → Divisor n g d → d ∣ gcd n g
-  gcd-multiple = gcd-as-greatest .greatest
-
-  pub gcd-greatest : (d : ℕ) → Divisor n g d → d ≤ gcd n g
-  gcd-greatest d D = le-of-dvd gcd-positive (gcd-multiple d D)
-
   pub gcd-divides-lcm : gcd n g ∣ lcm n g
   gcd-divides-lcm = dvd-trans (gcd n g) (gcd-divides 0 some) (lcm-multiple n g pos 0 some)
 
@@ -239,10 +208,3 @@ gcd-same n g c some pos e =
       divisor = λ i l. rw (e i l) (dvd-refl c);
       greatest = λ d D. rw (e 0 some) at (D 0 some);
     })
-
-pub gcd-eq : (n : ℕ) (f g : ℕ → ℕ) → 0 < n → ((i : ℕ) → i < n → f i ≡ g i) → gcd n f ≡ gcd n g
-unfolding gcd
-gcd-eq n f g some e =
-    ap₂ (λ (k : ℕ) (p : ℕ → Bool). highest (suc k) p)
-    (e 0 some)
-    (fun-ext (λ d. every-eq n (λ i. divides d (f i)) (λ i. divides d (g i)) (λ i l. ap (divides d) (e i l))))

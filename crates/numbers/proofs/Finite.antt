@@ -7,7 +7,7 @@
 -- The laws that end in -next are in the form of a loop that counts up: n + 1 for the bound.
 use mathlib.Core.Path.{_≡_, refl, sym, ap, ap₂, _∙_}
 use mathlib.Core.Logic.{_⊎_, inl, inr, ⊎-elim, _≢_}
-use mathlib.Core.Bool.{Bool, true, false, not, _&&_, _||_, cond, or-true, or-false}
+use mathlib.Core.Bool.{Bool, true, false, not, _&&_, _||_, cond}
 use Prim.Native.Nat.{ℕ, zero, suc, _+_, _-_, _*_, _/_, _%_, _≤_, _<_, zero-le, min, max}
 use native.Mathlib.Nat.{eq-or-lt-of-le, le-of-suc-le-suc, not-suc-le-zero, le-refl, add-zero, add-suc}
 use native.Mathlib.Nat.{mod-add-div', add-mul-mod-self-right, zero-mod}
@@ -55,18 +55,7 @@ unfolding any
 any-eq zero p q h = refl
 any-eq (suc n) p q h = ap₂ _||_ (any-eq n p q (λ i l. h i (omega arith))) (h n (le-refl (suc n)))
 
--- a search that a loop carries on: found, or not found here
-pub any-in : (i : ℕ) (p : ℕ → Bool) → T (p i) → true ≡ any (i + 1) p
-any-in i p t = sym (any-next i p ∙ ap (λ (b : Bool). any i p || b) (is-true (p i) t) ∙ or-true (any i p))
-
-pub any-out : (i : ℕ) (p : ℕ → Bool) (b : Bool) → b ≡ any i p → (T (p i) → ⊥) → b ≡ any (i + 1) p
-any-out i p b e t = e ∙ sym (any-next i p ∙ ap (λ (b : Bool). any i p || b) (is-false (p i) t) ∙ or-false (any i p))
-
 -- ---- every
-
-pub every-next : (n : ℕ) (p : ℕ → Bool) → every (n + 1) p ≡ (every n p && p n)
-unfolding every
-every-next n p = rw add-one
 
 pub every-of : (n : ℕ) (p : ℕ → Bool) → ((i : ℕ) → i < n → T (p i)) → T (every n p)
 unfolding every
@@ -79,11 +68,6 @@ unfolding every
 every-at zero p h i l = absurd (not-suc-le-zero l)
 every-at (suc n) p h i l =
     ⊎-elim (λ (e : i ≡ n). rw e (snd (every n p) (p n) h)) (λ k. every-at n p (fst (every n p) (p n) h) i k) (below l)
-
-pub every-eq : (n : ℕ) (p q : ℕ → Bool) → ((i : ℕ) → i < n → p i ≡ q i) → every n p ≡ every n q
-unfolding every
-every-eq zero p q h = refl
-every-eq (suc n) p q h = ap₂ _&&_ (every-eq n p q (λ i l. h i (omega arith))) (h n (le-refl (suc n)))
 
 -- ---- lowest
 
@@ -289,9 +273,6 @@ cong-additive h = record { same = λ a. (0, 0, refl); more = λ a b c d s t k m 
 pub cong-sym : (h a b : ℕ) → Cong h a b → Cong h b a
 cong-sym h a b c = (c .1, c .0, sym (c .2))
 
-pub cong-trans : (h a b c : ℕ) → Cong h a b → Cong h b c → Cong h a c
-cong-trans h a b c k m = (k .0 + m .0, k .1 + m .1, omega arith)
-
 -- a multiple of h
 pub cong-zero : (h x : ℕ) → x % h ≡ 0 → Cong h x 0
 cong-zero h x m = (0, x / h, omega (arith, mod-add-div' x h))
@@ -387,12 +368,6 @@ pub sumIn-eq : (n : ℕ) (D E : ℕ → Bool) (g h : ℕ → ℕ) → ((i : ℕ)
 sumIn-eq n D E g h d e =
     sum-eq n (λ i. only (D i) (g i)) (λ i. only (E i) (h i))
     (λ i l. only-eq (D i) (g i) (h i) (e i l) ∙ ap (λ (b : Bool). only b (h i)) (d i l))
-
--- a set within another, and terms at most the other's on it
-pub sumIn-le : (n : ℕ) (D E : ℕ → Bool) (g h : ℕ → ℕ) → ((i : ℕ) → i < n → T (D i) → T (E i))
-    → ((i : ℕ) → i < n → T (D i) → g i ≤ h i) → sumIn n D g ≤ sumIn n E h
-sumIn-le n D E g h d e =
-    sum-le n (λ i. only (D i) (g i)) (λ i. only (E i) (h i)) (λ i l. only-le (D i) (E i) (g i) (h i) (d i l) (e i l))
 
 pub sumIn-add : (n : ℕ) (D : ℕ → Bool) (g h : ℕ → ℕ) → sumIn n D (λ i. g i + h i) ≡ sumIn n D g + sumIn n D h
 sumIn-add n D g h =

@@ -7,3 +7,4 @@ pub mod Divisors
 pub mod Signed
 pub mod Lists
 pub mod Tests
+pub mod Codec

@@ -4,12 +4,12 @@
 --   Filled was out n xs    out is xs in its first n places, and from there on what was there
 use mathlib.Core.Path.{_≡_, refl, sym, ap, ap₂, _∙_}
 use mathlib.Core.Logic.{⊎-elim}
-use mathlib.Core.List.{List, [], _∷_, _++_, append-assoc, append-nil, map}
+use mathlib.Core.List.{List, [], _∷_, _++_, append-assoc, map}
 use Prim.Native.Nat.{ℕ, zero, suc, _+_, _-_, _*_, _≤_, _<_}
 use native.Mathlib.Nat.{suc-mul, zero-mul, mul-one, le-of-eq, mul-le-mul-right, eq-or-lt-of-le, le-of-suc-le-suc, not-suc-le-zero}
 use native.Mathlib.Numerals.{add-one}
 use native.Mathlib.Omega.{arith}
-use lib.ListN.{length, take, drop, set, length-append, length-drop, length-set, take-append-drop, drop-of-length-le, replicate}
+use lib.ListN.{length, take, drop, set, length-append, length-drop, length-set, take-append-drop, replicate}
 use lib.Seq.{drop-cons, take-suc, set-at, append-snoc, take-at, drop-at, take-all, take-add}
 use lib.Seq.{drop-drop, take-append-le, drop-append-le, sets, length-take-le, sets-eq}
 use lib.Seq.{getD-take, getD-drop, getD-append-add, ext-getD}
@@ -166,18 +166,11 @@ filled-part {was} {out} {xs} {n} l s w ys F e h k q =
     (length-append xs w ∙ ap₂ _+_ (F .count) e)
     k
 
-pub filled-at : {was out xs : List ℕ} {n : ℕ} → Filled was out n xs → (i : ℕ) → i < n → at out i ≡ at xs i
-filled-at {out = out} {n = n} F i l = sym (getD-take n out i 0 l) ∙ ap (λ (d : List ℕ). at d i) (filled-take F)
-
 pub filled-rest : {was out xs : List ℕ} {n : ℕ} → Filled was out n xs → (i : ℕ) → n ≤ i → at out i ≡ at was i
 filled-rest {was} {out} {n = n} F i l =
     let e : n + (i - n) ≡ i = omega arith in
     ap (at out) (sym e) ∙ sym (getD-drop n out (i - n) 0) ∙ ap (λ (d : List ℕ). at d (i - n)) (filled-drop F)
     ∙ getD-drop n was (i - n) 0 ∙ ap (at was) e
-
--- full: nothing is left of what was there
-pub filled-end : {was out xs : List ℕ} {n : ℕ} → Filled was out n xs → length was ≤ n → out ≡ xs
-filled-end {was} {xs = xs} {n = n} F h = F .holds ∙ ap (λ (d : List ℕ). xs ++ d) (drop-of-length-le was h) ∙ append-nil xs
 
 -- a run of numbers more, from place n on
 pub filled-sets : {was out xs : List ℕ} {n : ℕ} (vs : List ℕ) (m : ℕ) → Filled was out n xs → m ≡ n + length vs → m ≤ length was

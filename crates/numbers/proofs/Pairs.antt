@@ -1,9 +1,9 @@
 -- The greatest common divisor and the least common multiple of two numbers: there is one of each, and it is the only one.
 use mathlib.Core.Path.{_≡_, sym, ap, _∙_}
-use Prim.Native.Nat.{ℕ, zero, suc, _*_, _/_, _%_, _≤_, _<_, _∣_}
+use Prim.Native.Nat.{ℕ, zero, suc, _*_, _/_, _%_, _<_, _∣_}
 use native.Mathlib.Nat.{dvd-refl, dvd-zero, dvd-mod-iff, dvd-trans, dvd-antisymm, dvd-mul-left, dvd-mul-right}
 use native.Mathlib.Nat.{mul-dvd-mul-left, mul-dvd-mul-right, dvd-of-mul-dvd-mul-left, dvd-of-mul-dvd-mul-right}
-use native.Mathlib.Nat.{mul-div-cancel', div-mul-cancel, pos-of-dvd-of-pos, le-of-dvd, mod-lt, zero-lt-suc, mul-comm, mul-assoc, mul-pos}
+use native.Mathlib.Nat.{mul-div-cancel', div-mul-cancel, pos-of-dvd-of-pos, mod-lt, zero-lt-suc, mul-comm, mul-assoc, mul-pos}
 use native.Mathlib.Omega.{arith}
 use Rattle.numbers.specs.Pairs.{IsGcd, IsLcm}
 
@@ -76,6 +76,3 @@ pair-lcm-only {m = m} {n = n} M N = dvd-antisymm (M .least n (N .left) (N .right
 
 pub pair-lcm-positive : {a b m : ℕ} → 0 < a → 0 < b → IsLcm a b m → 0 < m
 pair-lcm-positive {a} {b} pa pb M = pos-of-dvd-of-pos (M .least (a * b) (dvd-mul-right a b) (dvd-mul-left b a)) (mul-pos pa pb)
-
-pub pair-lcm-bound : {a b m : ℕ} → 0 < a → 0 < b → IsLcm a b m → m ≤ a * b
-pair-lcm-bound {a} {b} pa pb M = le-of-dvd (mul-pos pa pb) (M .least (a * b) (dvd-mul-right a b) (dvd-mul-left b a))

@@ -1,6 +1,6 @@
 -- Rounding: what a fraction a / b rounded down or up is, said by products alone.
 -- n is a / b rounded down or up just when a < (n + 1) × b and n × b < a + b.
-use mathlib.Core.Path.{_≡_, refl, sym}
+use mathlib.Core.Path.{_≡_, sym}
 use mathlib.Core.Logic.{_↔_, _⊎_, inl, inr, ⊎-elim}
 use Prim.Native.Nat.{ℕ, _+_, _-_, _*_, _≤_, _<_}
 use native.Mathlib.Decide.{decLe, ℕ-discrete}
@@ -54,14 +54,6 @@ module _ (a b : ℕ) (pos : 0 < b) where
       go (yes l) = inl (sym (div-eq-of-lt-le b l h))
       go (no f) = let l : a < n * b = lt-of-not-le f in inr (sym (div-eq-of-lt-le b (omega arith) (omega arith)))
 
-  pub rounded-down : Rounded (down a b) a b
-  unfolding Rounded
-  rounded-down = inl refl
-
-  pub rounded-up : Rounded (up a b) a b
-  unfolding Rounded
-  rounded-up = inr refl
-
   pub rounded-between : (n : ℕ) → Rounded n a b → (down a b ≤ n) × (n ≤ up a b)
   unfolding Rounded
   rounded-between n (inl e) = rw e (le-refl (down a b), down-up)
@@ -103,15 +95,6 @@ rounded-whole n m b pos r =
     let l : m < n + 1 = lt-of-mul-lt-mul-right b (z .0) in
     let k : n < m + 1 = lt-of-mul-lt-mul-right b (omega (arith, z .1)) in
     omega arith
-
-pub whole-rounded : (m b : ℕ) → 0 < b → Rounded m (m * b) b
-whole-rounded m b pos = rounded-of (m * b) b pos m (omega arith) (omega arith)
-
-pub down-whole : (m b : ℕ) → 0 < b → down (m * b) b ≡ m
-down-whole m b pos = rounded-whole (down (m * b) b) m b pos (rounded-down (m * b) b pos)
-
-pub up-whole : (m b : ℕ) → 0 < b → up (m * b) b ≡ m
-up-whole m b pos = rounded-whole (up (m * b) b) m b pos (rounded-up (m * b) b pos)
 
 -- it is decided whether n is a / b rounded down or up
 pub rounded-dec : (n a b : ℕ) → Dec (Rounded n a b)

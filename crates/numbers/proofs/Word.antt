@@ -3,18 +3,18 @@
 --   word n p       the word of the numbers below n that have p
 use mathlib.Core.Path.{_≡_, refl, sym, ap, ap₂, _∙_}
 use mathlib.Core.Logic.{⊎-elim}
-use mathlib.Core.Bool.{Bool, true, false, _&&_, _||_}
-use Prim.Native.Nat.{ℕ, zero, suc, _+_, _*_, _/_, _%_, _^_, _≤_, _<_}
+use mathlib.Core.Bool.{Bool, true, false, not, _&&_, _||_, cond}
+use Prim.Native.Nat.{ℕ, zero, suc, _+_, _*_, _-_, _/_, _%_, _^_, _≤_, _<_}
 use native.Mathlib.Nat.{not-suc-le-zero, div-one, div-eq-of-lt, mod-eq-of-lt, one-mul, mod-lt, lt-of-not-le, le-trans, pow-suc}
 use native.Mathlib.Numerals.{add-one, one-add}
 use native.Mathlib.Omega.{arith}
 use lib.Arith.{half-le}
-use lib.Bits.{bitOr, bitAnd, or-shr, or-mod, and-shr, and-mod, shifted-half, shifted-even, or-zero-r}
-use lib.Dec.{T, eqb, ltb, eqb→eq, lit<, ltb→lt, lt→ltb, eqb·zero-suc, eqb·suc-zero, eqb·suc-suc}
+use lib.Bits.{bitOr, bitAnd, bitXor, or-shr, or-mod, and-shr, and-mod, xor-shr, xor-mod, shifted-half, shifted-even, or-zero-r}
+use lib.Dec.{T, eqb, leb, ltb, eqb→eq, lit<, leb→le, le→leb, ltb→lt, lt→ltb, eqb·zero-suc, eqb·suc-zero, eqb·suc-suc}
 use lib.Pow.{pow-pos, pow-mono, pow-lt, shr-shr}
 use Rattle.numbers.specs.Finite.{only}
-use Rattle.numbers.specs.Word.{bit}
-use Rattle.numbers.proofs.Truth.{both, fst, snd, orl, orr, or-cases, same, along, is-false, of-false, eqb-of, is-true}
+use Rattle.numbers.specs.Word.{bit, Stretch}
+use Rattle.numbers.proofs.Truth.{both, fst, snd, orl, orr, or-cases, same, along, is-false, eqb-of, is-true}
 use Rattle.numbers.proofs.Finite.{below, only-true, only-false}
 
 unfoldable pub word : ℕ → (ℕ → Bool) → ℕ
@@ -73,6 +73,12 @@ bit-and v w i =
     ap (λ (k : ℕ). eqb (k % 2) 1) (and-shr v w i) ∙ ap (λ (k : ℕ). eqb k 1) (and-mod (v / 2 ^ i) (w / 2 ^ i) 1)
     ∙ low-digits (λ a b. eqb (bitAnd a b) 1 ≡ (eqb a 1 && eqb b 1)) refl refl refl refl (v / 2 ^ i) (w / 2 ^ i)
 
+pub bit-xor : (v w i : ℕ) → bit (bitXor v w) i ≡ cond (bit v i) (not (bit w i)) (bit w i)
+unfolding bit
+bit-xor v w i =
+    ap (λ (k : ℕ). eqb (k % 2) 1) (xor-shr v w i) ∙ ap (λ (k : ℕ). eqb k 1) (xor-mod (v / 2 ^ i) (w / 2 ^ i) 1)
+    ∙ low-digits (λ a b. eqb (bitXor a b) 1 ≡ cond (eqb a 1) (not (eqb b 1)) (eqb b 1)) refl refl refl refl (v / 2 ^ i) (w / 2 ^ i)
+
 half-pow : (i : ℕ) → 2 ^ suc i / 2 ≡ 2 ^ i
 half-pow i = ap (λ (k : ℕ). k / 2) (sym (one-mul (2 ^ suc i))) ∙ shifted-half 1 i ∙ one-mul (2 ^ i)
 
@@ -84,6 +90,45 @@ bit-pow zero zero = bit-low 1
 bit-pow zero (suc j) = bit-suc 1 j ∙ bit-zero j ∙ sym (eqb·suc-zero j)
 bit-pow (suc i) zero = bit-low (2 ^ suc i) ∙ ap (λ (k : ℕ). eqb k 1) (even-pow i) ∙ sym (eqb·zero-suc i)
 bit-pow (suc i) (suc j) = bit-suc (2 ^ suc i) j ∙ ap (λ (k : ℕ). bit k j) (half-pow i) ∙ bit-pow i j ∙ sym (eqb·suc-suc j i)
+
+-- ---- a stretch of bits
+
+pub inside : (a b k : ℕ) → T (leb a k && ltb k b) → (a ≤ k) × (k < b)
+inside a b k t = (leb→le a k (fst (leb a k) (ltb k b) t), ltb→lt k b (snd (leb a k) (ltb k b) t))
+
+-- a test that holds just when k is inside
+within : (a b k : ℕ) {p : Bool} → (T p → (a ≤ k) × (k < b)) → ((a ≤ k) × (k < b) → T p) → p ≡ (leb a k && ltb k b)
+within a b k {p} f g =
+    same p (leb a k && ltb k b)
+    (λ t. let w = f t in both (leb a k) (ltb k b) (le→leb a k (w .0)) (lt→ltb k b (w .1)))
+    (λ t. g (inside a b k t))
+
+-- no bit at all
+pub stretch-none : (a b : ℕ) → b ≤ a → Stretch a b 0
+stretch-none a b h = record {
+  bits = λ k. bit-zero k ∙ within a b k (λ t. absurd t) (λ w. let z : ⊥ = omega arith in absurd z);
+}
+
+pub stretch-pow : (k a b : ℕ) → a ≤ b → bit (2 ^ b - 2 ^ a) k ≡ (leb a k && ltb k b)
+stretch-pow k zero zero h = stretch-none 0 0 h .bits k
+stretch-pow k (suc a) zero h = absurd (not-suc-le-zero h)
+stretch-pow zero zero (suc b) h =
+    let odd : (2 ^ suc b - 2 ^ 0) % 2 ≡ 1 = omega (arith, pow-suc 2 b, pow-pos b) in
+    bit-low (2 ^ suc b - 2 ^ 0) ∙ ap (λ (x : ℕ). eqb x 1) odd ∙ within 0 (suc b) 0 (λ t. (omega arith, omega arith)) (λ w. tt)
+stretch-pow zero (suc a) (suc b) h =
+    let even : (2 ^ suc b - 2 ^ suc a) % 2 ≡ 0 = omega (arith, pow-suc 2 b, pow-suc 2 a) in
+    bit-low (2 ^ suc b - 2 ^ suc a) ∙ ap (λ (x : ℕ). eqb x 1) even
+    ∙ within (suc a) (suc b) 0 (λ t. absurd t) (λ w. let z : ⊥ = omega arith in absurd z)
+stretch-pow (suc k) zero (suc b) h =
+    let half : (2 ^ suc b - 2 ^ 0) / 2 ≡ 2 ^ b - 2 ^ 0 = omega (arith, pow-suc 2 b, pow-pos b) in
+    bit-suc (2 ^ suc b - 2 ^ 0) k ∙ ap (λ (x : ℕ). bit x k) half ∙ stretch-pow k zero b (omega arith)
+    ∙ within 0 (suc b) (suc k) (λ t. let w = inside 0 b k t in (omega arith, omega arith))
+    (λ w. both (leb 0 k) (ltb k b) (le→leb 0 k (omega arith)) (lt→ltb k b (omega arith)))
+stretch-pow (suc k) (suc a) (suc b) h =
+    let half : (2 ^ suc b - 2 ^ suc a) / 2 ≡ 2 ^ b - 2 ^ a = omega (arith, pow-suc 2 b, pow-suc 2 a) in
+    bit-suc (2 ^ suc b - 2 ^ suc a) k ∙ ap (λ (x : ℕ). bit x k) half ∙ stretch-pow k a b (omega arith)
+    ∙ within (suc a) (suc b) (suc k) (λ t. let w = inside a b k t in (omega arith, omega arith))
+    (λ w. both (leb a k) (ltb k b) (le→leb a k (omega arith)) (lt→ltb k b (omega arith)))
 
 -- ---- the bits fix the word
 
@@ -113,16 +158,6 @@ lt-of-bits (suc n) w h =
     omega (arith, pow-suc 2 n, lt-of-bits n (w / 2) (λ i l t. h (suc i) (omega arith) (along (sym (bit-suc w i)) t)))
 
 -- ---- words that share no bit
-
-pub and-zero : (v w : ℕ) → ((i : ℕ) → T (bit v i) → T (bit w i) → ⊥) → bitAnd v w ≡ 0
-and-zero v w h =
-    bit-ext (bitAnd v w) 0
-    (λ i. bit-and v w i
-    ∙ is-false (bit v i && bit w i) (λ t. h i (fst (bit v i) (bit w i) t) (snd (bit v i) (bit w i) t)) ∙ sym (bit-zero i))
-
-pub apart-of-and : (v w : ℕ) → bitAnd v w ≡ 0 → (i : ℕ) → T (bit v i) → T (bit w i) → ⊥
-apart-of-and v w e i p q =
-    of-false (sym (bit-and v w i) ∙ ap (λ (k : ℕ). bit k i) e ∙ bit-zero i) (both (bit v i) (bit w i) p q)
 
 -- ---- the word of a set
 
@@ -159,14 +194,6 @@ bit-word (suc n) p i =
 pub word-lt : (n : ℕ) (p : ℕ → Bool) → word n p < 2 ^ n
 word-lt n p =
     lt-of-bits n (word n p) (λ i h t. omega (arith, ltb→lt i n (fst (ltb i n) (p i) (along (bit-word n p i) t))))
-
--- a word is the word of its bits
-pub word-bit : (n w : ℕ) → w < 2 ^ n → word n (bit w) ≡ w
-word-bit n w h =
-    bit-ext (word n (bit w)) w
-    (λ i. bit-word n (bit w) i
-    ∙ same (ltb i n && bit w i) (bit w i) (snd (ltb i n) (bit w i))
-    (λ t. both (ltb i n) (bit w i) (lt→ltb i n (bit-lt n w i h t)) t))
 
 -- equal sets, equal words
 pub word-eq : (n : ℕ) (p q : ℕ → Bool) → ((i : ℕ) → i < n → p i ≡ q i) → word n p ≡ word n q

@@ -1,9 +1,14 @@
 -- Words: a number shows the set of its bits.
 --
 --   bit w i        bit i of w is set
-use mathlib.Core.Bool.{Bool}
+--   Stretch a b w  the bits of w that are set are those from a up to b, without b
+use mathlib.Core.Path.{_≡_}
+use mathlib.Core.Bool.{Bool, _&&_}
 use Prim.Native.Nat.{ℕ, _/_, _%_, _^_}
-use lib.Dec.{eqb}
+use lib.Dec.{eqb, leb, ltb}
 
 unfoldable pub bit : ℕ → ℕ → Bool
 bit w i = eqb (w / 2 ^ i % 2) 1
+
+pub record Stretch (a b w : ℕ) : Type 0 where
+  pub bits : (k : ℕ) → bit w k ≡ (leb a k && ltb k b)

@@ -1,7 +1,8 @@
 ghost use mathlib.Core.Path.{_≡_};
-ghost use Prim.Native.Nat.{_^_, _<_, _≤_};
+ghost use Prim.Native.Nat.{_^_, _<_};
 ghost use lib.IntN.{pos, _-ℤ_};
 ghost use Rattle.numbers.specs.Pairs.{IsGcd, IsLcm};
+ghost use Rattle.numbers.specs.Word.{Stretch};
 
 // The greatest common divisor, by remainders.
 pub fn gcd_of(a: u64, b: u64) -> u64
@@ -19,7 +20,7 @@ pub fn gcd_of(a: u64, b: u64) -> u64
 
 // The least common multiple; the bounds keep it a u64.
 pub fn lcm_of(a: u64, b: u64) -> u64
-    requires { ⌜ (0 < a) × (0 < b) × (a ≤ 4096) × (b ≤ 4096) ⌝ }
+    requires { ⌜ (0 < a) × (0 < b) × (a < 2 ^ 32) × (b < 2 ^ 32) ⌝ }
     ensures { λ r. ⌜ IsLcm a b r ⌝ }
 {
     a / gcd_of(a, b) * b
@@ -31,4 +32,15 @@ pub fn less(a: u64, b: u64) -> i64
     ensures { λ r. ⌜ r ≡ pos a -ℤ pos b ⌝ }
 {
     a as i64 - b as i64
+}
+
+// The word of the bits from `a` up to `b`, without `b`.
+pub fn stretch(a: usize, b: usize) -> u64
+    requires { ⌜ b < 64 ⌝ }
+    ensures { λ r. ⌜ Stretch a b r ⌝ }
+{
+    if b <= a {
+        return 0;
+    }
+    (1u64 << b) - (1u64 << a)
 }

@@ -1,16 +1,22 @@
 -- The cut: the lowest-numbered element with no row through it, or M + 1 where every element has some row through it (refusal 10).
-use mathlib.Core.Path.{_≡_}
+use mathlib.Core.Path.{_≡_, refl, sym, ap, ap₂, _∙_}
 use mathlib.Core.Logic.{⊎-elim, _↔_}
-use mathlib.Core.Bool.{true, false}
-use Prim.Native.Nat.{ℕ, suc, _+_, _-_, _≤_, _<_}
+use mathlib.Core.Bool.{Bool, true, false, not, _&&_, _||_}
+use Prim.Native.Nat.{ℕ, suc, _+_, _-_, _/_, _%_, _^_, _≤_, _<_}
 use native.Mathlib.Omega.{arith}
-use lib.Dec.{T}
+use lib.Bits.{bitOr}
+use lib.Dec.{T, eqb, leb, ltb, le→leb, ltb→lt, lt→ltb}
+use lib.Pow.{shr-shr}
 use Rattle.numbers.specs.Finite.{any}
-use Rattle.numbers.proofs.Truth.{refuted, refutes, decide, is-false, of-true, of-false, le-or-lt}
-use Rattle.numbers.proofs.Finite.{any-of, least, lowest-le, lowest-has, lowest-below, lowest-is, lowest-none}
-use Rattle.rules.specs.Bus.{Table, through}
+use Rattle.numbers.specs.Word.{bit, Stretch}
+use Rattle.numbers.proofs.Truth.{both, fst, snd, orl, orr, or-cases, same, refuted, refutes, decide, of-true, of-false, le-or-lt}
+use Rattle.numbers.proofs.Word.{bit-zero, bit-or, inside}
+use Rattle.numbers.proofs.Finite.{any-next, any-of, least, lowest-le, lowest-has, lowest-below, lowest-is, lowest-none}
+use Rattle.rules.specs.Bus.{Table, steps, through, routeThrough}
 use Rattle.rules.specs.Line.{clear, cut}
 use Rattle.rules.specs.Refusals.{no-cut}
+use Rattle.ring.specs.Route.{Element, Shows}
+use Rattle.ring.proofs.Clockwise.{steps-cases, steps-less}
 
 -- ---- clear elements
 
@@ -18,13 +24,6 @@ use Rattle.rules.specs.Refusals.{no-cut}
 clear-none : (t : Table) (e i : ℕ) → T (clear t e) → i < t .rows → T (through t i e) → ⊥
 unfolding clear
 clear-none t e i h l p = refutes (any (t .rows) (λ j. through t j e)) h (any-of (t .rows) (λ j. through t j e) i l p)
-
-pub not-clear-by : (t : Table) (e i : ℕ) → i < t .rows → through t i e ≡ true → clear t e ≡ false
-not-clear-by t e i l p = is-false (clear t e) (λ h. clear-none t e i h l (of-true p))
-
-pub clear-of : (t : Table) (e : ℕ) → any (t .rows) (λ i. through t i e) ≡ false → clear t e ≡ true
-unfolding clear
-clear-of t e h = rw h
 
 -- some row goes through an element that is not clear
 not-clear : (t : Table) (e : ℕ) → (T (clear t e) → ⊥) → (i : ℕ) × (i < t .rows) × T (through t i e)
@@ -70,6 +69,73 @@ cut-none t = (
       (le-or-lt (cut t) (t .elements)),
   λ z e w. cut-lowest t e (w .0) (omega arith),
 )
+
+-- ---- the elements that rows go through, as a word
+
+or-swap : (a b c d : Bool) → ((a || b) || (c || d)) ≡ ((a || c) || (b || d))
+or-swap true b c d = refl
+or-swap false true true d = refl
+or-swap false true false d = refl
+or-swap false false c d = refl
+
+pub shows-none : (M : ℕ) (t : Table) → Shows M 0 (λ e. any 0 (λ i. through t i e))
+unfolding any
+shows-none M t = record { element = λ e h. ap₂ _||_ (bit-zero e) (bit-zero (M + e)) }
+
+-- one row more
+pub shows-next : {M v w : ℕ} (i : ℕ) (t : Table) → Shows M v (λ e. any i (λ k. through t k e)) → Shows M w (through t i)
+    → Shows M (bitOr v w) (λ e. any (i + 1) (λ k. through t k e))
+shows-next {M} {v} {w} i t before row = record {
+  element = λ e h.
+      ap₂ _||_ (bit-or v w e) (bit-or v w (M + e)) ∙ or-swap (bit v e) (bit w e) (bit v (M + e)) (bit w (M + e))
+      ∙ ap₂ _||_ (before .element e h) (row .element e h) ∙ sym (any-next i (λ k. through t k e));
+}
+
+-- bit M + e brought to bit e
+pub shows-clear : {M w : ℕ} (t : Table) → Shows M w (λ e. any (t .rows) (λ i. through t i e)) → (e : ℕ) → Element M e
+    → not (bit (bitOr w (w / 2 ^ M)) e) ≡ clear t e
+unfolding clear bit
+shows-clear {M} {w} t S e h =
+    ap not (bit-or w (w / 2 ^ M) e ∙ ap (λ (b : Bool). bit w e || b) (ap (λ (k : ℕ). eqb (k % 2) 1) (shr-shr w M e)) ∙ S .element e h)
+
+-- a route that goes through e comes to it as element e, or as element M + e once round
+module _ {M a b e : ℕ} (ea : Element M a) (eb : Element M b) (ee : Element M e) where
+  abbrev goes : Bool
+  goes = ltb 0 (steps M a e) && ltb (steps M a e) (steps M a b)
+
+  abbrev here : ℕ → Bool
+  here k = leb (a + 1) k && ltb k (a + steps M a b)
+
+  stands : (k : ℕ) → a + 1 ≤ k → k < a + steps M a b → T (here k)
+  stands k l m = both (leb (a + 1) k) (ltb k (a + steps M a b)) (le→leb (a + 1) k l) (lt→ltb k (a + steps M a b) m)
+
+  through-here : T (here e || here (M + e)) → T goes
+  through-here h =
+      let less : steps M a b < M = steps-less ea eb in
+      let go : 0 < steps M a e → steps M a e < steps M a b → T goes =
+      λ l m. both (ltb 0 (steps M a e)) _ (lt→ltb _ _ l) (lt→ltb _ _ m) in
+      ⊎-elim
+      (λ k.
+      let w = inside (a + 1) (a + steps M a b) e k in
+      ⊎-elim (λ u. go (omega arith) (omega arith)) (λ u. absurd (let z : ⊥ = omega arith in z)) (steps-cases ea ee))
+      (λ k.
+      let w = inside (a + 1) (a + steps M a b) (M + e) k in
+      ⊎-elim (λ u. absurd (let z : ⊥ = omega arith in z)) (λ u. go (omega arith) (omega arith)) (steps-cases ea ee))
+      (or-cases (here e) (here (M + e)) h)
+
+  here-through : T goes → T (here e || here (M + e))
+  here-through h =
+      let l : 0 < steps M a e = ltb→lt _ _ (fst (ltb 0 (steps M a e)) _ h) in
+      let m : steps M a e < steps M a b = ltb→lt _ _ (snd (ltb 0 (steps M a e)) _ h) in
+      ⊎-elim
+      (λ u. orl (here e) (here (M + e)) (stands e (omega arith) (omega arith)))
+      (λ u. orr (here e) (here (M + e)) (stands (M + e) (omega arith) (omega arith)))
+      (steps-cases ea ee)
+
+pub stretch-shows : {M a b w : ℕ} → Element M a → Element M b → Stretch (a + 1) (a + steps M a b) w → Shows M w (routeThrough M a b)
+stretch-shows {M} ea eb S = record {
+  element = λ e ee. ap₂ _||_ (S .bits e) (S .bits (M + e)) ∙ same _ _ (through-here ea eb ee) (here-through ea eb ee);
+}
 
 -- ---- the search for it, from element 1 up
 

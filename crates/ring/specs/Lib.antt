@@ -1,2 +1,2 @@
 pub mod Route
-pub mod Laid
+pub mod Rows

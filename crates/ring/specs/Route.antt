@@ -1,28 +1,26 @@
--- Routes round a ring of M elements, by their two ends, and places on the line that begins at a cut. Document 01 says these of a table's
--- rows; here they are said of any elements, so that they serve each ring and each way to divide a row.
+-- Elements of a ring of M, and their numbers on the line that begins at a cut. Document 01 says these of a table's rows; here they are said
+-- of any elements, so that they serve each ring and each way to divide a row.
 --
 --   Element M e            e is one of the elements 1 to M; segments have the same numbers
---   routeUses M a b s      the route from element a clockwise to element b uses segment s
---   routeThrough M a b e   it goes through element e
---   place M c e            element e's number on the line, clockwise from the cut c as 1, 2, and so on
---   endPlace M c e         the same for a second end: M + 1 at the cut
-use mathlib.Core.Bool.{Bool, _&&_, cond}
+--   Shows M w p            word w shows the elements that have p: element e by bit e, or by bit M + e
+--   lineElement M c e      element e's number on the line, clockwise from the cut c as 1, 2, and so on
+--   lineEnd M c e          the same for a second end: M + 1 at the cut
+use mathlib.Core.Path.{_≡_}
+use mathlib.Core.Bool.{Bool, _||_, cond}
 use Prim.Native.Nat.{ℕ, suc, _+_, _≤_}
-use lib.Dec.{ltb, eqb}
+use lib.Dec.{eqb}
+use Rattle.numbers.specs.Word.{bit}
 use Rattle.rules.specs.Bus.{steps}
 
 pub record Element (M e : ℕ) : Type 0 where
   pub low : 1 ≤ e
   pub high : e ≤ M
 
-unfoldable pub routeUses : ℕ → ℕ → ℕ → ℕ → Bool
-routeUses M a b s = ltb (steps M a s) (steps M a b)
+pub record Shows (M w : ℕ) (p : ℕ → Bool) : Type 0 where
+  pub element : (e : ℕ) → Element M e → (bit w e || bit w (M + e)) ≡ p e
 
-unfoldable pub routeThrough : ℕ → ℕ → ℕ → ℕ → Bool
-routeThrough M a b e = ltb 0 (steps M a e) && routeUses M a b e
+unfoldable pub lineElement : ℕ → ℕ → ℕ → ℕ
+lineElement M c e = suc (steps M c e)
 
-unfoldable pub place : ℕ → ℕ → ℕ → ℕ
-place M c e = suc (steps M c e)
-
-unfoldable pub endPlace : ℕ → ℕ → ℕ → ℕ
-endPlace M c e = cond (eqb e c) (M + 1) (place M c e)
+unfoldable pub lineEnd : ℕ → ℕ → ℕ → ℕ
+lineEnd M c e = cond (eqb e c) (M + 1) (lineElement M c e)

@@ -2,14 +2,16 @@
 // what they cost, when they come and which file they came from is not known.
 use table::Table;
 ghost use mathlib.Core.Path.{_≡_};
-ghost use Prim.Native.Nat.{_+_, _≤_, _<_};
+ghost use mathlib.Core.Bool.{not};
+ghost use Prim.Native.Nat.{ℕ, _+_, _≤_, _<_};
 ghost use Rattle.numbers.specs.Lists.{at};
+ghost use Rattle.numbers.specs.Word.{bit};
 ghost use Rattle.rules.specs.Bounds.{max-elements};
 ghost use Rattle.rules.specs.Bus as bus;
 ghost use Rattle.rules.specs.Line as line;
 ghost use Rattle.ring.specs.Route as route;
-ghost use Rattle.ring.specs.Route.{Element};
-ghost use Rattle.ring.specs.Laid.{Routes, onRing, Laid};
+ghost use Rattle.ring.specs.Route.{Element, Shows};
+ghost use Rattle.ring.specs.Rows.{Routes, onRing, Renumbered};
 
 // The rows' ends on the line, 0 past the last row.
 pub struct Line {
@@ -25,55 +27,53 @@ fn steps(m: usize, from: usize, to: usize) -> usize
     if from <= to { to - from } else { to + m - from }
 }
 
-// The route from element `from` clockwise to element `to` goes through `e`.
-fn through(m: usize, from: usize, to: usize, e: usize) -> bool
-    requires { ⌜ (m ≤ max-elements) × Element m from × Element m to × Element m e ⌝ }
-    ensures { λ r. ⌜ r ≡ route.routeThrough m from to e ⌝ }
+// The elements that the route from element `from` clockwise to element `to` goes through: bit e shows element e, or bit m + e where the
+// route has passed from element m to element 1.
+fn through(m: usize, from: usize, to: usize) -> u64
+    requires { ⌜ (m ≤ max-elements) × Element m from × Element m to ⌝ }
+    ensures { λ r. ⌜ Shows m r (bus.routeThrough m from to) ⌝ }
 {
-    let on = steps(m, from, e);
-    0 < on && on < steps(m, from, to)
+    numbers::stretch(from + 1, from + steps(m, from, to))
 }
 
 // Element `e`'s number on the line that begins at `cut`.
-fn place(m: usize, cut: usize, e: usize) -> usize
+fn line_element(m: usize, cut: usize, e: usize) -> usize
     requires { ⌜ (m ≤ max-elements) × Element m cut × Element m e ⌝ }
-    ensures { λ r. ⌜ (r ≡ route.place m cut e) × (r ≤ m) ⌝ }
+    ensures { λ r. ⌜ (r ≡ route.lineElement m cut e) × (r ≤ m) ⌝ }
 {
     steps(m, cut, e) + 1
 }
 
 // The same for a second end, which at the cut stands at the end of the line.
-fn end_place(m: usize, cut: usize, e: usize) -> usize
+fn line_end(m: usize, cut: usize, e: usize) -> usize
     requires { ⌜ (m ≤ max-elements) × Element m cut × Element m e ⌝ }
-    ensures { λ r. ⌜ (r ≡ route.endPlace m cut e) × (r ≤ m + 1) ⌝ }
+    ensures { λ r. ⌜ (r ≡ route.lineEnd m cut e) × (r ≤ m + 1) ⌝ }
 {
-    if e == cut { m + 1 } else { place(m, cut, e) }
+    if e == cut {
+        m + 1
+    } else {
+        line_element(m, cut, e)
+    }
 }
 
-// No row goes through element `e`.
-fn is_clear<'a>(
+// The elements that some row goes through: bit e shows element e.
+fn through_rows<'a>(
     elements: usize,
     rows: usize,
     first: &'a [u8; Table::ROWS],
     second: &'a [u8; Table::ROWS],
-    e: usize,
-) -> bool
-    requires { ⌜ Routes elements rows (at (now first)) (at (now second)) × Element elements e ⌝ }
-    ensures { λ r. ⌜ r ≡ line.clear (onRing elements rows (at (now (first .entry))) (at (now (second .entry)))) e ⌝ }
+) -> u64
+    requires { ⌜ Routes elements rows (at (now first)) (at (now second)) ⌝ }
+    ensures { λ r. ⌜ ((e : ℕ) → Element elements e
+        → not (bit r e) ≡ line.clear (onRing elements rows (at (now (first .entry))) (at (now (second .entry)))) e) ⌝ }
 {
+    let mut word: u64 = 0;
     let mut i: usize = 0;
     while i < rows {
-        if through(
-            elements,
-            table::end_at(first, i),
-            table::end_at(second, i),
-            e,
-        ) {
-            return false;
-        }
+        word = word | through(elements, table::end_at(first, i), table::end_at(second, i));
         i += 1;
     }
-    true
+    word | (word >> elements)
 }
 
 // The lowest-numbered element with no row through it; one past the last where there is none.
@@ -86,9 +86,10 @@ pub fn find_cut<'a>(
     requires { ⌜ Routes elements rows (at (now first)) (at (now second)) ⌝ }
     ensures { λ r. ⌜ r ≡ line.cut (onRing elements rows (at (now (first .entry))) (at (now (second .entry)))) ⌝ }
 {
+    let word = through_rows(elements, rows, first, second);
     let mut e: usize = 1;
     while e <= elements {
-        if is_clear(elements, rows, first, second, e) {
+        if (word >> e) % 2 == 0 {
             return e;
         }
         e += 1;
@@ -105,14 +106,14 @@ pub fn lay<'a>(
     cut: usize,
 ) -> Line
     requires { ⌜ Routes elements rows (at (now first)) (at (now second)) × Element elements cut ⌝ }
-    ensures { λ r. ⌜ Laid elements cut rows (at (now (first .entry))) (at (now (second .entry))) r ⌝ }
+    ensures { λ r. ⌜ Renumbered elements cut rows (at (now (first .entry))) (at (now (second .entry))) r ⌝ }
 {
     let mut start = [0u8; Table::ROWS];
     let mut end = [0u8; Table::ROWS];
     let mut i: usize = 0;
     while i < rows {
-        start[i] = place(elements, cut, table::end_at(first, i)) as u8;
-        end[i] = end_place(elements, cut, table::end_at(second, i)) as u8;
+        start[i] = line_element(elements, cut, table::end_at(first, i)) as u8;
+        end[i] = line_end(elements, cut, table::end_at(second, i)) as u8;
         i += 1;
     }
     Line {

@@ -2,7 +2,9 @@
 --
 --   Table              M elements round a ring and rows numbered from 0
 --   steps M a b        how many segments lie from element a clockwise to element b
+--   routeUses M a b s      the route from element a clockwise to element b uses segment s
 --   uses t i s         row i's route uses segment s
+--   routeThrough M a b e   that route goes through element e
 --   through t i e      row i goes through element e
 --   overlap t i j      rows i and j overlap: their routes share a segment
 --
@@ -26,12 +28,18 @@ unfoldable pub steps : ℕ → ℕ → ℕ → ℕ
 steps M a b = (b + M - a) % M
 
 -- The route runs clockwise from first to second and uses every segment on the way: those that begin at an element before its end.
+abbrev pub routeUses : (M a b s : ℕ) → Bool
+routeUses M a b s = ltb (steps M a s) (steps M a b)
+
 unfoldable pub uses : Table → ℕ → ℕ → Bool
-uses t i s = ltb (steps (t .elements) (t .first i) s) (steps (t .elements) (t .first i) (t .second i))
+uses t i s = routeUses (t .elements) (t .first i) (t .second i) s
 
 -- The element lies on the route and is neither end.
+abbrev pub routeThrough : (M a b e : ℕ) → Bool
+routeThrough M a b e = ltb 0 (steps M a e) && routeUses M a b e
+
 unfoldable pub through : Table → ℕ → ℕ → Bool
-through t i e = ltb 0 (steps (t .elements) (t .first i) e) && uses t i e
+through t i e = routeThrough (t .elements) (t .first i) (t .second i) e
 
 unfoldable pub overlap : Table → ℕ → ℕ → Bool
 overlap t i j = any (t .elements) (λ s. uses t i (suc s) && uses t j (suc s))

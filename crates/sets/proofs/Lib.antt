@@ -4,3 +4,4 @@ pub mod List
 pub mod Transfer
 pub mod Loops
 pub mod Listed
+pub mod Sums

@@ -9,14 +9,14 @@ use lib.ListN.{length, take}
 use Rattle.numbers.specs.Lists.{at}
 use Rattle.rules.specs.Bounds.{max-rows}
 use Rattle.rules.specs.Line.{meet, SetList}
+use Rattle.sets.specs.Walk.{line-size}
 
--- A byte holds each of the line's elements.
 pub record OnLine (n : ℕ) (first second : ℕ → ℕ) (top : ℕ) : Type 0 where
   pub some : 0 < n
   pub few : n ≤ max-rows
   pub line : (i : ℕ) → i < n → first i < second i
   pub within : (i : ℕ) → i < n → second i ≤ top
-  pub short : top < 256
+  pub short : top < line-size
 
 -- Only one count and one list of words fit (proofs/Listed).
 pub record Listed (n : ℕ) (first second : ℕ → ℕ) (k : ℕ) (words : List ℕ) : Type 0 where

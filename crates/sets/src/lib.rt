@@ -1,12 +1,15 @@
 // The overlap sets of rows on a line, listed by one walk up the line (document 01, "From ring to line").
 //
 // An overlap set is the rows across its least second end (proofs/Overlap), and the rows across a second end are an overlap set just when
-// some row has started since the second end before it. So one bool finds the sets, in their order, and nothing is sorted.
+// some row has started since the second end before it. So a word and a bool find the sets, in their order, and nothing is sorted.
 use table::Table;
-ghost use Prim.Native.Nat.{_≤_};
+ghost use mathlib.Core.Path.{_≡_};
+ghost use Prim.Native.Nat.{ℕ, _*_, _≤_, _<_};
+ghost use Rattle.numbers.specs.Finite.{sumIn};
+ghost use Rattle.numbers.specs.Word.{bit};
 ghost use Rattle.numbers.specs.Lists.{at};
-ghost use Rattle.rules.specs.Bounds.{max-rows};
-ghost use Rattle.sets.specs.Walk.{Passed};
+ghost use Rattle.rules.specs.Bounds.{max-rows, max-slots};
+ghost use Rattle.sets.specs.Walk.{line-size, RowsAt};
 ghost use Rattle.sets.specs.Sets.{OnLine, Listed};
 
 // The words of the overlap sets, by ascending least second end; those from `count` on are 0.
@@ -15,40 +18,24 @@ pub struct Sets {
     pub words: [u64; Table::ROWS],
 }
 
-// Whether some row starts at an element, whether some row ends there, and the word of the rows across it.
-struct Pass {
-    starts: bool,
-    ends: bool,
-    across: u64,
+impl Sets {
+    // A line's elements are 1 to M + 1, and an array by element has a place 0 too.
+    const LINE: usize = Table::ELEMENTS + 2;
 }
 
-fn pass_rows(first: &[u8; Table::ROWS], second: &[u8; Table::ROWS], rows: usize, e: u8) -> Pass
-    requires { ⌜ rows ≤ max-rows ⌝ }
-    ensures { λ r. ⌜ Passed rows (at (now (first .entry))) (at (now (second .entry))) e (r .starts) (r .ends) (r .across) ⌝ }
+// For each element of the line the word of the rows that have this end there.
+fn rows_at(ends: &[u8; Table::ROWS], rows: usize) -> [u64; Sets::LINE]
+    requires { ⌜ (rows ≤ max-rows) × ((i : ℕ) → i < rows → at (now ends) i < line-size) ⌝ }
+    ensures { λ r. ⌜ RowsAt rows (at (now (ends .entry))) r ⌝ }
 {
-    let mut starts = false;
-    let mut ends = false;
-    let mut across: u64 = 0;
+    let mut words = [0u64; Sets::LINE];
     let mut i: usize = 0;
     while i < rows {
-        let from = first[i];
-        let to = second[i];
-        if from == e {
-            starts = true;
-        }
-        if to == e {
-            ends = true;
-        }
-        if from < e && e <= to {
-            across = across | (1u64 << i);
-        }
+        let e = table::end_at(ends, i);
+        words[e] = words[e] | (1u64 << i);
         i += 1;
     }
-    Pass {
-        starts,
-        ends,
-        across,
-    }
+    words
 }
 
 // The overlap sets of the first `rows` rows, which run from first to second on a line whose last element is `top`.
@@ -61,23 +48,44 @@ pub fn list_sets(
     requires { ⌜ OnLine rows (at (now first)) (at (now second)) top ⌝ }
     ensures { λ r. ⌜ Listed rows (at (now (first .entry))) (at (now (second .entry))) (r .count) (r .words) ⌝ }
 {
+    let starts = rows_at(first, rows);
+    let ends = rows_at(second, rows);
     let mut words = [0u64; Table::ROWS];
     let mut count: usize = 0;
     let mut started = false;
+    let mut across: u64 = 0;
     let mut e: usize = 0;
     while e <= top {
-        let here = pass_rows(first, second, rows, e as u8);
-        if here.ends {
+        let starting = starts[e];
+        let ending = ends[e];
+        if ending != 0 {
             if started {
-                words[count] = here.across;
+                words[count] = across;
                 count += 1;
             }
             started = false;
         }
-        if here.starts {
+        if starting != 0 {
             started = true;
         }
+        across = (across ^ ending) | starting;
         e += 1;
     }
     Sets { count, words }
+}
+
+// The sum of `xs` over the rows of the set whose word is `word`.
+pub fn sum_in(rows: usize, word: u64, xs: &[u64; Table::ROWS]) -> u64
+    requires { ⌜ (rows ≤ max-rows) × ((i : ℕ) → i < rows → at (now xs) i ≤ max-slots) ⌝ }
+    ensures { λ r. ⌜ (r ≡ sumIn rows (bit word) (at (now (xs .entry)))) × (r ≤ max-rows * max-slots) ⌝ }
+{
+    let mut sum: u64 = 0;
+    let mut i: usize = 0;
+    while i < rows {
+        if (word >> i) % 2 == 1 {
+            sum += xs[i];
+        }
+        i += 1;
+    }
+    sum
 }

@@ -1,30 +1,17 @@
 -- What the loops leave that write a table, row by row, to the front of a lent slice.
 use mathlib.Core.Path.{_≡_, sym, ap, _∙_}
-use mathlib.Core.List.{List, _++_, append-assoc, append-nil}
+use mathlib.Core.List.{List, _++_}
 use Prim.Native.Nat.{ℕ, _+_, _≤_}
 use native.Mathlib.Omega.{arith}
 use lib.ListN.{length, take, drop, length-append}
 use lib.Seq.{sets, drop-drop}
-use Rattle.numbers.specs.Lists.{each}
-use Rattle.numbers.proofs.Lists.{Filled, filled-start, filled-take, filled-drop, each-none, each-next}
+use Rattle.numbers.proofs.Lists.{Filled, filled-start, filled-take, filled-drop}
 use Rattle.rules.specs.Bus.{Table}
 use Rattle.rules.specs.TableFile.{memoryRow, fileRow}
 use Rattle.rules.specs.Calls.{lent}
 use Rattle.table.specs.declared.Row.{Row}
 use Rattle.table.specs.Rows.{IsRow, inMemory, inFile}
 use Rattle.numbers.proofs.Lists.{filled-sets}
-
--- no row, after p
-pub filled-rows : {was out : List ℕ} {n : ℕ} (p : List ℕ) (f : ℕ → List ℕ) → Filled was out n p → Filled was out n (p ++ each 0 f)
-filled-rows p f F = rw (each-none f, append-nil) F
-
--- row i more, after p and the rows before it
-pub filled-row : {was out out′ : List ℕ} {n i : ℕ} (p : List ℕ) (f : ℕ → List ℕ) (vs : List ℕ) (m : ℕ) → Filled was out n (p ++ each i f)
-    → out′ ≡ sets out n vs → vs ≡ f i → m ≡ n + length vs → m ≤ length was → Filled was out′ m (p ++ each (i + 1) f)
-filled-row {i = i} p f vs m F o e q l =
-    let same : (p ++ each i f) ++ vs ≡ p ++ each (i + 1) f =
-    append-assoc p (each i f) vs ∙ ap (λ (r : List ℕ). p ++ r) (ap (λ (r : List ℕ). each i f ++ r) e ∙ sym (each-next i f)) in
-    rw o (rw same at (filled-sets vs m F q l))
 
 -- a header of k places, and then the rest with the header kept
 pub lent-headed : (was mid out h rest : List ℕ) (k : ℕ) → length h ≡ k → k ≤ length was → mid ≡ sets was 0 h

@@ -1,7 +1,6 @@
 pub mod Faults
 pub mod Fills
 pub mod Calls
-pub mod Codec
 pub mod RoundTrip
 pub mod ByRow
 pub mod Decoding

@@ -4,13 +4,13 @@
 --   Bytes f            every number of f is a byte
 use mathlib.Core.Path.{_≡_, refl, sym, ap, ap₂, _∙_}
 use mathlib.Core.List.{List, [], _∷_, _++_}
-use Prim.Native.Nat.{ℕ, _+_, _*_, _/_, _%_, _≤_, _<_}
+use Prim.Native.Nat.{ℕ, _+_, _*_, _≤_, _<_}
 use native.Mathlib.Nat.{mul-comm, add-zero, zero-add, add-assoc}
-use native.Mathlib.Nat.{mod-add-div, mod-eq-of-lt, div-eq-of-lt, add-mul-mod-self-left, add-mul-div-left}
 use native.Mathlib.Omega.{arith}
 use lib.ListN.{length, take, length-append}
 use Rattle.numbers.specs.Lists.{at, each}
 use Rattle.numbers.proofs.Lists.{each-eq, each-length}
+use Rattle.numbers.proofs.Codec.{places, row-place, rows-whole, low-high, low-of, high-of}
 use Rattle.rules.specs.Bus.{Table}
 use Rattle.rules.specs.TableFile.{
   table-mark,
@@ -35,7 +35,6 @@ use Rattle.table.specs.Sound.{Sound}
 use Rattle.table.proofs.Faults.{mark-at, header-split, passed-none, none-passed, file-numbered}
 use Rattle.table.proofs.Faults.{memory-sound, memory-none, memory-numbered}
 use Rattle.rules.proofs.Calls.{lent-take, call-none, call-must}
-use Rattle.table.proofs.Codec.{places, row-place, rows-whole}
 
 pub record Alike (s t : Table) : Type 0 where
   pub elements : s .elements ≡ t .elements
@@ -84,17 +83,6 @@ sound-alike {s} {t} q h = record {
         cost-high = rw (q .cost i m, q .period i m) (r .cost-high);
       };
 }
-
--- ---- 16 bits as two bytes
-
-pub low-high : (x : ℕ) → x % 256 + 256 * (x / 256) ≡ x
-low-high x = mod-add-div x 256
-
-pub low-of : (a b : ℕ) → a < 256 → (a + 256 * b) % 256 ≡ a
-low-of a b l = add-mul-mod-self-left a 256 b ∙ mod-eq-of-lt l
-
-pub high-of : (a b : ℕ) → a < 256 → (a + 256 * b) / 256 ≡ b
-high-of a b l = add-mul-div-left a b {y = 256} (omega arith) ∙ ap (λ (k : ℕ). k + b) (div-eq-of-lt l) ∙ zero-add b
 
 -- ---- what stands in a file, and in a slice
 

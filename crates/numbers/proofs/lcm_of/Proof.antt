@@ -1,4 +1,5 @@
 -- lcm_of: a / gcd × b, which fits as both are small.
+use Prim.Native.Nat.{_-_, _^_, _≤_}
 use native.Mathlib.Nat.{mul-le-mul, div-le-self, le-trans, pos-of-dvd-of-pos}
 use native.Mathlib.Omega.{arith}
 use borrow.Author.Needs.{needs}
@@ -14,7 +15,9 @@ div-result c = pos-of-dvd-of-pos (c .gcd-of .ensures .left) (c .before .pre .0)
 
 mul-result : tie.Need-mul-result
 mul-result c =
-    omega (arith, mul-le-mul (le-trans (div-le-self (c .before .args .a) (c .gcd-of .result)) (c .before .pre .2)) (c .before .pre .3))
+    let a : c .before .args .a ≤ 2 ^ 32 - 1 = omega arith in
+    let b : c .before .args .b ≤ 2 ^ 32 - 1 = omega arith in
+    omega (arith, mul-le-mul (le-trans (div-le-self (c .before .args .a) (c .gcd-of .result)) a) b)
 
 returns : tie.Need-returns
 returns c = pair-lcm-by (c .before .args .a) (c .before .args .b) (c .gcd-of .result) (c .before .pre .0) (c .gcd-of .ensures)

@@ -1,6 +1,6 @@
 -- `ring::lay` meets its contract. The loop's invariant: the rows before row `i` are laid.
 use mathlib.Core.Path.{_≡_, ap, _∙_}
-use Prim.Native.Nat.{ℕ, _-_, _≤_}
+use Prim.Native.Nat.{_-_, _≤_}
 use native.Mathlib.Omega.{arith}
 use Rattle.numbers.specs.Lists.{at}
 use Rattle.table.specs.Columns.{ByRow}
@@ -11,7 +11,7 @@ use Rattle.ring.proofs.lay.Tie as tie
 
 abbrev Inv-loop : tie.InvT-loop
 Inv-loop elements rows first second cut start₀ end₀ i₀ start end i =
-    (i ≤ rows) × ByRow i (λ k. route.place elements cut (at first k)) start × ByRow i (λ k. route.endPlace elements cut (at second k)) end
+    (i ≤ rows) × ByRow i (λ k. route.lineElement elements cut (at first k)) start × ByRow i (λ k. route.lineEnd elements cut (at second k)) end
 
 abbrev μ-loop : tie.MeasureT-loop
 μ-loop elements rows first second cut start₀ end₀ i₀ start end i = rows - i
@@ -22,8 +22,8 @@ loop-holds c = (omega arith, by-row-start _, by-row-start _)
 end-at-requires : tie.Need-end-at-requires Inv-loop μ-loop
 end-at-requires c κs = omega arith
 
-place-requires : tie.Need-place-requires Inv-loop μ-loop
-place-requires c κs = omega (arith, c .before .before .before .pre .0 .starts (c .before .before .loop .i) (omega arith))
+line-element-requires : tie.Need-line-element-requires Inv-loop μ-loop
+line-element-requires c κs = omega (arith, c .before .before .before .pre .0 .starts (c .before .before .loop .i) (omega arith))
 
 cast-start : tie.Need-cast-start Inv-loop μ-loop
 cast-start c = omega arith
@@ -34,8 +34,8 @@ array-write-start c = omega arith
 end-at-requires-2 : tie.Need-end-at-requires-2 Inv-loop μ-loop
 end-at-requires-2 c κs = omega arith
 
-end-place-requires : tie.Need-end-place-requires Inv-loop μ-loop
-end-place-requires c κs =
+line-end-requires : tie.Need-line-end-requires Inv-loop μ-loop
+line-end-requires c κs =
     omega (arith, c .before .before .before .before .before .pre .0 .ends (c .before .before .before .before .loop .i) (omega arith))
 
 cast-end : tie.Need-cast-end Inv-loop μ-loop
@@ -57,9 +57,9 @@ loop-again c =
     let start = c .before .before in (
       omega arith,
       by-row-put _ (inv .1) (omega arith)
-          (start .place .ensures .0 ∙ ap (route.place (z .elements) (z .cut)) (start .before .end-at .ensures)),
+          (start .line-element .ensures .0 ∙ ap (route.lineElement (z .elements) (z .cut)) (start .before .end-at .ensures)),
       by-row-put _ (inv .2) (omega arith)
-          (c .end-place .ensures .0 ∙ ap (route.endPlace (z .elements) (z .cut)) (c .before .end-at2 .ensures)),
+          (c .line-end .ensures .0 ∙ ap (route.lineEnd (z .elements) (z .cut)) (c .before .end-at2 .ensures)),
     )
 
 returns : tie.Need-returns Inv-loop μ-loop
@@ -76,11 +76,11 @@ lay-spec =
     μ-loop
     loop-holds
     end-at-requires
-    place-requires
+    line-element-requires
     cast-start
     array-write-start
     end-at-requires-2
-    end-place-requires
+    line-end-requires
     cast-end
     array-write-end
     add-i

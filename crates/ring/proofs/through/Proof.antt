@@ -1,25 +1,26 @@
 -- `ring::through` meets its contract.
+use native.Mathlib.Omega.{arith}
 use borrow.Author.Needs.{needs}
-use borrow.Author.Tests.{lt-ltb, le-ltb}
-use Rattle.ring.specs.Route.{routeThrough, routeUses}
+use Rattle.ring.proofs.Cut.{stretch-shows}
 use Rattle.ring.proofs.through.Statement.{statement}
 use Rattle.ring.proofs.through.Tie as tie
+
+add-stretch : tie.Need-add-stretch
+add-stretch c = search needs
 
 steps-requires : tie.Need-steps-requires
 steps-requires c κs = search needs
 
-steps-requires-2 : tie.Need-steps-requires-2
-steps-requires-2 c κs = search needs
+add-stretch-2 : tie.Need-add-stretch-2
+add-stretch-2 c = search needs
+
+stretch-requires : tie.Need-stretch-requires
+stretch-requires c κs = omega arith
 
 returns : tie.Need-returns
-unfolding routeThrough routeUses
 returns c =
-    let on = c .before .before .steps in
-    rw (← (on .ensures .0), ← (c .steps2 .ensures .0), lt-ltb 0 (on .result) (c .before .if1 .taken))
-
-returns-2 : tie.Need-returns-2
-unfolding routeThrough routeUses
-returns-2 c = rw (← (c .before .steps .ensures .0), le-ltb 0 (c .before .steps .result) (c .if1 .left))
+    let p = c .before .before .pre in
+    stretch-shows (p .1) (p .2) (rw (c .before .steps .ensures .0) at (c .stretch .ensures))
 
 pub through-spec : {M : Type 1} → statement M
-through-spec = tie.close (tie.spec steps-requires steps-requires-2 returns returns-2)
+through-spec = tie.close (tie.spec add-stretch steps-requires add-stretch-2 stretch-requires returns)

@@ -10,7 +10,8 @@ use Rattle.numbers.proofs.Lists.{Filled, filled-start}
 use Rattle.rules.specs.TableFile.{rowNumbers, memoryRow, numbers}
 use Rattle.rules.proofs.Calls.{filled-lent}
 use Rattle.table.specs.Columns.{columnTable}
-use Rattle.table.proofs.Fills.{filled-rows, filled-row, memory-row}
+use Rattle.numbers.proofs.Codec.{filled-rows, filled-row}
+use Rattle.table.proofs.Fills.{memory-row}
 use Rattle.table.proofs.reader.put_all_numbers.Statement.{statement}
 use Rattle.table.proofs.reader.put_all_numbers.Tie as tie
 

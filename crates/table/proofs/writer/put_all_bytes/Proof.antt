@@ -10,7 +10,8 @@ use Rattle.numbers.proofs.Lists.{Filled}
 use Rattle.rules.specs.TableFile.{headerSize, rowSize, memoryTable, fileRow}
 use Rattle.numbers.proofs.Lists.{filled-front}
 use Rattle.rules.proofs.Calls.{filled-lent}
-use Rattle.table.proofs.Fills.{filled-rows, filled-row, file-row}
+use Rattle.numbers.proofs.Codec.{filled-rows, filled-row}
+use Rattle.table.proofs.Fills.{file-row}
 use Rattle.table.proofs.writer.put_all_bytes.Statement.{statement}
 use Rattle.table.proofs.writer.put_all_bytes.Tie as tie
 

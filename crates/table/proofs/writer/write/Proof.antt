@@ -5,7 +5,7 @@ use lib.ListN.{length}
 use lib.Seq.{length-sets}
 use borrow.Author.Needs.{needs}
 use Rattle.numbers.specs.Lists.{each}
-use Rattle.rules.specs.TableFile.{memoryTable, fileHeader, fileRow, bytes}
+use Rattle.rules.specs.TableFile.{headerSize, memoryTable, fileHeader, fileRow, bytes}
 use Rattle.rules.specs.Refusals.{memory-checks}
 use Rattle.rules.proofs.Answers.{None, none-of}
 use Rattle.table.proofs.Faults.{memory-numbered, memory-sound, ends-fit}
@@ -64,7 +64,7 @@ returns-3 c =
     let a = z .before .before .before .before .before .args in
     let rows = each (a .rows) (fileRow (memoryTable 0 (a .rows) (a .numbers .now))) in
     written-done _ _ _ _ _ _ _ (z .before .before .check-numbers .ensures) (z .if1 .left) (λ l. let z : ⊥ = omega arith in z)
-    (lent-headed (a .out .now) _ _ (fileHeader (a .elements) (a .rows)) rows 7 refl (omega arith)
+    (lent-headed (a .out .now) _ _ (fileHeader (a .elements) (a .rows)) rows headerSize refl (omega arith)
     (c .before .before .before .before .before .before .put-header .ensures) (c .before .before .put-all-bytes .ensures))
 
 pub write-spec : {M : Type 1} → statement M

@@ -1,13 +1,15 @@
--- Files and slices of rows of one size: b places before the first row, k places a row. Nothing here knows what stands in a row.
+-- Files and slices of rows of one size: b places before the first row, k places a row. Nothing here knows what stands in a row, but that a
+-- number of 16 bits is two bytes, low byte first.
 use mathlib.Core.Path.{_≡_, sym, ap, _∙_}
-use mathlib.Core.List.{List, [], _∷_, _++_}
-use Prim.Native.Nat.{ℕ, _+_, _*_, _≤_, _<_}
-use native.Mathlib.Nat.{mul-le-mul-left}
+use mathlib.Core.List.{List, [], _∷_, _++_, append-assoc, append-nil}
+use Prim.Native.Nat.{ℕ, _+_, _*_, _/_, _%_, _≤_, _<_}
+use native.Mathlib.Nat.{mul-le-mul-left, zero-add}
+use native.Mathlib.Nat.{mod-add-div, mod-eq-of-lt, div-eq-of-lt, add-mul-mod-self-left, add-mul-div-left}
 use native.Mathlib.Omega.{arith}
 use lib.ListN.{length, take, drop, length-drop, take-append-drop}
-use lib.Seq.{length-take-le, getD-take, getD-drop, getD-append-add, drop-drop}
+use lib.Seq.{sets, length-take-le, getD-take, getD-drop, getD-append-add, drop-drop}
 use Rattle.numbers.specs.Lists.{at, each}
-use Rattle.numbers.proofs.Lists.{each-eq, each-at, each-windows, each-singles}
+use Rattle.numbers.proofs.Lists.{Filled, filled-sets, each-none, each-next, each-eq, each-at, each-windows, each-singles}
 
 -- the k places from p on, one by one
 pub places : (k p : ℕ) (xs : List ℕ) → p + k ≤ length xs → take k (drop p xs) ≡ each k (λ j. at xs (p + j) ∷ [])
@@ -38,3 +40,28 @@ rows-whole b k n f xs e h =
     let rows : each n f ≡ drop b xs =
     each-eq n f (λ i. take k (drop (i * k) (drop b xs))) row ∙ each-windows n k (drop b xs) (simp length-drop (omega arith)) in
     ap (λ (r : List ℕ). take b xs ++ r) rows ∙ take-append-drop b xs
+
+-- ---- rows written one after the other to the front of a lent list
+
+-- no row, after p
+pub filled-rows : {was out : List ℕ} {n : ℕ} (p : List ℕ) (f : ℕ → List ℕ) → Filled was out n p → Filled was out n (p ++ each 0 f)
+filled-rows p f F = rw (each-none f, append-nil) F
+
+-- row i more, after p and the rows before it
+pub filled-row : {was out out′ : List ℕ} {n i : ℕ} (p : List ℕ) (f : ℕ → List ℕ) (vs : List ℕ) (m : ℕ) → Filled was out n (p ++ each i f)
+    → out′ ≡ sets out n vs → vs ≡ f i → m ≡ n + length vs → m ≤ length was → Filled was out′ m (p ++ each (i + 1) f)
+filled-row {i = i} p f vs m F o e q l =
+    let same : (p ++ each i f) ++ vs ≡ p ++ each (i + 1) f =
+    append-assoc p (each i f) vs ∙ ap (λ (r : List ℕ). p ++ r) (ap (λ (r : List ℕ). each i f ++ r) e ∙ sym (each-next i f)) in
+    rw o (rw same at (filled-sets vs m F q l))
+
+-- ---- 16 bits as two bytes
+
+pub low-high : (x : ℕ) → x % 256 + 256 * (x / 256) ≡ x
+low-high x = mod-add-div x 256
+
+pub low-of : (a b : ℕ) → a < 256 → (a + 256 * b) % 256 ≡ a
+low-of a b l = add-mul-mod-self-left a 256 b ∙ mod-eq-of-lt l
+
+pub high-of : (a b : ℕ) → a < 256 → (a + 256 * b) / 256 ≡ b
+high-of a b l = add-mul-div-left a b {y = 256} (omega arith) ∙ ap (λ (k : ℕ). k + b) (div-eq-of-lt l) ∙ zero-add b
