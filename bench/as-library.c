@@ -1,9 +1,17 @@
-/* Plain C under the names of the library's verdict and plan, so that it can be put in its place. Values and sets come from the library alone. */
+/* Plain C under the library's names, so that it can be put in its place. */
 #include "plain.h"
 #include "ringplan.h"
 
 uint32_t ring_verdict(const uint8_t *file, size_t file_bytes) {
     return plain_verdict(file, file_bytes);
+}
+
+uint32_t ring_values(const uint8_t *file, size_t file_bytes, uint32_t *values, size_t room) {
+    return plain_values(file, file_bytes, values, room);
+}
+
+uint32_t ring_sets(const uint8_t *file, size_t file_bytes, uint64_t *sets, size_t room) {
+    return plain_sets(file, file_bytes, sets, room);
 }
 
 uint32_t ring_plan(const uint8_t *file, size_t file_bytes, uint64_t *plan, size_t plan_words) {

@@ -1,10 +1,9 @@
-/* Measures the library against plain C of the same rules, in one run.
+/* Measures the library against C with its own algorithms (words.c) and against the C that one would write first (plain.c), in one run.
  *
  *     bench            a table of times and ratios
- *     bench --check    only that both give the same words on every table measured; no times
+ *     bench --check    only that all three give the same words on every table measured; no times
  *
- * Each figure is the best of several rounds of CPU time, divided by the calls of a round. Both plan into the same buffer, which is not
- * cleared between calls. */
+ * Times are CPU time in microseconds a call, the best of several rounds. All plan into one buffer, which is not cleared between calls. */
 #include "plain.h"
 #include "ringplan.h"
 
@@ -73,49 +72,92 @@ static int make(struct file *f, unsigned rows, unsigned interval, unsigned inter
         r[4] = (uint8_t)first;
         r[5] = (uint8_t)second;
     }
-    if (ring_verdict(f->byte, f->length)) return 0;
+    if (words_verdict(f->byte, f->length)) return 0;
     for (unsigned turn = 0; turn < 60 * rows; turn++) {
         uint8_t *r = f->byte + 7 + 6 * below(rows);
         uint8_t low = r[0], high = r[1];
         unsigned cost = low + 256u * high + 1 + below(1 + interval / 8);
         r[0] = (uint8_t)(cost & 255);
         r[1] = (uint8_t)(cost >> 8);
-        if (ring_verdict(f->byte, f->length)) r[0] = low, r[1] = high;
+        if (words_verdict(f->byte, f->length)) r[0] = low, r[1] = high;
     }
     return 1;
 }
 
-static uint64_t ours[RING_PLAN_SLOTS], theirs[RING_PLAN_SLOTS];
+static uint64_t words[RING_PLAN_SLOTS], others[RING_PLAN_SLOTS];
 
 typedef uint32_t planner(const uint8_t *, size_t, uint64_t *, size_t);
+typedef uint32_t judge(const uint8_t *, size_t);
 
-static double seconds(planner *plan, const struct file *f, uint64_t *words, unsigned calls) {
-    double best = 1e9;
-    for (unsigned round = 0; round < ROUNDS; round++) {
-        clock_t from = clock();
-        for (unsigned n = 0; n < calls; n++)
-            for (unsigned t = 0; t < TABLES; t++) plan(f[t].byte, f[t].length, words, RING_PLAN_SLOTS);
-        double taken = (double)(clock() - from) / CLOCKS_PER_SEC / calls / TABLES;
-        if (taken < best) best = taken;
-    }
-    return best;
+static double plan_us(planner *plan, const struct file *f, unsigned calls) {
+    clock_t from = clock();
+    for (unsigned n = 0; n < calls; n++)
+        for (unsigned t = 0; t < TABLES; t++) plan(f[t].byte, f[t].length, words, RING_PLAN_SLOTS);
+    return 1e6 * (double)(clock() - from) / CLOCKS_PER_SEC / calls / TABLES;
 }
 
-static double verdict_seconds(uint32_t (*verdict)(const uint8_t *, size_t), const struct file *f, unsigned calls) {
-    double best = 1e9;
+static double verdict_us(judge *verdict, const struct file *f, unsigned calls) {
     volatile uint32_t sink = 0;
-    for (unsigned round = 0; round < ROUNDS; round++) {
-        clock_t from = clock();
-        for (unsigned n = 0; n < calls; n++)
-            for (unsigned t = 0; t < TABLES; t++) sink += verdict(f[t].byte, f[t].length);
-        double taken = (double)(clock() - from) / CLOCKS_PER_SEC / calls / TABLES;
-        if (taken < best) best = taken;
+    clock_t from = clock();
+    for (unsigned n = 0; n < calls; n++)
+        for (unsigned t = 0; t < TABLES; t++) sink += verdict(f[t].byte, f[t].length);
+    return 1e6 * (double)(clock() - from) / CLOCKS_PER_SEC / calls / TABLES;
+}
+
+/* the library, words.c, plain.c */
+enum { MEASURED = 3 };
+static planner *const planners[MEASURED] = {ring_plan, words_plan, plain_plan};
+static judge *const judges[MEASURED] = {ring_verdict, words_verdict, plain_verdict};
+
+/* The three take turns, so that what else the machine does falls on all of them. */
+static void measure(const struct file *f, unsigned calls, double *plan, double *verdict) {
+    for (unsigned m = 0; m < MEASURED; m++) plan[m] = verdict[m] = 1e9;
+    for (unsigned round = 0; round < ROUNDS; round++)
+        for (unsigned m = 0; m < MEASURED; m++) {
+            double p = plan_us(planners[m], f, calls), v = verdict_us(judges[m], f, 8 * calls);
+            if (p < plan[m]) plan[m] = p;
+            if (v < verdict[m]) verdict[m] = v;
+        }
+}
+
+static int same(const struct file *f, unsigned hyper) {
+    for (unsigned t = 0; t < TABLES; t++) {
+        if (ring_plan(f[t].byte, f[t].length, words, RING_PLAN_SLOTS)) return 0;
+        for (unsigned m = 1; m < MEASURED; m++)
+            if (judges[m](f[t].byte, f[t].length) || planners[m](f[t].byte, f[t].length, others, RING_PLAN_SLOTS) ||
+                memcmp(words, others, hyper * sizeof *words))
+                return 0;
     }
-    return best;
+    return 1;
+}
+
+/* Tables of one class. Returns 0 only where the three differ. */
+static int run(unsigned rows, unsigned interval, unsigned intervals, int check) {
+    struct file f[TABLES];
+    unsigned made = 0, tries = 0;
+    while (made < TABLES && tries++ < 4000) made += (unsigned)make(&f[made], rows, interval, intervals);
+    if (made < TABLES) {
+        if (!check) printf("| %4u | %4u | %9u | too few such tables are admitted |\n", rows, interval, intervals);
+        return 1;
+    }
+    if (!same(f, interval * intervals)) {
+        printf("bench: the three differ at %u rows, L %u, %u intervals\n", rows, interval, intervals);
+        return 0;
+    }
+    if (check) return 1;
+    double plan[MEASURED], verdict[MEASURED];
+    words_intervals = words_settled = 0;
+    measure(f, 1 + 400000 / (rows * intervals * 20 + interval * intervals), plan, verdict);
+    printf("| %4u | %4u | %9u | %9.2f | %7.2f | %5.2f | %7.2f | %5.2f | %11.2f | %6.0f%% ", rows, interval, intervals, plan[0], plan[1],
+        plan[0] / plan[1], plan[2], plan[0] / plan[2], plan[0] / intervals, 100.0 * (double)words_settled / (double)words_intervals);
+    printf("| %12.2f | %7.2f | %5.2f | %7.2f | %5.2f |\n", verdict[0], verdict[1], verdict[0] / verdict[1], verdict[2],
+        verdict[0] / verdict[2]);
+    fflush(stdout);
+    return 1;
 }
 
 int main(int argc, char **argv) {
-    static const unsigned rows[] = {8, 20, 64}, interval[] = {4, 16, 100}, intervals[] = {8, 16, 32};
+    static const unsigned rows[] = {8, 20, 64}, interval[] = {4, 16, 100}, intervals[] = {8, 16, 32}, period[] = {64, 400, 3200};
     int check = argc > 1 && !strcmp(argv[1], "--check");
     if (argc > 1 && !check) {
         fprintf(stderr, "usage: bench [--check]\n");
@@ -125,31 +167,18 @@ int main(int argc, char **argv) {
         fprintf(stderr, "bench: a time under an emulator says nothing; bench/run builds for the processor at hand\n");
         return 2;
     }
-    if (!check) printf("rows    L  intervals   ring_plan us  plain C us  ratio   us an interval   ring_verdict us  plain C us  ratio\n");
+    if (!check) {
+        printf("| rows |    L | intervals | ring_plan | words.c | ratio | plain.c | ratio | an interval | settled ");
+        printf("| ring_verdict | words.c | ratio | plain.c | ratio |\n");
+        printf("|---|---|---|---|---|---|---|---|---|---|---|---|---|---|---|\n");
+    }
     for (unsigned a = 0; a < 3; a++)
         for (unsigned b = 0; b < 3; b++)
-            for (unsigned c = 0; c < 3; c++) {
-                struct file f[TABLES];
-                unsigned made = 0, tries = 0;
-                while (made < TABLES && tries++ < 4000) made += (unsigned)make(&f[made], rows[a], interval[b], intervals[c]);
-                if (made < TABLES) {
-                    if (!check) printf("%4u %4u %10u   (too few such tables are admitted)\n", rows[a], interval[b], intervals[c]);
-                    continue;
-                }
-                for (unsigned t = 0; t < TABLES; t++) {
-                    uint32_t answer = ring_plan(f[t].byte, f[t].length, ours, RING_PLAN_SLOTS);
-                    uint32_t other = plain_plan(f[t].byte, f[t].length, theirs, RING_PLAN_SLOTS);
-                    if (answer || other || memcmp(ours, theirs, interval[b] * intervals[c] * sizeof *ours)) {
-                        printf("bench: the two differ at %u rows, L %u, %u intervals\n", rows[a], interval[b], intervals[c]);
-                        return 1;
-                    }
-                }
-                if (check) continue;
-                unsigned calls = 1 + 400000 / (rows[a] * intervals[c] * 20);
-                double mine = seconds(ring_plan, f, ours, calls), plain = seconds(plain_plan, f, theirs, calls);
-                double judge = verdict_seconds(ring_verdict, f, calls * 8), judged = verdict_seconds(plain_verdict, f, calls * 8);
-                printf("%4u %4u %10u %14.2f %11.2f %6.2f %16.2f %17.2f %11.2f %6.2f\n", rows[a], interval[b], intervals[c], mine * 1e6,
-                    plain * 1e6, mine / plain, mine * 1e6 / intervals[c], judge * 1e6, judged * 1e6, judge / judged);
-            }
+            for (unsigned c = 0; c < 3; c++)
+                if (!run(rows[a], interval[b], intervals[c], check)) return 1;
+    /* all periods equal: the plan is one interval */
+    for (unsigned a = 0; a < 3; a++)
+        for (unsigned b = 0; b < 3; b++)
+            if (!run(rows[a], period[b], 1, check)) return 1;
     return 0;
 }

@@ -5,8 +5,8 @@
 enum { ROWS = 64, SLOTS = 4096, LINE = 34, ARCS = 2 * ROWS, PLACES = ROWS + 1 };
 
 struct analysis {
-    int rows, elements, sets;
-    int64_t hyper, interval;
+    int rows, elements, cut, sets;
+    int64_t hyper, interval, largest;
     int cost[ROWS], period[ROWS], from[ROWS], to[ROWS];
     int first[ROWS], second[ROWS]; /* on the line */
     uint64_t word[ROWS];
@@ -89,7 +89,7 @@ static uint32_t analyse(const uint8_t *f, size_t length, struct analysis *a) {
         if (a->period[i] < 1 || a->period[i] > SLOTS) return refuse(8, (unsigned)i);
         if (a->cost[i] < 1 || a->cost[i] > a->period[i]) return refuse(9, (unsigned)i);
     }
-    int cut = find_cut(a);
+    int cut = a->cut = find_cut(a);
     if (!cut) return refuse(10, 0);
     a->hyper = 1;
     a->interval = 0;
@@ -108,10 +108,12 @@ static uint32_t analyse(const uint8_t *f, size_t length, struct analysis *a) {
         if (!equal && a->cost[i] * a->interval < a->period[i]) return refuse(13, (unsigned)i);
         a->rate[i] = a->hyper / a->period[i] * a->cost[i];
     }
+    a->largest = 0;
     for (int k = 0; k < a->sets; k++) {
         int64_t load = 0;
         for (int i = 0; i < a->rows; i++)
             if (a->word[k] >> i & 1) load += a->rate[i];
+        if (load > a->largest) a->largest = load;
         if (equal ? load > a->hyper : load * a->interval > (a->interval - 1) * a->hyper) return refuse(14, (unsigned)k);
     }
     return 0;
@@ -203,6 +205,30 @@ static void fill_slots(const struct analysis *a, const int64_t *load, uint64_t *
 uint32_t plain_verdict(const uint8_t *file, size_t length) {
     struct analysis a;
     return analyse(file, length, &a);
+}
+
+uint32_t plain_values(const uint8_t *file, size_t length, uint32_t *values, size_t room) {
+    struct analysis a;
+    uint32_t answer = analyse(file, length, &a);
+    if (answer) return answer;
+    if (room < 6) return refuse(17, 0);
+    values[0] = (uint32_t)a.cut;
+    values[1] = 0;
+    values[2] = (uint32_t)a.interval;
+    values[3] = (uint32_t)a.hyper;
+    values[4] = (uint32_t)((1000 * a.largest + a.hyper - 1) / a.hyper);
+    values[5] = (uint32_t)a.sets;
+    return 0;
+}
+
+uint32_t plain_sets(const uint8_t *file, size_t length, uint64_t *sets, size_t room) {
+    struct analysis a;
+    uint32_t answer = analyse(file, length, &a);
+    /* 13 and 14 come after the list */
+    if (answer && answer / 256 < 13) return answer;
+    if (room < (size_t)a.sets) return refuse(17, 0);
+    memcpy(sets, a.word, (size_t)a.sets * sizeof *sets);
+    return 0;
 }
 
 uint32_t plain_plan(const uint8_t *file, size_t length, uint64_t *plan, size_t words) {

@@ -1,5 +1,8 @@
-/* Plain C of the same rules, for measuring: what an engineer would write who wants it quick and proves nothing.
- * It keeps to the same choice of loads (the greatest in row order), so both give the same words. */
+/* Plain C of the same rules, for measuring, twice. Both keep to the same choice of loads (the greatest in row order), so all give the same
+ * words.
+ *
+ *   plain.c   what an engineer would write first who wants it quick and proves nothing
+ *   words.c   the library's own algorithms, as quick as we can write them in C */
 #ifndef PLAIN_H
 #define PLAIN_H
 
@@ -7,6 +10,14 @@
 #include <stdint.h>
 
 uint32_t plain_verdict(const uint8_t *file, size_t length);
+uint32_t plain_values(const uint8_t *file, size_t length, uint32_t *values, size_t room);
+uint32_t plain_sets(const uint8_t *file, size_t length, uint64_t *sets, size_t room);
 uint32_t plain_plan(const uint8_t *file, size_t length, uint64_t *plan, size_t words);
+
+uint32_t words_verdict(const uint8_t *file, size_t length);
+uint32_t words_plan(const uint8_t *file, size_t length, uint64_t *plan, size_t words);
+
+/* how many intervals words_plan has planned, and in how many greedy was not enough */
+extern unsigned long words_intervals, words_settled;
 
 #endif

@@ -1,13 +1,13 @@
 /* Collarspoke's functions for C.
  *
  * All take the bytes of a table file and check everything themselves: any bytes of any length may be handed in, also none. A pointer may be
- * NULL where its length is 0. The file and the memory lent for an answer must not overlap. The functions need no heap, no C library but
- * memcpy, memset and memmove, and no initialisation, keep nothing between calls, and may be called from several threads at once as long as no
- * two calls share lent memory. None calls itself; each takes at most RING_STACK_BYTES bytes of stack.
+ * NULL where its length is 0. The file and the memory lent for an answer must not overlap. The functions need no heap, no initialisation and
+ * no C library but memcpy, memset and memmove, keep nothing between calls, and may be called from several threads at once as long as no two
+ * calls share lent memory. None calls itself; each takes at most RING_STACK_BYTES bytes of stack.
  *
  * All answer 256 × number + place. Number 0 says admitted, or done. Any other is a refusal, numbered below; its place is the row or the
- * set concerned, counted from 0, or 0 where the refusal has no place of its own. A refusal leaves lent memory as it was, and memory past the
- * part that an answer fills is left alone too. */
+ * set concerned, counted from 0, or 0 where the refusal has no place of its own. A refusal leaves lent memory as it was, and memory past
+ * the part that an answer fills is left alone too. */
 #ifndef RINGPLAN_H
 #define RINGPLAN_H
 
@@ -48,7 +48,7 @@ enum {
 #define RING_PLACE(answer) ((unsigned)((answer) % 256))
 
 /* the longest table file, the longest plan, the most sets, and the most stack in bytes */
-enum { RING_FILE_BYTES = 391, RING_PLAN_SLOTS = 4096, RING_MOST_SETS = 64, RING_STACK_BYTES = 17408 };
+enum { RING_FILE_BYTES = 391, RING_PLAN_SLOTS = 4096, RING_MOST_SETS = 64, RING_STACK_BYTES = 19456 };
 
 /* Whether the bus can carry the table. Gives 0 to 14. */
 uint32_t ring_verdict(const uint8_t *file, size_t file_bytes);

@@ -1,10 +1,13 @@
-/* Compares the library with the oracle over the C boundary, on random tables: good, at the bound, just past it and damaged.
+/* Compares the library over the C boundary with the oracle, and its words with those of the two plain C planners, on random tables: good,
+ * at the bound, just past it and damaged.
  *
- *     compare TABLES SEED
+ *     compare TABLES SEED          all kinds of tables
+ *     compare TABLES SEED routes   tables of many rows with long routes, well loaded: there the choice of loads is hardest
  *
- * Exits with 0 only if every answer agreed, every lent buffer was left as it should be, every plan kept its promises and every refusal
- * that the two functions can give was seen. */
+ * Exits with 0 only if every answer agreed, every lent buffer was left as it should be, every plan kept its promises and (for all kinds of
+ * tables) every refusal that the functions can give was seen. */
 #include "oracle.h"
+#include "plain.h"
 #include "ringplan.h"
 
 #include <stdio.h>
@@ -90,6 +93,34 @@ static void random_table(struct table *t) {
     }
 }
 
+/* Many rows with long routes. So many share a segment that each row's load has to be small, and the interval long; then costs are raised as
+ * long as the bus can carry it. */
+static void long_routes(struct table *t) {
+    memset(t, 0, sizeof *t);
+    t->elements = between(16, MAX_ELEMENTS);
+    t->rows = between(40, MAX_ROWS);
+    unsigned cut = between(1, t->elements), interval = between(MAX_ROWS + 2, 200), most = between(2, MAX_SLOTS / interval);
+    for (unsigned i = 0; i < t->rows; i++) {
+        struct row *r = &t->row[i];
+        do r->cost = between(1, most);
+        while (most % r->cost);
+        r->period = interval * r->cost;
+        unsigned a = below(t->elements), b = a + between(1, t->elements - a);
+        r->first = (cut - 1 + a) % t->elements + 1;
+        r->second = (cut - 1 + b) % t->elements + 1;
+        if (r->first == r->second) r->second = r->first % t->elements + 1;
+    }
+    for (unsigned turn = 0; turn < 4 * t->rows; turn++) {
+        struct file f;
+        struct row *r = &t->row[below(t->rows)];
+        unsigned was = r->cost, more = between(1, r->period / 16 + 1);
+        if (more > r->period - was) continue;
+        r->cost += more;
+        encode(t, &f);
+        if (plain_verdict(f.byte, f.length)) r->cost = was;
+    }
+}
+
 /* Lowers or raises costs one by one until the table stands at the last step before its verdict changes, or just past it. */
 static void to_the_bound(struct table *t, int past) {
     struct file f;
@@ -172,6 +203,35 @@ static int unchanged_from(unsigned from, const uint64_t *plan, unsigned room) {
     return !memcmp(plan - GUARD, kept, GUARD * sizeof *kept) && !memcmp(plan + from, kept + GUARD + from, (room - from) * sizeof *kept);
 }
 
+/* The values and the list of sets, with room for all, for one too few and for more. */
+static void compare_values(const struct file *given, const uint8_t *file, const struct verdict *v) {
+    uint32_t values[RING_VALUES + 1], expected[RING_VALUES + 1];
+    unsigned room = below(RING_VALUES + 2), wrong = 256 * v->number + v->place;
+    if (!v->number && room < RING_VALUES) wrong = 256 * RING_SHORT_OUTPUT;
+    for (unsigned k = 0; k <= RING_VALUES; k++) values[k] = expected[k] = below(1u << 31);
+    if (!wrong) {
+        expected[RING_CUT] = v->cut;
+        expected[RING_SECOND_CUT] = 0;
+        expected[RING_INTERVAL] = v->interval;
+        expected[RING_HYPERPERIOD] = v->hyper;
+        expected[RING_LOAD] = v->load;
+        expected[RING_SETS] = v->sets;
+    }
+    if (ring_values(file, given->length, room ? values : NULL, room) != wrong) fail(given, "values are answered wrongly");
+    if (memcmp(values, expected, sizeof values)) fail(given, "values differ");
+}
+
+static void compare_sets(const struct file *given, const uint8_t *file, const struct verdict *v) {
+    uint64_t sets[MAX_ROWS + 1], expected[MAX_ROWS + 1];
+    unsigned listed = v->number == 0 || v->number > 12, room = listed && below(3) ? v->sets : below(MAX_ROWS + 2);
+    unsigned wrong = listed ? 0 : 256 * v->number + v->place;
+    if (listed && room < v->sets) wrong = 256 * RING_SHORT_OUTPUT;
+    for (unsigned k = 0; k <= MAX_ROWS; k++) sets[k] = expected[k] = below(1u << 31);
+    if (!wrong) memcpy(expected, v->set, v->sets * sizeof *expected);
+    if (ring_sets(file, given->length, room ? sets : NULL, room) != wrong) fail(given, "sets are answered wrongly");
+    if (memcmp(sets, expected, sizeof sets)) fail(given, "sets differ");
+}
+
 static void compare(const struct file *given) {
     static struct verdict v;
     uint8_t *file = file_end - given->length;
@@ -183,6 +243,8 @@ static void compare(const struct file *given) {
         fail(given, "verdicts differ");
     }
     seen[v.number]++;
+    compare_values(given, file, &v);
+    compare_sets(given, file, &v);
     unsigned room = v.number ? below(MAX_SLOTS + 1) : v.hyper;
     if (v.number == 0 && below(4) == 0) {
         unsigned few = below(v.hyper);
@@ -205,6 +267,9 @@ static void compare(const struct file *given) {
     if (!oracle_keeps(&v, plan, &why)) fail(given, why);
     admitted++;
     slots += v.hyper;
+    static uint64_t other[MAX_SLOTS];
+    if (words_plan(file, given->length, other, v.hyper) || memcmp(other, plan, v.hyper * sizeof *other)) fail(given, "words.c differs");
+    if (plain_plan(file, given->length, other, v.hyper) || memcmp(other, plan, v.hyper * sizeof *other)) fail(given, "plain.c differs");
     if (v.table.rows <= FEW_ROWS) {
         uint64_t had[MAX_ROWS] = {0}, load[MAX_ROWS], word[MAX_SLOTS];
         for (unsigned k = 0; k < v.hyper / v.interval; k++) {
@@ -222,17 +287,26 @@ int main(int argc, char **argv) {
     file_end = fenced(FILE_ROOM);
     plan_end = fenced((GUARD + MAX_SLOTS) * sizeof *plan_end);
     unsigned long tables = argc > 1 ? strtoul(argv[1], NULL, 10) : 20000;
+    int routes = argc > 3 && !strcmp(argv[3], "routes");
     state = 0x9e3779b97f4a7c15u ^ (argc > 2 ? strtoull(argv[2], NULL, 10) * 0x2545f4914f6cdd1du : 1);
+    /* no bytes at all, and none to write to */
+    if (ring_verdict(NULL, 0) != 256 * RING_SHORT_FILE || ring_plan(NULL, 0, NULL, 0) != 256 * RING_SHORT_FILE) {
+        printf("compare: a file of no bytes is answered wrongly\n");
+        return 1;
+    }
     for (unsigned long n = 0; n < tables; n++) {
         struct table t;
         struct file f = {.length = 0};
-        random_table(&t);
-        if (below(3) == 0) to_the_bound(&t, (int)below(2));
+        if (routes) long_routes(&t);
+        else random_table(&t);
+        if (!routes && below(3) == 0) to_the_bound(&t, (int)below(2));
         encode(&t, &f);
-        if (below(4) == 0) damage(&f);
+        if (!routes && below(4) == 0) damage(&f);
         compare(&f);
     }
-    printf("%lu tables, %lu admitted, %lu of them with their exact words, %lu slots of plan\n", tables, admitted, exact, slots);
+    printf("%lu tables, %lu admitted, %lu of them with the oracle's exact words, %lu slots of plan\n", tables, admitted, exact, slots);
+    printf("greedy was not enough in %lu of %lu intervals\n", words_settled, words_intervals);
+    if (routes) return 0;
     printf("refusals:");
     for (unsigned n = 1; n < 18; n++) printf(" %u:%u", n, seen[n]);
     printf("\n");

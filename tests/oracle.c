@@ -119,6 +119,12 @@ static void refuse(struct verdict *v, unsigned number, unsigned place) {
     v->place = place;
 }
 
+/* A refusal of a table that has its list of sets, which stays. */
+static void refuse_listed(struct verdict *v, unsigned number, unsigned place) {
+    v->number = number;
+    v->place = place;
+}
+
 static uint64_t load_of(const struct verdict *v, uint64_t set) {
     uint64_t sum = 0;
     for (unsigned i = 0; i < v->table.rows; i++)
@@ -171,11 +177,11 @@ void oracle_verdict(const uint8_t *f, size_t length, struct verdict *v) {
     if (!list_sets(v)) { refuse(v, 12, 0); return; }
     if (!equal)
         for (unsigned i = 0; i < t->rows; i++)
-            if (t->row[i].cost * l < t->row[i].period) { refuse(v, 13, i); return; }
+            if (t->row[i].cost * l < t->row[i].period) { refuse_listed(v, 13, i); return; }
     uint64_t largest = 0;
     for (unsigned k = 0; k < v->sets; k++) {
         uint64_t load = load_of(v, v->set[k]);
-        if (equal ? load > h : load * l > (l - 1) * h) { refuse(v, 14, k); return; }
+        if (equal ? load > h : load * l > (l - 1) * h) { refuse_listed(v, 14, k); return; }
         if (load > largest) largest = load;
     }
     v->load = (unsigned)((1000 * largest + h - 1) / h);

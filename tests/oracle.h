@@ -20,7 +20,7 @@ struct table {
 
 struct verdict {
     unsigned number, place;
-    /* when admitted */
+    /* when admitted; the sets also where refused with 13 or 14 */
     unsigned cut, interval, hyper, load, sets;
     uint64_t set[MAX_SETS];
     struct table table;

@@ -1,9 +1,10 @@
 -- What a C program may rely on. The file holds statements only; proofs/Boundary proves them of every answer that the contracts allow.
 --
---   Values-are       where ring_values answers 0, the fourth value is the hyperperiod and the sixth the number of sets
---   Carried-to-C     a plan for which ring_verdict answers 0, with room for h words
---   Carried-by-value the same, with ring_values' word for h
---   Listed-to-C      the list of sets, with room for as many as ring_values says
+--   Carried f was now r   a plan of file f was answered with r, and r is 0 and its words carry the table
+--   Carried-to-C          where ring_verdict answers 0 and there is room for h words, so is every plan
+--   Values-are            where ring_values answers 0, so does ring_verdict, and the fourth value is h
+--   Carried-by-value      the first again, with the fourth value for h
+--   Listed-by-value       the list of sets, with room for as many as the sixth value says
 use mathlib.Core.Path.{_≡_}
 use mathlib.Core.List.{List}
 use Prim.Native.Nat.{ℕ, _≤_}
@@ -16,8 +17,8 @@ use Rattle.rules.specs.Calls.{lent}
 use Rattle.promises.specs.Demands.{Carries}
 use Rattle.supervisor.specs.ToC.{VerdictToC, ValuesToC, SetsToC, PlanToC}
 
--- A plan that was lent is answered with 0, and its front carries the table of file f.
-abbrev Carried : (f was now : List ℕ) (r : ℕ) → Type 0
+-- A plan that held `was` and now holds `now` is answered with 0, and its front carries the table of file f.
+abbrev pub Carried : (f was now : List ℕ) (r : ℕ) → Type 0
 Carried f was now r = (r ≡ 0) × ((ws : List ℕ) × Carries (fileTable f) ws × (now ≡ lent ws was))
 
 -- If ring_verdict answers 0 and there is room for h words, ring_plan answers 0 and the words carry the table.

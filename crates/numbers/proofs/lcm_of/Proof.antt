@@ -17,7 +17,8 @@ mul-result : tie.Need-mul-result
 mul-result c =
     let a : c .before .args .a ≤ 2 ^ 32 - 1 = omega arith in
     let b : c .before .args .b ≤ 2 ^ 32 - 1 = omega arith in
-    omega (arith, mul-le-mul (le-trans (div-le-self (c .before .args .a) (c .gcd-of .result)) a) b)
+    let small = le-trans (div-le-self (c .before .args .a) (c .gcd-of .result)) a in
+    omega (arith, mul-le-mul small a, mul-le-mul small b)
 
 returns : tie.Need-returns
 returns c = pair-lcm-by (c .before .args .a) (c .before .args .b) (c .gcd-of .result) (c .before .pre .0) (c .gcd-of .ensures)

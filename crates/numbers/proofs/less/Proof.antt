@@ -1,8 +1,9 @@
 -- less: both fit an i64, and so does the difference.
 use mathlib.Core.Path.{_≡_, ap₂, _∙_}
 use lib.IntN.{pos, _-ℤ_}
+use Prim.Native.Nat.{ℕ, _<_, _^_}
 use mir.Syntax.{w64}
-use mir.Val.{toZ}
+use mir.Val.{SFits, toZ}
 use mir.ValLaws.{toZ-pos, toZ-ofZ}
 use borrow.Author.Needs.{needs}
 use Rattle.numbers.proofs.Signed.{diff-mag}
@@ -16,14 +17,19 @@ cast-result-2 : tie.Need-cast-result-2
 cast-result-2 c = search needs
 
 -- both fit, so the casts change nothing
-as-pos : (c : tie.Start) → toZ w64 (c .args .a) -ℤ toZ w64 (c .args .b) ≡ pos (c .args .a) -ℤ pos (c .args .b)
-as-pos c = ap₂ _-ℤ_ (toZ-pos w64 (c .args .a) (c .pre .0)) (toZ-pos w64 (c .args .b) (c .pre .1))
+as-pos : (x y : ℕ) → x < 2 ^ 63 → y < 2 ^ 63 → toZ w64 x -ℤ toZ w64 y ≡ pos x -ℤ pos y
+as-pos x y p q = ap₂ _-ℤ_ (toZ-pos w64 x p) (toZ-pos w64 y q)
+
+fits : (x y : ℕ) → x < 2 ^ 63 → y < 2 ^ 63 → SFits w64 (toZ w64 x -ℤ toZ w64 y)
+fits x y p q = rw (as-pos x y p q) (record { sfits = diff-mag x y _ p q })
 
 sub-result : tie.Need-sub-result
-sub-result c = rw (as-pos c) (record { sfits = diff-mag (c .args .a) (c .args .b) _ (c .pre .0) (c .pre .1) })
+sub-result c = search (needs, fits)
 
 returns : tie.Need-returns
-returns c = toZ-ofZ w64 (toZ w64 (c .args .a) -ℤ toZ w64 (c .args .b)) (sub-result c) ∙ as-pos c
+returns c =
+    toZ-ofZ w64 (toZ w64 (c .args .a) -ℤ toZ w64 (c .args .b)) (sub-result c)
+    ∙ as-pos (c .args .a) (c .args .b) (c .pre .0) (c .pre .1)
 
 pub less-spec : {M : Type 1} → statement M
 less-spec = tie.close (tie.spec cast-result cast-result-2 sub-result returns)

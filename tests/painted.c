@@ -1,0 +1,61 @@
+/* How much stack the functions for C really take: each is called on a stack that was filled with a mark, and what it left unmarked counts.
+ *
+ *     painted TABLE..
+ *
+ * Prints, for each function, the most bytes over the tables, and its name. */
+#include "ringplan.h"
+
+#include <stdio.h>
+#include <string.h>
+#include <ucontext.h>
+
+enum { ROOM = 1 << 18, MARK = 0xa5, FUNCTIONS = 4 };
+
+static uint8_t stack[ROOM], file[RING_FILE_BYTES + 1];
+static uint64_t plan[RING_PLAN_SLOTS], sets[RING_MOST_SETS];
+static uint32_t values[RING_VALUES];
+static const char *const names[FUNCTIONS] = {"ring_plan", "ring_sets", "ring_values", "ring_verdict"};
+static ucontext_t here, there;
+static size_t bytes;
+static unsigned which;
+static uint8_t *top;
+
+static void call(void) {
+    /* the called function starts here, less the few bytes that this one keeps */
+    top = __builtin_frame_address(0);
+    switch (which) {
+    case 0: ring_plan(file, bytes, plan, RING_PLAN_SLOTS); break;
+    case 1: ring_sets(file, bytes, sets, RING_MOST_SETS); break;
+    case 2: ring_values(file, bytes, values, RING_VALUES); break;
+    default: ring_verdict(file, bytes); break;
+    }
+}
+
+static size_t taken(void) {
+    memset(stack, MARK, sizeof stack);
+    getcontext(&there);
+    there.uc_stack.ss_sp = stack;
+    there.uc_stack.ss_size = sizeof stack;
+    there.uc_link = &here;
+    makecontext(&there, call, 0);
+    swapcontext(&here, &there);
+    size_t untouched = 0;
+    while (stack[untouched] == MARK) untouched++;
+    return (size_t)(top - (stack + untouched));
+}
+
+int main(int argc, char **argv) {
+    size_t most[FUNCTIONS] = {0};
+    for (int k = 1; k < argc; k++) {
+        FILE *in = fopen(argv[k], "rb");
+        if (!in) return 2;
+        bytes = fread(file, 1, sizeof file, in);
+        fclose(in);
+        for (which = 0; which < FUNCTIONS; which++) {
+            size_t now = taken();
+            if (now > most[which]) most[which] = now;
+        }
+    }
+    for (which = 0; which < FUNCTIONS; which++) printf("%zu %s\n", most[which], names[which]);
+    return 0;
+}
