@@ -8,5 +8,6 @@ pub mod Interval
 pub mod Planner
 pub mod Refusals
 pub mod Calls
+pub mod Text
 pub mod Program
 pub mod Cases

@@ -1,17 +1,17 @@
--- `planner_cases::standing` meets its contract. The loop goes up to 8.
-use Prim.Native.Nat.{_-_, _≤_}
-use mathlib.Core.Path.{_≡_}
+-- standing: the loop goes up to 8.
 use native.Mathlib.Omega.{arith}
-use lib.ListN.{length}
 use borrow.Author.Needs.{needs}
+use mathlib.Core.Path.{_≡_}
+use Prim.Native.Nat.{_-_, _≤_}
+use lib.ListN.{length}
 use Rattle.planner_cases.proofs.standing.Statement.{statement}
 use Rattle.planner_cases.proofs.standing.Tie as tie
 
 abbrev Inv-loop : tie.InvT-loop
-Inv-loop x n₀ t3 t4 n = (n ≤ 8) × (length t3 ≡ 2) × (length t4 ≡ 5)
+Inv-loop x n₀ t3 t4 t5 n = n ≤ 8
 
 abbrev μ-loop : tie.MeasureT-loop
-μ-loop x n₀ t3 t4 n = 8 - n
+μ-loop x n₀ t3 t4 t5 n = 8 - n
 
 loop-holds : tie.Need-loop-holds Inv-loop μ-loop
 loop-holds c = omega arith
@@ -19,8 +19,14 @@ loop-holds c = omega arith
 less-requires : tie.Need-less-requires Inv-loop μ-loop
 less-requires c κs = omega arith
 
-number-requires : tie.Need-number-requires Inv-loop μ-loop
-number-requires c κs = search needs
+slice-aggregate-print : tie.Need-slice-aggregate-print Inv-loop μ-loop
+slice-aggregate-print c = search needs
+
+slice-aggregate-print-2 : tie.Need-slice-aggregate-print-2 Inv-loop μ-loop
+slice-aggregate-print-2 c = search needs
+
+print-requires : tie.Need-print-requires Inv-loop μ-loop
+print-requires c κs = search needs
 
 returns : tie.Need-returns Inv-loop μ-loop
 returns c = search needs
@@ -28,11 +34,11 @@ returns c = search needs
 less-requires-2 : tie.Need-less-requires-2 Inv-loop μ-loop
 less-requires-2 c κs = omega arith
 
-slice-aggregate-text : tie.Need-slice-aggregate-text Inv-loop μ-loop
-slice-aggregate-text c = search needs
+slice-aggregate-write-all : tie.Need-slice-aggregate-write-all Inv-loop μ-loop
+slice-aggregate-write-all c = search needs
 
-text-requires : tie.Need-text-requires Inv-loop μ-loop
-text-requires c κs = search needs
+write-all-requires : tie.Need-write-all-requires Inv-loop μ-loop
+write-all-requires c κs = search needs
 
 print-decimal-requires : tie.Need-print-decimal-requires Inv-loop μ-loop
 print-decimal-requires c κs = search needs
@@ -49,11 +55,11 @@ loop-less c = omega arith
 loop-again : tie.Need-loop-again Inv-loop μ-loop
 loop-again c = omega arith
 
-slice-aggregate-text-2 : tie.Need-slice-aggregate-text-2 Inv-loop μ-loop
-slice-aggregate-text-2 c = search needs
+slice-aggregate-write-all-2 : tie.Need-slice-aggregate-write-all-2 Inv-loop μ-loop
+slice-aggregate-write-all-2 c = search needs
 
-text-requires-2 : tie.Need-text-requires-2 Inv-loop μ-loop
-text-requires-2 c κs = search needs
+write-all-requires-2 : tie.Need-write-all-requires-2 Inv-loop μ-loop
+write-all-requires-2 c κs = search needs
 
 returns-3 : tie.Need-returns-3 Inv-loop μ-loop
 returns-3 c = search needs
@@ -66,16 +72,18 @@ standing-spec =
     μ-loop
     loop-holds
     less-requires
-    number-requires
+    slice-aggregate-print
+    slice-aggregate-print-2
+    print-requires
     returns
     less-requires-2
-    slice-aggregate-text
-    text-requires
+    slice-aggregate-write-all
+    write-all-requires
     print-decimal-requires
     returns-2
     add-n
     loop-less
     loop-again
-    slice-aggregate-text-2
-    text-requires-2
+    slice-aggregate-write-all-2
+    write-all-requires-2
     returns-3)

@@ -1,7 +1,7 @@
 -- each: a line ends where the next one starts.
+use borrow.Author.Needs.{needs}
 use Prim.Native.Nat.{_+_, _-_, _≤_}
 use lib.ListN.{length}
-use borrow.Author.Needs.{needs}
 use Rattle.verdict_cases.proofs.each.Statement.{statement}
 use Rattle.verdict_cases.proofs.each.Tie as tie
 

@@ -1,38 +1,49 @@
 -- one: the parts that it lends are as long as they say.
+use native.Mathlib.Omega.{arith}
 use mathlib.Core.Path.{sym}
 use lib.Seq.{length-take-le}
 use borrow.Author.Needs.{needs}
 use Rattle.verdict_cases.proofs.one.Statement.{statement}
 use Rattle.verdict_cases.proofs.one.Tie as tie
 
-returns : tie.Need-returns
-returns c = search needs
-
-shared-slice-read-if2 : tie.Need-shared-slice-read-if2
-shared-slice-read-if2 c = search needs
-
-returns-2 : tie.Need-returns-2
-returns-2 c = search needs
-
 find-requires : tie.Need-find-requires
 find-requires c κs = search needs
 
+find-requires-2 : tie.Need-find-requires-2
+find-requires-2 c κs = search needs
+
+returns : tie.Need-returns
+returns c = search needs
+
+sub-numbers : tie.Need-sub-numbers
+sub-numbers c = search needs
+
+part-numbers-start : tie.Need-part-numbers-start
+part-numbers-start c = search needs
+
+part-numbers-end : tie.Need-part-numbers-end
+part-numbers-end c = search needs
+
+slice-aggregate-numbers : tie.Need-slice-aggregate-numbers
+slice-aggregate-numbers c = search needs
+
+numbers-requires : tie.Need-numbers-requires
+numbers-requires c κs = search needs
+
 slice-aggregate-judged : tie.Need-slice-aggregate-judged
-slice-aggregate-judged c =
-    let z = c .before .before .before .before .before .before .args in
-    sym (length-take-le (c .before .find .result) (z .text .now) (c .before .find .ensures .1))
+slice-aggregate-judged c = sym (length-take-le _ _ (omega arith))
 
-sub-judged : tie.Need-sub-judged
-sub-judged c = search needs
+array-share-prefix-given : tie.Need-array-share-prefix-given
+array-share-prefix-given c = search needs
 
-part-judged-start : tie.Need-part-judged-start
-part-judged-start c = search needs
-
-part-judged-end : tie.Need-part-judged-end
-part-judged-end c = search needs
+slice-aggregate-judged-2 : tie.Need-slice-aggregate-judged-2
+slice-aggregate-judged-2 c = sym (length-take-le _ _ (omega arith))
 
 judged-requires : tie.Need-judged-requires
 judged-requires c κs = search needs
+
+returns-2 : tie.Need-returns-2
+returns-2 c = search needs
 
 returns-3 : tie.Need-returns-3
 returns-3 c = search needs
@@ -41,13 +52,17 @@ pub one-spec : {M : Type 1} → statement M
 one-spec =
     tie.close
     (tie.spec
-    returns
-    shared-slice-read-if2
-    returns-2
     find-requires
+    find-requires-2
+    returns
+    sub-numbers
+    part-numbers-start
+    part-numbers-end
+    slice-aggregate-numbers
+    numbers-requires
     slice-aggregate-judged
-    sub-judged
-    part-judged-start
-    part-judged-end
+    array-share-prefix-given
+    slice-aggregate-judged-2
     judged-requires
+    returns-2
     returns-3)

@@ -1,0 +1,48 @@
+-- Only one answer of `render` fits.
+use mathlib.Core.Path.{_≡_, sym, ap, ap₂, _∙_}
+use mathlib.Core.List.{List, [], _∷_, _++_}
+use Prim.Native.Nat.{ℕ, _+_}
+use lib.ListN.{length, take}
+use lib.Seq.{sets}
+use Rattle.rules.specs.Bus.{Table}
+use Rattle.rules.specs.TableFile.{fileTable}
+use Rattle.rules.specs.Line as line
+use Rattle.rules.specs.Loads.{hyperperiod, shortest, reported, intervals}
+use Rattle.rules.specs.Refusals.{Answers, verdict-checks}
+use Rattle.rules.specs.Text.{Line, text}
+use Rattle.rules.specs.Program.{verdict, values, set-lines, slot-lines, max-input, Printed, refused, admitted}
+use Rattle.rules.proofs.Answers.{answers-only}
+use Rattle.rules.proofs.Sets.{sets-only}
+use Rattle.planner.proofs.Chosen.{run-only}
+use Rattle.report.specs.Rendered.{ChosenPlan, Rendered}
+use Rattle.report.proofs.Printed.{carried}
+
+plan-only : (t : Table) (ws vs : List ℕ) → ChosenPlan t ws → ChosenPlan t vs → ws ≡ vs
+plan-only t ws vs A B = run-only (intervals t) (A .1) (B .1) .1
+
+module _ (input : List ℕ) where
+  abbrev answers : ℕ → ℕ → Type 0
+  answers n p = Answers (verdict-checks (take max-input input)) n p
+
+  same : (m n p q : ℕ) → answers m p → answers n q → (m ≡ n) × (p ≡ q)
+  same m n p q = answers-only (verdict-checks (take max-input input)) m n p q
+
+  lines-only : (ks ls : List Line) → Printed ChosenPlan input ks → Printed ChosenPlan input ls → ks ≡ ls
+  lines-only _ _ (refused m p a h) (refused n q b g) =
+      let e = same m n p q a b in
+      ap₂ (λ (x y : ℕ). verdict x y ∷ []) (e .0) (e .1)
+  lines-only _ _ (refused m p a h) (admitted t ws vs e b S W) = absurd (h (same m 0 p 0 a b .0))
+  lines-only _ _ (admitted t ws vs e b S W) (refused m p a h) = absurd (h (same m 0 p 0 a b .0))
+  lines-only _ _ (admitted t ws vs e a S W) (admitted u xs ys g b R X) =
+      let f = take max-input input in
+      let s : ws ≡ xs = sets-only (carried f a .sound .rows-low) (rw e at S) (rw g at R) in
+      let v : vs ≡ ys = plan-only (fileTable f) vs ys (rw e at W) (rw g at X) in
+      ap₂ (λ (ks zs : List ℕ). verdict 0 0 ∷ (values (line.cut t) (shortest t) (hyperperiod t) (reported t ks) ++ (set-lines ks ++ slot-lines zs))) s v
+      ∙ ap (λ (w : Table). verdict 0 0 ∷ (values (line.cut w) (shortest w) (hyperperiod w) (reported w xs) ++ (set-lines xs ++ slot-lines ys))) (e ∙ sym g)
+
+  pub rendered-only : (was now then : List ℕ) (m n : ℕ) → Rendered input was now m → Rendered input was then n → (now ≡ then) × (m ≡ n)
+  rendered-only was now then m n A B =
+      let e = lines-only (A .lines) (B .lines) (A .chosen) (B .chosen) in (
+        A .puts .holds ∙ ap (λ (ls : List Line). sets was 0 (text ls)) e ∙ sym (B .puts .holds),
+        A .puts .after ∙ ap (λ (ls : List Line). 0 + length (text ls)) e ∙ sym (B .puts .after),
+      )

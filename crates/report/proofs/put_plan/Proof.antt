@@ -1,0 +1,64 @@
+-- put_plan: an admitted table's plan fits, and is written line by line.
+use borrow.Author.Needs.{needs}
+use native.Mathlib.Omega.{arith}
+use mathlib.Core.Path.{_≡_, sym}
+use mathlib.Core.List.{List}
+use Prim.Native.Nat.{ℕ, _≤_}
+use lib.ListN.{length, take, length-take}
+use Rattle.rules.specs.Bounds.{max-slots}
+use Rattle.rules.specs.TableFile.{fileTable}
+use Rattle.rules.specs.Planner.{WholePlan}
+use Rattle.report.specs.Rendered.{ChosenPlan}
+use Rattle.report.proofs.Printed.{planned}
+use Rattle.report.proofs.put_plan.Statement.{statement}
+use Rattle.report.proofs.put_plan.Tie as tie
+
+abbrev entry : tie.After-whole-plan → tie.Start
+entry z = z .before .before .before .before
+
+abbrev plan : tie.After-whole-plan → List ℕ
+plan z = take (entry z .args .hyper) (z .whole-plan .last .1 .0)
+
+found : (z : tie.After-whole-plan) → WholePlan (fileTable (entry z .args .file .now)) (plan z)
+    × ChosenPlan (fileTable (entry z .args .file .now)) (plan z) × (length (plan z) ≡ entry z .args .hyper) × (entry z .args .hyper ≤ max-slots)
+found z = planned (entry z .args .file .now) (entry z .pre .0) (omega arith) (entry z .pre .1) (z .whole-plan .ensures)
+
+slice-aggregate-whole-plan : tie.Need-slice-aggregate-whole-plan
+slice-aggregate-whole-plan c = search needs
+
+whole-plan-requires : tie.Need-whole-plan-requires
+whole-plan-requires c κs = search needs
+
+array-share-prefix-plan : tie.Need-array-share-prefix-plan
+array-share-prefix-plan c =
+    let z = c .before in
+    omega (arith, length-take (entry z .args .hyper) (z .whole-plan .last .1 .0), found z .2)
+
+slice-aggregate-put-slots : tie.Need-slice-aggregate-put-slots
+slice-aggregate-put-slots c = sym (found (c .before .before) .2)
+
+put-slots-requires : tie.Need-put-slots-requires
+put-slots-requires c κs =
+    let z = c .before .before .before in
+    omega (arith, found z .2, found z .3)
+
+same-length : tie.Need-same-length
+same-length c = search needs
+
+returns : tie.Need-returns
+returns c =
+    let z = c .before .before .before .before .before .before in
+    let P = c .before .before .put-slots .ensures in
+    (plan z, found z .0, found z .1, (P .0, omega (arith, P .1, found z .2, found z .3)))
+
+pub put-plan-spec : {M : Type 1} → statement M
+put-plan-spec =
+    tie.close
+    (tie.spec
+    slice-aggregate-whole-plan
+    whole-plan-requires
+    array-share-prefix-plan
+    slice-aggregate-put-slots
+    put-slots-requires
+    same-length
+    returns)

@@ -1,0 +1,147 @@
+// What the program prints, written to lent bytes (document 01, "The program and one whole output").
+//
+// Each `put_` function writes lines from place `at` on, as far as there is room, and returns the place after them.
+use decimal::put_line;
+use table::Table;
+use verdict::Verdict;
+ghost use mathlib.Core.Path.{_≡_};
+ghost use mathlib.Core.List.{List, [], _∷_};
+ghost use Prim.Native.Nat.{ℕ, _+_, _*_, _≤_, min};
+ghost use lib.ListN.{length};
+ghost use Rattle.rules.specs.Bounds.{max-rows, max-slots};
+ghost use Rattle.rules.specs.TableFile.{fileTable};
+ghost use Rattle.rules.specs.Line.{Sets};
+ghost use Rattle.rules.specs.Loads.{hyperperiod};
+ghost use Rattle.rules.specs.Planner.{WholePlan};
+ghost use Rattle.rules.specs.Refusals.{Answers, verdict-checks};
+ghost use Rattle.decimal.specs.Puts.{limit};
+ghost use Rattle.rules.specs.Program.{verdict, values, set, slot, set-lines, slot-lines};
+ghost use Rattle.report.specs.Rendered.{max-line, PutsLine, PutsLines, ChosenPlan, Rendered};
+
+// The program's input: one byte more than the longest table file has, so that a longer one is refused for its length.
+pub const INPUT: usize = 392;
+
+// Room for every report: 64 bytes for each of the verdict, the four values, the sets and the slots.
+pub const SIZE: usize = 64 * (5 + Table::ROWS + Table::SLOTS);
+
+// ---- lines
+
+// A line of one number.
+fn put_value(word: &[u8], x: u64, out: &mut [u8], at: usize) -> usize
+    requires { ⌜ (length (now word) ≤ 8) × (at + max-line ≤ limit) ⌝ }
+    ensures { λ r. ⌜ PutsLine (record { word = now (word .entry); numbers = x ∷ [] }) (now (out .entry)) at (now (out .exit)) r ⌝ }
+{
+    put_line(word, &[x], out, at)
+}
+
+fn put_verdict(number: u32, place: u32, out: &mut [u8]) -> usize
+    ensures { λ r. ⌜ PutsLine (verdict number place) (now (out .entry)) 0 (now (out .exit)) r ⌝ }
+{
+    put_line(b"verdict", &[number as u64, place as u64], out, 0)
+}
+
+fn put_values(cut: u32, interval: u32, hyper: u32, load: u32, out: &mut [u8], at: usize) -> usize
+    requires { ⌜ at + max-line * 4 ≤ limit ⌝ }
+    ensures { λ r. ⌜ PutsLines (values cut interval hyper load) 4 (now (out .entry)) at (now (out .exit)) r ⌝ }
+{
+    let second = put_value(b"cut", cut as u64, out, at);
+    let third = put_value(b"interval", interval as u64, out, second);
+    let last = put_value(b"hyper", hyper as u64, out, third);
+    put_value(b"load", load as u64, out, last)
+}
+
+fn put_set(word: u64, out: &mut [u8], at: usize) -> usize
+    requires { ⌜ at + max-line ≤ limit ⌝ }
+    ensures { λ r. ⌜ PutsLine (set word) (now (out .entry)) at (now (out .exit)) r ⌝ }
+{
+    put_value(b"set", word, out, at)
+}
+
+fn put_slot(number: u64, word: u64, out: &mut [u8], at: usize) -> usize
+    requires { ⌜ at + max-line ≤ limit ⌝ }
+    ensures { λ r. ⌜ PutsLine (slot number word) (now (out .entry)) at (now (out .exit)) r ⌝ }
+{
+    put_line(b"slot", &[number, word], out, at)
+}
+
+fn put_sets(words: &[u64], out: &mut [u8], at: usize) -> usize
+    requires { ⌜ at + max-line * length (now words) ≤ limit ⌝ }
+    ensures { λ r. ⌜ PutsLines (set-lines (now (words .entry))) (length (now (words .entry))) (now (out .entry)) at (now (out .exit)) r ⌝ }
+{
+    let mut next = at;
+    let mut k: usize = 0;
+    while k < words.len() {
+        next = put_set(words[k], out, next);
+        k += 1;
+    }
+    next
+}
+
+pub fn put_slots(words: &[u64], out: &mut [u8], at: usize) -> usize
+    requires { ⌜ at + max-line * length (now words) ≤ limit ⌝ }
+    ensures { λ r. ⌜ PutsLines (slot-lines (now (words .entry))) (length (now (words .entry))) (now (out .entry)) at (now (out .exit)) r ⌝ }
+{
+    let mut next = at;
+    let mut s: usize = 0;
+    while s < words.len() {
+        next = put_slot(s as u64, words[s], out, next);
+        s += 1;
+    }
+    next
+}
+
+// ---- an admitted table's lists
+
+fn put_list(file: &[u8], out: &mut [u8], at: usize) -> usize
+    requires { ⌜ Answers (verdict-checks (now file)) 0 0 × (at + max-line * max-rows ≤ limit) ⌝ }
+    ensures { λ r. ⌜ ((ws : List ℕ) × Sets (fileTable (now (file .entry))) ws
+        × PutsLines (set-lines ws) max-rows (now (out .entry)) at (now (out .exit)) r) ⌝ }
+{
+    let mut words = [0u64; Table::ROWS];
+    let list = outline::list_of_sets(file, &mut words);
+    let sets = list.sets as usize;
+    put_sets(&words[..sets], out, at)
+}
+
+fn put_plan(file: &[u8], hyper: u32, out: &mut [u8], at: usize) -> usize
+    requires { ⌜ Answers (verdict-checks (now file)) 0 0 × (hyper ≡ hyperperiod (fileTable (now file)))
+        × (at + max-line * max-slots ≤ limit) ⌝ }
+    ensures { λ r. ⌜ ((ws : List ℕ) × WholePlan (fileTable (now (file .entry))) ws × ChosenPlan (fileTable (now (file .entry))) ws
+        × PutsLines (slot-lines ws) max-slots (now (out .entry)) at (now (out .exit)) r) ⌝ }
+{
+    let mut plan = [0u64; Table::SLOTS];
+    planner::whole_plan(file, &mut plan);
+    let slots = hyper as usize;
+    put_slots(&plan[..slots], out, at)
+}
+
+// ---- the report
+
+fn least(a: usize, b: usize) -> usize
+    ensures { λ r. ⌜ r ≡ min a b ⌝ }
+{
+    if a < b { a } else { b }
+}
+
+// What the program prints for its input, at the front of `out`; how many bytes it is. Of a refusal it is the first line only.
+pub fn render(input: &[u8], out: &mut [u8]) -> usize
+    ensures { λ r. ⌜ Rendered (now (input .entry)) (now (out .entry)) (now (out .exit)) r ⌝ }
+{
+    let read = least(input.len(), INPUT);
+    let file = &input[..read];
+    let answer = verdict::judge(file);
+    let first = put_verdict(answer.number(), answer.place(), out);
+    let Verdict::Admitted {
+        cut,
+        interval,
+        hyper,
+        load,
+        sets: _,
+    } = answer
+    else {
+        return first;
+    };
+    let valued = put_values(cut, interval, hyper, load, out, first);
+    let listed = put_list(file, out, valued);
+    put_plan(file, hyper, out, listed)
+}

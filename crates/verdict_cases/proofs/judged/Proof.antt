@@ -1,0 +1,40 @@
+-- judged: the part that it lends is as long as it says.
+use native.Mathlib.Omega.{arith}
+use mathlib.Core.Path.{sym}
+use lib.Seq.{length-take-le}
+use borrow.Author.Needs.{needs}
+use Rattle.verdict_cases.proofs.judged.Statement.{statement}
+use Rattle.verdict_cases.proofs.judged.Tie as tie
+
+slice-aggregate-table-file : tie.Need-slice-aggregate-table-file
+slice-aggregate-table-file c = search needs
+
+table-file-requires : tie.Need-table-file-requires
+table-file-requires c κs = search needs
+
+array-share-prefix-file : tie.Need-array-share-prefix-file
+array-share-prefix-file c = search needs
+
+slice-aggregate-answer : tie.Need-slice-aggregate-answer
+slice-aggregate-answer c = sym (length-take-le _ _ (omega arith))
+
+answer-requires : tie.Need-answer-requires
+answer-requires c κs = search needs
+
+returns : tie.Need-returns
+returns c = search needs
+
+returns-2 : tie.Need-returns-2
+returns-2 c = search needs
+
+pub judged-spec : {M : Type 1} → statement M
+judged-spec =
+    tie.close
+    (tie.spec
+    slice-aggregate-table-file
+    table-file-requires
+    array-share-prefix-file
+    slice-aggregate-answer
+    answer-requires
+    returns
+    returns-2)
