@@ -9,7 +9,6 @@ ghost use Rattle.numbers.specs.Finite.{sumIn};
 ghost use Rattle.numbers.specs.Word.{bit};
 ghost use Rattle.numbers.specs.Lists.{at};
 ghost use Rattle.rules.specs.Bounds.{max-rows, max-slots};
-ghost use Rattle.sets.specs.Walk.{line-size, RowsAt};
 ghost use Rattle.sets.specs.Sets.{OnLine, Listed};
 
 // The words of the overlap sets, by ascending least second end; those from `count` on are 0.
@@ -23,21 +22,6 @@ impl Sets {
     const LINE: usize = Table::ELEMENTS + 2;
 }
 
-// For each element of the line the word of the rows that have this end there.
-fn rows_at(ends: &[u8; Table::ROWS], rows: usize) -> [u64; Sets::LINE]
-    requires { ⌜ (rows ≤ max-rows) × ((i : ℕ) → i < rows → at (now ends) i < line-size) ⌝ }
-    ensures { λ r. ⌜ RowsAt rows (at (now (ends .entry))) r ⌝ }
-{
-    let mut words = [0u64; Sets::LINE];
-    let mut i: usize = 0;
-    while i < rows {
-        let e = table::end_at(ends, i);
-        words[e] = words[e] | (1u64 << i);
-        i += 1;
-    }
-    words
-}
-
 // The overlap sets of the first `rows` rows, which run from first to second on a line whose last element is `top`.
 pub fn list_sets(
     first: &[u8; Table::ROWS],
@@ -48,8 +32,17 @@ pub fn list_sets(
     requires { ⌜ OnLine rows (at (now first)) (at (now second)) top ⌝ }
     ensures { λ r. ⌜ Listed rows (at (now (first .entry))) (at (now (second .entry))) (r .count) (r .words) ⌝ }
 {
-    let starts = rows_at(first, rows);
-    let ends = rows_at(second, rows);
+    // for each element of the line the word of the rows that start there, and of those that end there
+    let mut starts = [0u64; Sets::LINE];
+    let mut ends = [0u64; Sets::LINE];
+    let mut i: usize = 0;
+    while i < rows {
+        let from = table::end_at(first, i);
+        let to = table::end_at(second, i);
+        starts[from] = starts[from] | (1u64 << i);
+        ends[to] = ends[to] | (1u64 << i);
+        i += 1;
+    }
     let mut words = [0u64; Table::ROWS];
     let mut count: usize = 0;
     let mut started = false;
