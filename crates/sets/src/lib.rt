@@ -4,6 +4,8 @@
 // some row has started since the second end before it. So a word and a bool find the sets, in their order, and nothing is sorted.
 use table::Table;
 ghost use mathlib.Core.Path.{_≡_};
+ghost use mathlib.Core.Logic.{_≢_};
+ghost use mathlib.Core.Bool.{true};
 ghost use Prim.Native.Nat.{ℕ, _*_, _≤_, _<_};
 ghost use Rattle.numbers.specs.Finite.{sumIn};
 ghost use Rattle.numbers.specs.Word.{bit};
@@ -67,18 +69,27 @@ pub fn list_sets(
     Sets { count, words }
 }
 
-// The sum of `xs` over the rows of the set whose word is `word`.
+// A row of a set that has one: the lowest.
+fn lowest_row(word: u64) -> usize
+    requires { ⌜ word ≢ 0 ⌝ }
+    ensures { λ r. ⌜ (r < 64) × (bit word r ≡ true) ⌝ }
+{
+    u64::trailing_zeros(word) as usize
+}
+
+// The sum of `xs` over the rows of the set whose word is `word`. Only these are gone through.
 pub fn sum_in(rows: usize, word: u64, xs: &[u64; Table::ROWS]) -> u64
     requires { ⌜ (rows ≤ max-rows) × ((i : ℕ) → i < rows → at (now xs) i ≤ max-slots) ⌝ }
     ensures { λ r. ⌜ (r ≡ sumIn rows (bit word) (at (now (xs .entry)))) × (r ≤ max-rows * max-slots) ⌝ }
 {
     let mut sum: u64 = 0;
-    let mut i: usize = 0;
-    while i < rows {
-        if (word >> i) % 2 == 1 {
+    let mut left = word;
+    while left != 0 {
+        let i = lowest_row(left);
+        if i < rows {
             sum += xs[i];
         }
-        i += 1;
+        left = left ^ (1u64 << i);
     }
     sum
 }

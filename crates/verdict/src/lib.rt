@@ -88,20 +88,13 @@ fn lowest_light<'a>(
 
 // ---- sets
 
-// The load of the set whose word is `word`.
-fn set_load(word: u64, rate: &[u64; Table::ROWS], rows: usize) -> u64
-    requires { ⌜ SmallRates (now rate) rows ⌝ }
+// The load of the set whose word is `word`, from the load of the set before: only the rows that join and those that leave are gone through.
+fn next_load(load: u64, last: u64, word: u64, rate: &[u64; Table::ROWS], rows: usize) -> u64
+    requires { ⌜ SmallRates (now rate) rows × (load ≡ weight rows (now rate) last) ⌝ }
     ensures { λ r. ⌜ (r ≡ weight rows (now (rate .entry)) word) × (r ≤ max-rows * max-slots) ⌝ }
 {
-    let mut load: u64 = 0;
-    let mut i: usize = 0;
-    while i < rows {
-        if (word >> i) % 2 == 1 {
-            load += rate[i];
-        }
-        i += 1;
-    }
-    load
+    let both = word & last;
+    load + sets::sum_in(rows, word ^ both, rate) - sets::sum_in(rows, last ^ both, rate)
 }
 
 // The load is over the bound: 1 where all periods are equal, (L − 1) / L where they differ.
@@ -149,11 +142,15 @@ fn weigh_sets<'a>(
 {
     let mut over: usize = 0;
     let mut largest: u64 = 0;
+    let mut last: u64 = 0;
+    let mut load: u64 = 0;
     let mut k: usize = 0;
     while k < sets {
-        let load = set_load(words[k], rate, rows);
+        let word = words[k];
+        load = next_load(load, last, word, rate, rows);
         over = lowest_next(over, k, is_over(load, hyper, interval, equal));
         largest = larger(largest, load);
+        last = word;
         k += 1;
     }
     Weights { over, largest }
