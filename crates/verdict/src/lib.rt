@@ -6,7 +6,8 @@ use outline::Outline;
 use table::Answer;
 use table::Table;
 ghost use mathlib.Core.Path.{_≡_};
-ghost use Prim.Native.Nat.{_+_, _-_, _*_, _/_, _<_, _≤_, max};
+ghost use mathlib.Core.List.{List};
+ghost use Prim.Native.Nat.{ℕ, _+_, _-_, _*_, _/_, _<_, _≤_, max};
 ghost use lib.Dec.{ltb};
 ghost use Rattle.numbers.specs.Lists.{at};
 ghost use Rattle.numbers.specs.Finite.{lowest};
@@ -18,8 +19,9 @@ ghost use Rattle.rules.specs.Calls.{Judged};
 ghost use Rattle.table.specs.Sound.{Sound};
 ghost use Rattle.table.specs.Columns.{ByRow, columnTable};
 ghost use Rattle.verdict.specs.Weights.{Times, lightBy, SmallRates, weight, past, nextLowest, Weighed};
-ghost use Rattle.verdict.specs.Analysed.{table-checks, blank, Analysed};
-ghost use Rattle.verdict.specs.Verdict.{numberOf, placeOf, cutOf, intervalOf, hyperOf, loadOf, setsOf};
+ghost use Rattle.verdict.specs.Analysed.{table-checks, blank, Ready, noWeights, withWeights, Analysed};
+ghost use Rattle.verdict.specs.declared.Analysis.{Analysis};
+ghost use Rattle.verdict.specs.Verdict.{numberOf, placeOf, cutOf, intervalOf, hyperOf, loadOf, setsOf, Tells};
 
 // ---- rows
 
@@ -166,6 +168,58 @@ fn thousandths(load: u64, hyper: u64) -> u64
 
 // ---- the analysis
 
+// What rows and sets weigh: the first refusal of 13 and 14, or the reported load and the rows' rates in units of 1 / h.
+struct Loaded {
+    answer: Answer,
+    load: u64,
+    rate: [u64; Table::ROWS],
+}
+
+fn unweighed(answer: Answer) -> Loaded
+    ensures { λ r. ⌜ r ≡ noWeights answer ⌝ }
+{
+    Loaded {
+        answer: answer,
+        load: 0,
+        rate: [0; Table::ROWS],
+    }
+}
+
+// The rows and sets of a table weighed, whose outline is found. All periods are equal exactly if L is h.
+fn weigh<'a>(found: Outline, cost: &'a [u16; Table::ROWS], period: &'a [u16; Table::ROWS]) -> Loaded
+    requires { ⌜ ((M : ℕ) × (n : ℕ) × (first : List ℕ) × (second : List ℕ)
+        × Ready (columnTable M n (now cost) (now period) first second) found) ⌝ }
+    ensures { λ r. ⌜ ((M n : ℕ) (first second : List ℕ)
+        → Ready (columnTable M n (now (cost .entry)) (now (period .entry)) first second) found
+        → Analysed (table-checks (columnTable M n (now (cost .entry)) (now (period .entry)) first second))
+        (columnTable M n (now (cost .entry)) (now (period .entry)) first second) (withWeights found r)) ⌝ }
+{
+    let time = found.time;
+    let equal = time.interval == time.hyper;
+    let light = lowest_light(found.rows, cost, period, time.interval, equal);
+    if light < found.rows {
+        return unweighed(Answer::at(Answer::LIGHT_ROW, light));
+    }
+    let rate = rates(found.rows, time.hyper, cost, period);
+    let weights = weigh_sets(
+        &found.words,
+        found.sets,
+        &rate,
+        found.rows,
+        time.hyper,
+        time.interval,
+        equal,
+    );
+    if weights.over < found.sets {
+        return unweighed(Answer::at(Answer::OVER_BOUND, weights.over));
+    }
+    Loaded {
+        answer: Answer::done(),
+        load: thousandths(weights.largest, time.hyper),
+        rate: rate,
+    }
+}
+
 // A table analysed: its outline, its reported load, and its rows' rates in units of 1 / h. All is 0 but the outline's answer where it is
 // refused.
 pub struct Analysis {
@@ -186,7 +240,7 @@ impl Analysis {
     }
 }
 
-// The analysis of a table: 10 to 12 are refused by its outline, then 13, then 14. All periods are equal exactly if L is h.
+// The analysis of a table: 10 to 12 are refused by its outline, then 13, then 14.
 pub fn analysis_of<'a>(
     elements: usize,
     rows: usize,
@@ -206,28 +260,15 @@ pub fn analysis_of<'a>(
     if answer.number != Answer::DONE {
         return Analysis::refused(answer);
     }
-    let time = outline.time;
-    let equal = time.interval == time.hyper;
-    let light = lowest_light(outline.rows, cost, period, time.interval, equal);
-    if light < outline.rows {
-        return Analysis::refused(Answer::at(Answer::LIGHT_ROW, light));
+    let weighing = weigh(outline, cost, period);
+    let next = weighing.answer;
+    if next.number != Answer::DONE {
+        return Analysis::refused(next);
     }
-    let rate = rates(outline.rows, time.hyper, cost, period);
-    let weights = weigh_sets(
-        &outline.words,
-        outline.sets,
-        &rate,
-        outline.rows,
-        time.hyper,
-        time.interval,
-        equal,
-    );
-    if weights.over < outline.sets {
-        return Analysis::refused(Answer::at(Answer::OVER_BOUND, weights.over));
-    }
+    let rate = weighing.rate;
     Analysis {
         outline: outline,
-        load: thousandths(weights.largest, time.hyper),
+        load: weighing.load,
         rate: rate,
     }
 }
@@ -300,12 +341,22 @@ impl Verdict {
     }
 }
 
-// Whether the bus can carry the table of a file.
-pub fn judge(file: &[u8]) -> Verdict
-    ensures { λ r. ⌜ Judged (now (file .entry)) (numberOf r) (placeOf r) (cutOf r) (intervalOf r) (hyperOf r) (loadOf r) (setsOf r) ⌝ }
+// The verdict on a table: what its analysis tells, with no room for its rates beside its sets.
+fn judge_table<'a>(
+    elements: usize,
+    rows: usize,
+    cost: &'a [u16; Table::ROWS],
+    period: &'a [u16; Table::ROWS],
+    first: &'a [u8; Table::ROWS],
+    second: &'a [u8; Table::ROWS],
+) -> Verdict
+    requires { ⌜ Sound (columnTable elements rows (now cost) (now period) (now first) (now second)) ⌝ }
+    ensures { λ r. ⌜ ((a : Analysis) × Analysed
+        (table-checks
+        (columnTable elements rows (now (cost .entry)) (now (period .entry)) (now (first .entry)) (now (second .entry))))
+        (columnTable elements rows (now (cost .entry)) (now (period .entry)) (now (first .entry)) (now (second .entry))) a × Tells a r) ⌝ }
 {
-    let table = analyse(file);
-    let outline = table.outline;
+    let outline = outline::outline_of(elements, rows, period, first, second);
     let answer = outline.answer;
     if answer.number != Answer::DONE {
         return Verdict::Refused {
@@ -313,12 +364,42 @@ pub fn judge(file: &[u8]) -> Verdict
             place: answer.place,
         };
     }
+    let weighing = weigh(outline, cost, period);
+    let next = weighing.answer;
+    if next.number != Answer::DONE {
+        return Verdict::Refused {
+            number: next.number,
+            place: next.place,
+        };
+    }
     let time = outline.time;
     Verdict::Admitted {
         cut: outline.cut as u32,
         interval: time.interval as u32,
         hyper: time.hyper as u32,
-        load: table.load as u32,
+        load: weighing.load as u32,
         sets: outline.sets as u32,
     }
+}
+
+// Whether the bus can carry the table of a file.
+pub fn judge(file: &[u8]) -> Verdict
+    ensures { λ r. ⌜ Judged (now (file .entry)) (numberOf r) (placeOf r) (cutOf r) (intervalOf r) (hyperOf r) (loadOf r) (setsOf r) ⌝ }
+{
+    let found = table::decode(file);
+    let answer = found.answer;
+    if answer.number != Answer::DONE {
+        return Verdict::Refused {
+            number: answer.number,
+            place: answer.place,
+        };
+    }
+    judge_table(
+        found.columns.elements,
+        found.columns.rows,
+        &found.columns.cost,
+        &found.columns.period,
+        &found.columns.first,
+        &found.columns.second,
+    )
 }

@@ -1,7 +1,7 @@
 -- `sets::sum_in` meets its contract. What is summed and what is left make up the whole sum, and fewer rows are left each time.
 use mathlib.Core.Path.{_≡_}
 use mathlib.Core.Logic.{⊎-elim}
-use Prim.Native.Nat.{_+_, _*_, _≤_, _<_}
+use Prim.Native.Nat.{_+_, _*_, _≤_}
 use native.Mathlib.Omega.{arith}
 use Rattle.numbers.specs.Finite.{sumIn, count}
 use Rattle.numbers.specs.Word.{bit}
