@@ -25,15 +25,18 @@ ghost use Rattle.verdict.specs.Verdict.{numberOf, placeOf, cutOf, interv
 
 // ---- rows
 
-// The load cost / period of a row, in units of 1 / h.
-fn rate_of(hyper: u64, period: u64, cost: u64) -> u64
-    requires { ⌜ (hyper ≤ max-slots) × (1 ≤ period) × (cost ≤ max-slots) ⌝ }
-    ensures { λ r. ⌜ r ≡ hyper / period * cost ⌝ }
+// How many jobs come in h with the period `period`, where `jobs` come with the period before. Nothing is divided where these are equal.
+fn jobs_in(hyper: u64, last: u64, jobs: u64, period: u64) -> u64
+    requires { ⌜ (1 ≤ period) × (jobs ≡ hyper / last) ⌝ }
+    ensures { λ r. ⌜ r ≡ hyper / period ⌝ }
 {
-    hyper / period * cost
+    if period == last {
+        return jobs;
+    }
+    hyper / period
 }
 
-// All rows' rates, 0 past the last row.
+// All rows' rates, the loads cost / period in units of 1 / h, and 0 past the last row.
 fn rates<'a>(
     rows: usize,
     hyper: u64,
@@ -44,9 +47,14 @@ fn rates<'a>(
     ensures { λ r. ⌜ ByRow rows (λ i. hyper / at (now (period .entry)) i * at (now (cost .entry)) i) r ⌝ }
 {
     let mut rate = [0u64; Table::ROWS];
+    let mut last: u64 = 1;
+    let mut jobs = hyper;
     let mut i: usize = 0;
     while i < rows {
-        rate[i] = rate_of(hyper, table::slots_at(period, i), table::slots_at(cost, i));
+        let next = table::slots_at(period, i);
+        jobs = jobs_in(hyper, last, jobs, next);
+        last = next;
+        rate[i] = jobs * table::slots_at(cost, i);
         i += 1;
     }
     rate
