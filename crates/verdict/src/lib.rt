@@ -349,7 +349,7 @@ impl Verdict {
     }
 }
 
-// The verdict on a table: what its analysis tells, with no room for its rates beside its sets.
+// The verdict on a table: what its analysis tells. The analysis itself is not made up, which halves the stack.
 fn judge_table<'a>(
     elements: usize,
     rows: usize,
