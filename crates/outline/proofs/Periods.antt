@@ -4,7 +4,8 @@
 --   Falling n p i l    l is the greatest common divisor of the first i of n periods p
 use mathlib.Core.Path.{_≡_, sym}
 use mathlib.Core.Logic.{_≢_, ⊎-elim}
-use Prim.Native.Nat.{ℕ, _+_, _≤_, _<_}
+use Prim.Native.Nat.{ℕ, _+_, _≤_, _<_, _∣_}
+use native.Mathlib.Nat.{dvd-refl}
 use native.Mathlib.Omega.{arith}
 use Rattle.numbers.specs.Divisors.{gcd, lcm}
 use Rattle.numbers.specs.Pairs.{IsGcd, IsLcm}
@@ -34,6 +35,14 @@ periods-of s = record {
   low = λ i l. s .row i l .period-low;
   high = λ i l. s .row i l .period-high;
 }
+
+-- ---- a period that is a divisor or a multiple already
+
+pub lcm-kept : {h p : ℕ} → p ∣ h → IsLcm h p h
+lcm-kept {h} d = record { left = dvd-refl h; right = d; least = λ n a b. a }
+
+pub gcd-kept : {l p : ℕ} → l ∣ p → IsGcd p l l
+gcd-kept {l} d = record { left = d; right = dvd-refl l; greatest = λ e a b. b }
 
 -- ---- the hyperperiod
 
@@ -85,11 +94,12 @@ module _ {n : ℕ} {p : ℕ → ℕ} (P : Periods n p) where
   pub falling-start : Falling n p 1 (p 0)
   falling-start = record { some = omega arith; rows = omega arith; is = gcd-one p (P .low 0 (omega arith)) }
 
-  pub falling-next : {i l d : ℕ} → Falling n p i l → i < n → IsGcd l (p i) d → Falling n p (i + 1) d
+  pub falling-next : {i l d : ℕ} → Falling n p i l → i < n → IsGcd (p i) l d → Falling n p (i + 1) d
   falling-next {i} {l} {d} F k D = record {
     some = omega arith;
     rows = omega arith;
-    is = gcd-next i p (F .some) (positive P (i + 1) (omega arith)) d (rw (F .is) D);
+    is = gcd-next i p (F .some) (positive P (i + 1) (omega arith)) d
+        (rw (F .is) (record { left = D .right; right = D .left; greatest = λ e a b. D .greatest e b a }));
   }
 
 pub falling-end : {n : ℕ} {p : ℕ → ℕ} {i l : ℕ} → Falling n p i l → n ≤ i → l ≡ gcd n p

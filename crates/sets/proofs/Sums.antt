@@ -1,41 +1,90 @@
--- Sums over the rows of a set, by its word.
+-- Sums over the rows of a set, by its word: a row at a time is taken out.
 --
---   Summed xs w i x    x is the sum of xs over those of the first i rows that are in the set w
-use mathlib.Core.Path.{_≡_, refl}
-use Prim.Native.Nat.{ℕ, _+_, _*_, _/_, _%_, _^_, _≤_}
+--   without w i    the word w with bit i toggled: without row i, where it was in
+use mathlib.Core.Path.{_≡_, refl, sym, ap, ap₂, _∙_}
+use mathlib.Core.Logic.{_≢_}
+use mathlib.Core.Bool.{Bool, true, false, not, cond}
+use Prim.Native.Nat.{ℕ, zero, suc, _+_, _*_, _/_, _%_, _^_, _≤_, _<_}
+use native.Mathlib.Nat.{pow-suc}
 use native.Mathlib.Omega.{arith}
-use lib.Dec.{eqb, eqb→eq}
+use lib.Bits.{bitXor}
+use lib.Count.{trailingZeros, under}
+use lib.Dec.{T, eqb, eqb→eq}
 use borrow.Author.Tests.{eq-eqb}
-use Rattle.numbers.specs.Finite.{only, sum, sumIn}
+use Rattle.numbers.specs.Finite.{only, sumIn}
 use Rattle.numbers.specs.Word.{bit}
-use Rattle.numbers.proofs.Truth.{is-false}
-use Rattle.numbers.proofs.Finite.{sum-next, only-true, only-false}
-use Rattle.rules.specs.Bounds.{max-slots}
+use Rattle.numbers.proofs.Truth.{is-false, is-true, eqb-of}
+use Rattle.numbers.proofs.Finite.{sum-eq, sum-add, sum-bump, sum-zero, only-true, only-false}
+use Rattle.numbers.proofs.Word.{bit-zero, bit-low, bit-suc, bit-xor, bit-pow, one-shl}
 
-pub record Summed (xs : ℕ → ℕ) (w i x : ℕ) : Type 0 where
-  pub is : x ≡ sumIn i (bit w) xs
-  pub small : x ≤ i * max-slots
+-- ---- the lowest row
 
-module _ {xs : ℕ → ℕ} {w : ℕ} where
-  pub summed-start : Summed xs w 0 0
-  unfolding sum
-  summed-start = record { is = refl; small = omega arith }
+pub lowest-bit : (d w : ℕ) → w < 2 ^ d → w ≢ 0 → (trailingZeros d w < d) × (bit w (trailingZeros d w) ≡ true)
+unfolding trailingZeros
+lowest-bit zero w l h = absurd (h (omega arith))
+lowest-bit (suc d) w l h = go (w % 2) refl (λ (k : w / 2 ≢ 0). lowest-bit d (w / 2) (omega (arith, pow-suc 2 d)) k)
+  where
+    go : (r : ℕ) → w % 2 ≡ r
+        → (w / 2 ≢ 0 → (trailingZeros d (w / 2) < d) × (bit (w / 2) (trailingZeros d (w / 2)) ≡ true))
+        → (under r (trailingZeros d (w / 2)) < suc d) × (bit w (under r (trailingZeros d (w / 2))) ≡ true)
+    go zero e ih =
+        let i = ih (λ k. h (omega arith)) in
+        (omega (arith, i .0), bit-suc w _ ∙ i .1)
+    go (suc r) e ih = (omega arith, bit-low w ∙ eq-eqb (w % 2) 1 (omega arith))
 
-  pub summed-in : {i x : ℕ} → Summed xs w i x → w / 2 ^ i % 2 ≡ 1 → xs i ≤ max-slots → Summed xs w (i + 1) (x + xs i)
-  unfolding bit
-  summed-in {i} s b h = record {
-    is = omega (arith, s .is, sum-next i (λ j. only (bit w j) (xs j)), only-true (bit w i) (xs i) (eq-eqb (w / 2 ^ i % 2) 1 b));
-    small = omega (arith, s .small);
-  }
+-- ---- without a row
 
-  pub summed-out : {i x : ℕ} → Summed xs w i x → (w / 2 ^ i % 2 ≡ 1 → ⊥) → Summed xs w (i + 1) x
-  unfolding bit
-  summed-out {i} s b = record {
-    is = omega (
-      arith,
-      s .is,
-      sum-next i (λ j. only (bit w j) (xs j)),
-      only-false (bit w i) (xs i) (is-false (eqb (w / 2 ^ i % 2) 1) (λ h. b (eqb→eq (w / 2 ^ i % 2) 1 h))),
-    );
-    small = omega (arith, s .small);
-  }
+abbrev pub without : ℕ → ℕ → ℕ
+without w i = bitXor w (1 * 2 ^ i % 2 ^ 64)
+
+module _ (w i : ℕ) (small : i < 64) where
+  toggled : (j : ℕ) → bit (without w i) j ≡ cond (bit w j) (not (eqb j i)) (eqb j i)
+  toggled j =
+      bit-xor w (1 * 2 ^ i % 2 ^ 64) j
+      ∙ ap (λ (b : Bool). cond (bit w j) (not b) b) (ap (λ (v : ℕ). bit v j) (one-shl i small) ∙ bit-pow i j)
+
+  kept : (b : Bool) → cond b (not false) false ≡ b
+  kept true = refl
+  kept false = refl
+
+  other : (j : ℕ) → j ≢ i → bit (without w i) j ≡ bit w j
+  other j d =
+      toggled j
+      ∙ ap (λ (b : Bool). cond (bit w j) (not b) b) (is-false (eqb j i) (λ t. d (eqb→eq j i t))) ∙ kept (bit w j)
+
+  module _ (g : ℕ → ℕ) (n : ℕ) where
+    -- row i is not among the first n
+    pub sum-past : n ≤ i → sumIn n (bit (without w i)) g ≡ sumIn n (bit w) g
+    sum-past l = sum-eq n _ _ (λ j m. ap (λ (b : Bool). only b (g j)) (other j (λ e. omega arith)))
+
+    -- it is, and it was in
+    pub sum-without : i < n → bit w i ≡ true → sumIn n (bit w) g ≡ sumIn n (bit (without w i)) g + g i
+    sum-without l h =
+        sum-bump n (λ j. only (bit (without w i) j) (g j)) (λ j. only (bit w j) (g j)) i (g i) l
+        (λ j m d. ap (λ (b : Bool). only b (g j)) (sym (other j d)))
+        (omega (
+          arith,
+          only-true (bit w i) (g i) h,
+          only-false (bit (without w i) i) (g i)
+              (toggled i ∙ ap₂ (λ (a b : Bool). cond a (not b) b) h (is-true (eqb i i) (eqb-of i i refl))),
+        ))
+
+-- a word with no row
+pub sum-none : (n w : ℕ) (g : ℕ → ℕ) → w ≡ 0 → sumIn n (bit w) g ≡ 0
+sum-none n w g e =
+    sum-zero n (λ i. only (bit w i) (g i)) (λ i l. only-false (bit w i) (g i) (ap (λ (v : ℕ). bit v i) e ∙ bit-zero i))
+
+parted : (a b : Bool) (x : ℕ) → (T b → T a) → only a x ≡ only (cond a (not b) b) x + only b x
+unfolding only
+parted true true x k = omega arith
+parted true false x k = omega arith
+parted false true x k = absurd (k tt)
+parted false false x k = omega arith
+
+-- a part of a set, and what is left of it
+pub sum-part : (n w s : ℕ) (g : ℕ → ℕ) → ((i : ℕ) → T (bit s i) → T (bit w i))
+    → sumIn n (bit w) g ≡ sumIn n (bit (bitXor w s)) g + sumIn n (bit s) g
+sum-part n w s g h =
+    sum-eq n (λ i. only (bit w i) (g i)) (λ i. only (bit (bitXor w s) i) (g i) + only (bit s i) (g i))
+    (λ i l. parted (bit w i) (bit s i) (g i) (h i) ∙ ap (λ (b : Bool). only b (g i) + only (bit s i) (g i)) (sym (bit-xor w s i)))
+    ∙ sum-add n (λ i. only (bit (bitXor w s) i) (g i)) (λ i. only (bit s i) (g i))

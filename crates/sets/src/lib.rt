@@ -4,12 +4,13 @@
 // some row has started since the second end before it. So a word and a bool find the sets, in their order, and nothing is sorted.
 use table::Table;
 ghost use mathlib.Core.Path.{_≡_};
+ghost use mathlib.Core.Logic.{_≢_};
+ghost use mathlib.Core.Bool.{true};
 ghost use Prim.Native.Nat.{ℕ, _*_, _≤_, _<_};
 ghost use Rattle.numbers.specs.Finite.{sumIn};
 ghost use Rattle.numbers.specs.Word.{bit};
 ghost use Rattle.numbers.specs.Lists.{at};
 ghost use Rattle.rules.specs.Bounds.{max-rows, max-slots};
-ghost use Rattle.sets.specs.Walk.{line-size, RowsAt};
 ghost use Rattle.sets.specs.Sets.{OnLine, Listed};
 
 // The words of the overlap sets, by ascending least second end; those from `count` on are 0.
@@ -23,21 +24,6 @@ impl Sets {
     const LINE: usize = Table::ELEMENTS + 2;
 }
 
-// For each element of the line the word of the rows that have this end there.
-fn rows_at(ends: &[u8; Table::ROWS], rows: usize) -> [u64; Sets::LINE]
-    requires { ⌜ (rows ≤ max-rows) × ((i : ℕ) → i < rows → at (now ends) i < line-size) ⌝ }
-    ensures { λ r. ⌜ RowsAt rows (at (now (ends .entry))) r ⌝ }
-{
-    let mut words = [0u64; Sets::LINE];
-    let mut i: usize = 0;
-    while i < rows {
-        let e = table::end_at(ends, i);
-        words[e] = words[e] | (1u64 << i);
-        i += 1;
-    }
-    words
-}
-
 // The overlap sets of the first `rows` rows, which run from first to second on a line whose last element is `top`.
 pub fn list_sets(
     first: &[u8; Table::ROWS],
@@ -48,8 +34,17 @@ pub fn list_sets(
     requires { ⌜ OnLine rows (at (now first)) (at (now second)) top ⌝ }
     ensures { λ r. ⌜ Listed rows (at (now (first .entry))) (at (now (second .entry))) (r .count) (r .words) ⌝ }
 {
-    let starts = rows_at(first, rows);
-    let ends = rows_at(second, rows);
+    // for each element of the line the word of the rows that start there, and of those that end there
+    let mut starts = [0u64; Sets::LINE];
+    let mut ends = [0u64; Sets::LINE];
+    let mut i: usize = 0;
+    while i < rows {
+        let from = table::end_at(first, i);
+        let to = table::end_at(second, i);
+        starts[from] = starts[from] | (1u64 << i);
+        ends[to] = ends[to] | (1u64 << i);
+        i += 1;
+    }
     let mut words = [0u64; Table::ROWS];
     let mut count: usize = 0;
     let mut started = false;
@@ -74,18 +69,27 @@ pub fn list_sets(
     Sets { count, words }
 }
 
-// The sum of `xs` over the rows of the set whose word is `word`.
+// A row of a set that has one: the lowest.
+fn lowest_row(word: u64) -> usize
+    requires { ⌜ word ≢ 0 ⌝ }
+    ensures { λ r. ⌜ (r < 64) × (bit word r ≡ true) ⌝ }
+{
+    u64::trailing_zeros(word) as usize
+}
+
+// The sum of `xs` over the rows of the set whose word is `word`. Only these are gone through.
 pub fn sum_in(rows: usize, word: u64, xs: &[u64; Table::ROWS]) -> u64
     requires { ⌜ (rows ≤ max-rows) × ((i : ℕ) → i < rows → at (now xs) i ≤ max-slots) ⌝ }
     ensures { λ r. ⌜ (r ≡ sumIn rows (bit word) (at (now (xs .entry)))) × (r ≤ max-rows * max-slots) ⌝ }
 {
     let mut sum: u64 = 0;
-    let mut i: usize = 0;
-    while i < rows {
-        if (word >> i) % 2 == 1 {
+    let mut left = word;
+    while left != 0 {
+        let i = lowest_row(left);
+        if i < rows {
             sum += xs[i];
         }
-        i += 1;
+        left = left ^ (1u64 << i);
     }
     sum
 }

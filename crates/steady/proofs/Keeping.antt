@@ -1,24 +1,20 @@
 -- How far totals and shares can go, and what one turn of each loop does.
 --
---   Summed xs w i x             x is the sum of xs over those of the first i rows that are in the set w
 --   Standing n h s r t xs i     xs has the standings of the first i rows, and 0 from there on
 use mathlib.Core.Path.{_≡_, refl, _∙_}
 use mathlib.Core.Logic.{_↔_}
 use mathlib.Core.List.{List}
-use Prim.Native.Nat.{ℕ, zero, suc, _+_, _*_, _/_, _%_, _^_, _≤_, _<_}
+use Prim.Native.Nat.{ℕ, zero, suc, _+_, _*_, _≤_, _<_}
 use native.Mathlib.Decide.{ℕ-discrete}
 use native.Mathlib.Nat.{mul-le-mul, mul-le-mul-right, lt-of-mul-lt-mul-right}
 use native.Mathlib.Omega.{arith}
-use lib.Dec.{eqb, eqb→eq}
 use lib.IntN.{ℤ, pos, _-ℤ_}
 use lib.ListN.{length, getD, set, replicate, length-set, length-replicate}
 use lib.Seq.{getD-set-same, getD-set-other}
-use borrow.Author.Tests.{eq-eqb}
-use Rattle.numbers.specs.Finite.{only, sum, sumIn}
+use Rattle.numbers.specs.Finite.{sumIn}
 use Rattle.numbers.specs.Word.{bit}
 use Rattle.numbers.specs.Rounding.{Rounded}
-use Rattle.numbers.proofs.Truth.{is-false}
-use Rattle.numbers.proofs.Finite.{sum-next, only-true, only-false, sumIn-scaled}
+use Rattle.numbers.proofs.Finite.{sumIn-scaled}
 use Rattle.numbers.proofs.Rounding.{rounded-is}
 use Rattle.rules.specs.Bounds.{max-rows, max-slots}
 use Rattle.steady.specs.Step.{Bounded, RowsKeep, Stands}
@@ -46,35 +42,7 @@ module _ {n h s : ℕ} {rate : ℕ → ℕ} (b : Bounded n h s rate) where
       → (totals i * h ≤ max-slots * max-slots) × (rate i * s ≤ max-slots * max-slots)
   products-le totals k i l = (mul-le-mul (total-le totals k i l) (b .short), mul-le-mul (rate-le i l) slot-le)
 
--- ---- the sum over a set
-
-pub record Summed (xs : ℕ → ℕ) (w i x : ℕ) : Type 0 where
-  pub is : x ≡ sumIn i (bit w) xs
-  pub small : x ≤ i * max-slots
-
-module _ {xs : ℕ → ℕ} {w : ℕ} where
-  pub summed-start : Summed xs w 0 0
-  unfolding sum
-  summed-start = record { is = refl; small = omega arith }
-
-  pub summed-in : {i x : ℕ} → Summed xs w i x → w / 2 ^ i % 2 ≡ 1 → xs i ≤ max-slots → Summed xs w (i + 1) (x + xs i)
-  unfolding bit
-  summed-in {i} s b h = record {
-    is = omega (arith, s .is, sum-next i (λ j. only (bit w j) (xs j)), only-true (bit w i) (xs i) (eq-eqb (w / 2 ^ i % 2) 1 b));
-    small = omega (arith, s .small);
-  }
-
-  pub summed-out : {i x : ℕ} → Summed xs w i x → (w / 2 ^ i % 2 ≡ 1 → ⊥) → Summed xs w (i + 1) x
-  unfolding bit
-  summed-out {i} s b = record {
-    is = omega (
-      arith,
-      s .is,
-      sum-next i (λ j. only (bit w j) (xs j)),
-      only-false (bit w i) (xs i) (is-false (eqb (w / 2 ^ i % 2) 1) (λ h. b (eqb→eq (w / 2 ^ i % 2) 1 h))),
-    );
-    small = omega (arith, s .small);
-  }
+-- ---- a set
 
 -- a set's summed total beside its summed rate times the slot
 pub set-rounded : (n h s w : ℕ) (rate totals : ℕ → ℕ) {x y : ℕ} → x ≡ sumIn n (bit w) rate → y ≡ sumIn n (bit w) totals

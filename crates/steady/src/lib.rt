@@ -4,10 +4,7 @@
 // nothing is divided. Any totals may be handed in: rows come first, and each row's total is held to the slot before any product is
 // taken; then no product and no set's sum can be too large.
 use table::Table;
-ghost use mathlib.Core.Path.{_≡_};
-ghost use Prim.Native.Nat.{ℕ, _*_, _<_, _≤_};
-ghost use Rattle.numbers.specs.Finite.{sumIn};
-ghost use Rattle.numbers.specs.Word.{bit};
+ghost use Prim.Native.Nat.{_*_, _<_, _≤_};
 ghost use Rattle.numbers.specs.Lists.{at};
 ghost use Rattle.numbers.specs.Rounding.{Rounded};
 ghost use Rattle.rules.specs.Bounds.{max-rows, max-slots};
@@ -54,22 +51,6 @@ fn rows_keep_step(
     true
 }
 
-// The sum of `xs` over the rows of the set whose word is `word`.
-fn sum_in(rows: usize, word: u64, xs: &[u64; Table::ROWS]) -> u64
-    requires { ⌜ (rows ≤ max-rows) × ((i : ℕ) → i < rows → at (now xs) i ≤ max-slots) ⌝ }
-    ensures { λ r. ⌜ (r ≡ sumIn rows (bit word) (at (now (xs .entry)))) × (r ≤ max-rows * max-slots) ⌝ }
-{
-    let mut sum: u64 = 0;
-    let mut i: usize = 0;
-    while i < rows {
-        if (word >> i) % 2 == 1 {
-            sum += xs[i];
-        }
-        i += 1;
-    }
-    sum
-}
-
 // Each listed set's summed total is its summed share rounded down or up. Each row keeps step already, which keeps the sums small.
 fn sets_keep_step(
     rows: usize,
@@ -85,8 +66,8 @@ fn sets_keep_step(
 {
     let mut k: usize = 0;
     while k < sets {
-        let share = sum_in(rows, words[k], rate) * slot;
-        if !is_rounded(sum_in(rows, words[k], totals), share, hyper) {
+        let share = sets::sum_in(rows, words[k], rate) * slot;
+        if !is_rounded(sets::sum_in(rows, words[k], totals), share, hyper) {
             return false;
         }
         k += 1;

@@ -1,12 +1,12 @@
 -- The analysis of each outcome, and that only one fits a file.
-use mathlib.Core.Path.{_≡_, refl, sym, ap, _∙_}
+use mathlib.Core.Path.{_≡_, refl, sym, ap, subst, _∙_}
 use mathlib.Core.Logic.{_≢_}
 use mathlib.Core.Bool.{Bool}
 use mathlib.Core.List.{List}
 use Prim.Native.Nat.{ℕ, _*_, _/_, _≤_, _<_}
 use native.Mathlib.Decide.{ℕ-discrete}
 use native.Mathlib.Omega.{arith}
-use lib.Dec.{T, eqb}
+use lib.Dec.{T, eqb, eqb→eq}
 use lib.ListN.{length, take}
 use lib.Seq.{getD-take}
 use Rattle.numbers.specs.Finite.{lowest}
@@ -16,6 +16,7 @@ use Rattle.numbers.specs.Lists.{at}
 use Rattle.numbers.specs.Rounding.{up}
 use Rattle.numbers.proofs.Finite.{lowest-has, lowest-below, lowest-eq, largest-under}
 use Rattle.numbers.proofs.Rounding.{up-least}
+use Rattle.numbers.proofs.Truth.{is-true, is-false, eqb-of}
 use Rattle.rules.specs.Bus.{Table}
 use Rattle.rules.specs.TableFile.{fileTable}
 use Rattle.rules.specs.Loads.{hyperperiod, shortest, rate, load, equalPeriods, light, over, reported}
@@ -28,9 +29,10 @@ use Rattle.outline.specs.declared.Outline.{Outline}
 use Rattle.outline.specs.Outlined.{Found, Outlined}
 use Rattle.outline.proofs.Outlined.{answer-only, answers-at, line-numbered, outlined-none, found-count, found-only}
 use Rattle.lags.proofs.Intervals.{hyperperiod-positive}
+use Rattle.verdict.specs.declared.Loaded.{Loaded}
 use Rattle.verdict.specs.declared.Analysis.{Analysis}
 use Rattle.verdict.specs.Weights.{Times, lightBy, weight, past, Weighed}
-use Rattle.verdict.specs.Analysed.{table-checks, Accepted, blank, Analysed}
+use Rattle.verdict.specs.Analysed.{table-checks, Accepted, blank, withWeights, Analysed}
 use Rattle.numbers.proofs.Finite.{largest-eq}
 use Rattle.table.proofs.ByRow.{by-row-only}
 use Rattle.verdict.proofs.Weighing.{weight-load, past-over, within-one, equal-is, light-is, times-of, rates-are}
@@ -97,6 +99,12 @@ module _ (t : Table) where
         (stopped (line-checks t) (bound-checks t) (o .answer .number) (o .answer .place) h (O .answers))
 
     module _ (z : o .answer .number ≡ 0) where
+      -- no refusal, no place
+      pub still : o .answer .place ≡ 0
+      still =
+          answers-only (line-checks t) 0 0 (o .answer .place) 0 (rw z at (O .answers))
+          (answered (line-checks t) (outlined-none (line-numbered t) O z)) .1
+
       -- one of 13 and 14, where r was made for number n and place p
       later : (r : Answer) (n p : ℕ) → (r .number ≡ n) × (r .place ≡ p) → n ≢ 0 → Answers (bound-checks t) n p
           → Analysed (table-checks t) t (blank r)
@@ -143,9 +151,6 @@ module _ (t : Table) where
               let none : None (table-checks t) =
               none-join (line-checks t) (bound-checks t) (outlined-none (line-numbered t) O z)
               (bound-none t (F .timed .sound .rows-low) (take (o .sets) (o .words)) (F .list) none-light (λ k m. u k (rw count at m))) in
-              let still : o .answer .place ≡ 0 =
-              answers-only (line-checks t) 0 0 (o .answer .place) 0 (rw z at (O .answers))
-              (answered (line-checks t) (outlined-none (line-numbered t) O z)) .1 in
               record {
                 answers = rw (z, still) (answered (table-checks t) none);
                 found = λ h. record {
@@ -156,6 +161,18 @@ module _ (t : Table) where
                 };
                 refused = λ h. absurd (h z);
               }
+
+-- ---- an outline with its weights
+
+pub analysed-as : {cs : List Check} {t : Table} {a b : Analysis} → a ≡ b → Analysed cs t a → Analysed cs t b
+analysed-as {cs} {t} e A = subst (λ (a : Analysis). Analysed cs t a) e A
+
+module _ (o : Outline) (w : Loaded) where
+  pub with-refused : w .answer .number ≢ 0 → withWeights o w ≡ blank (w .answer)
+  with-refused h = rw (is-false (eqb (w .answer .number) 0) (λ t. h (eqb→eq (w .answer .number) 0 t)))
+
+  pub with-done : w .answer .number ≡ 0 → withWeights o w ≡ record { outline = o; load = w .load; rate = w .rate }
+  with-done h = rw (is-true (eqb (w .answer .number) 0) (eqb-of (w .answer .number) 0 h))
 
 -- ---- of a file
 

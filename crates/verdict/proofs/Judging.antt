@@ -15,39 +15,44 @@ use Rattle.ring.proofs.Cut.{cut-low}
 use Rattle.verdict.specs.declared.Analysis.{Analysis}
 use Rattle.verdict.specs.declared.Verdict.{Verdict}
 use Rattle.verdict.specs.declared.Verdict.the-variants.{Admitted, Refused}
-use Rattle.verdict.specs.Analysed.{Analysed}
-use Rattle.verdict.specs.Verdict.{numberOf, IsVerdict}
+use Rattle.table.specs.declared.Answer.{Answer}
+use Rattle.verdict.specs.Analysed.{blank, Analysed}
+use Rattle.verdict.specs.Verdict.{numberOf, Tells, IsVerdict}
 use Rattle.verdict.specs.Demand.{Demand-2}
 use Rattle.rules.proofs.Answers.{none-position, position-none}
 use Rattle.verdict.proofs.Bound.{verdict-numbered, admissible-of}
 
 -- ---- the verdict of an analysis
 
-module _ (f : List ℕ) {a : Analysis} (A : Analysed (verdict-checks f) (fileTable f) a) where
-  pub judged-refused : a .outline .answer .number ≢ 0 → IsVerdict f (Refused (a .outline .answer .number) (a .outline .answer .place))
-  judged-refused h = record { answers = A .answers; done = λ e. absurd (h e); refused = λ e. (refl, refl, refl, refl, refl) }
-
-  pub judged-admitted : a .outline .answer .number ≡ 0 → (cut interval hyper load sets : ℕ) → cut ≡ a .outline .cut
-      → interval ≡ a .outline .time .interval → hyper ≡ a .outline .time .hyper → load ≡ a .load → sets ≡ a .outline .sets
-      → IsVerdict f (Admitted cut interval hyper load sets)
-  judged-admitted z cut interval hyper load sets c i h l s =
-      let F = A .found z in
+pub judged : (f : List ℕ) {a : Analysis} {r : Verdict} → Analysed (verdict-checks f) (fileTable f) a → Tells a r → IsVerdict f r
+judged f {a} {r} A K = record {
+  answers = rw (K .number, K .place) (A .answers);
+  done = λ e.
+      let F = A .found (sym (K .number) ∙ e) in
       let O = F .outline in
       let sound = O .timed .sound in
-      let none = none-of (verdict-checks f) (a .outline .answer .place) (verdict-numbered f) (rw z at (A .answers)) in
       record {
-        answers = answered (verdict-checks f) none;
-        done = λ e. record {
-          list = take (a .outline .sets) (a .outline .words);
-          listed = O .list;
-          cut-is = c ∙ O .cut;
-          interval-is = i ∙ O .timed .interval;
-          hyper-is = h ∙ O .timed .hyper;
-          load-is = l ∙ F .load;
-          sets-is = omega (arith, length-take (a .outline .sets) (a .outline .words), O .few, O .size);
-        };
-        refused = λ e. absurd (e refl);
-      }
+        list = take (a .outline .sets) (a .outline .words);
+        listed = O .list;
+        cut-is = K .cut ∙ O .cut;
+        interval-is = K .interval ∙ O .timed .interval;
+        hyper-is = K .hyper ∙ O .timed .hyper;
+        load-is = K .load ∙ F .load;
+        sets-is = omega (arith, K .sets, length-take (a .outline .sets) (a .outline .words), O .few, O .size);
+      };
+  refused = λ h.
+      let b = A .refused (λ q. h (K .number ∙ q)) in (
+        K .cut ∙ ap (λ (x : Analysis). x .outline .cut) b,
+        K .interval ∙ ap (λ (x : Analysis). x .outline .time .interval) b,
+        K .hyper ∙ ap (λ (x : Analysis). x .outline .time .hyper) b,
+        K .load ∙ ap (λ (x : Analysis). x .load) b,
+        K .sets ∙ ap (λ (x : Analysis). x .outline .sets) b,
+      );
+}
+
+pub tells-refused : (a : Answer) → Tells (blank a) (Refused (a .number) (a .place))
+tells-refused a =
+    record { number = refl; place = refl; cut = refl; interval = refl; hyper = refl; load = refl; sets = refl }
 
 -- ---- only one verdict fits
 

@@ -2,28 +2,29 @@
 -- weights are document 01's loads and bound.
 --
 --   Sought n q i         none of the first i of n numbers passes the test q
---   Summed xs w i x      x is the load of the set w in the first i rows
 use mathlib.Core.Path.{_≡_, refl, sym, ap, _∙_}
 use mathlib.Core.Logic.{⊎-elim}
 use mathlib.Core.Bool.{Bool, true, false, not, _&&_}
 use mathlib.Core.List.{List}
-use Prim.Native.Nat.{ℕ, _+_, _-_, _*_, _/_, _%_, _^_, _≤_, _<_, max}
+use Prim.Native.Nat.{ℕ, _+_, _-_, _*_, _/_, _≤_, _<_, max}
 use native.Mathlib.Nat.{le-of-dvd, eq-or-lt-of-le, mul-le-mul-right, le-of-mul-le-mul-right}
 use native.Mathlib.Omega.{arith}
+use lib.Bits.{bitAnd, bitXor}
 use lib.Dec.{T, ltb, eqb, eqb→eq, lt→ltb}
 use borrow.Author.Count.{below-more}
-use borrow.Author.Tests.{eq-eqb}
-use Rattle.numbers.specs.Finite.{every, lowest, only, sum, largest}
+use Rattle.numbers.specs.Finite.{every, lowest, sumIn, largest}
 use Rattle.numbers.specs.Word.{bit}
 use Rattle.numbers.specs.Lists.{at}
-use Rattle.numbers.proofs.Truth.{both, fst, snd, decide, is-true, is-false, of-true, of-false, eqb-of, refutes}
+use Rattle.numbers.proofs.Truth.{both, fst, snd, decide, is-true, is-false, of-true, of-false, along, eqb-of, refutes}
 use Rattle.numbers.proofs.Finite.{every-of, lowest-is, lowest-none, lowest-le, lowest-has, lowest-below}
-use Rattle.numbers.proofs.Finite.{sum-next, only-true, only-false, sumIn-eq, largest-next}
+use Rattle.numbers.proofs.Finite.{sumIn-eq, sumIn-most, largest-next}
+use Rattle.numbers.proofs.Word.{bit-and}
 use Rattle.rules.specs.Bounds.{max-rows, max-slots}
 use Rattle.rules.specs.Bus.{Table}
 use Rattle.rules.specs.Loads.{hyperperiod, shortest, rate, load, equalPeriods, light, over}
 use Rattle.table.specs.Sound.{Sound}
 use Rattle.table.specs.Columns.{ByRow}
+use Rattle.sets.proofs.Sums.{sum-none, sum-part}
 use Rattle.lags.proofs.Intervals.{period-divides, hyperperiod-positive, shortest-positive, shortest-low, rate-le}
 use Rattle.lags.proofs.Intervals.{equal-shortest, equal-hyperperiod}
 use Rattle.verdict.specs.Weights.{Times, lightBy, SmallRates, weight, past, nextLowest, Weighed}
@@ -100,37 +101,22 @@ module _ {n : ℕ} {q : ℕ → Bool} where
 
 -- ---- the load of a set
 
-pub record Summed (xs : List ℕ) (w i x : ℕ) : Type 0 where
-  pub is : x ≡ weight i xs w
-  pub small : x ≤ i * max-slots
-
-weight-next : (xs : List ℕ) (w i : ℕ) → weight (i + 1) xs w ≡ weight i xs w + only (bit w i) (at xs i)
+pub weight-none : (n : ℕ) (xs : List ℕ) → 0 ≡ weight n xs 0
 unfolding weight
-weight-next xs w i = sum-next i (λ j. only (bit w j) (at xs j))
+weight-none n xs = sym (sum-none n 0 (at xs) refl)
 
-module _ {xs : List ℕ} {w : ℕ} where
-  pub summed-start : Summed xs w 0 0
-  unfolding weight sum
-  summed-start = record { is = refl; small = omega arith }
+pub weight-small : {n : ℕ} {xs : List ℕ} → SmallRates xs n → (w : ℕ) → weight n xs w ≤ n * max-slots
+unfolding weight
+weight-small {n} {xs} S w = sumIn-most n (bit w) (at xs) max-slots (S .small)
 
-  pub summed-in : {i x : ℕ} → Summed xs w i x → w / 2 ^ i % 2 ≡ 1 → at xs i ≤ max-slots → Summed xs w (i + 1) (x + at xs i)
-  unfolding bit
-  summed-in {i} {x} s b h = record {
-    is = omega (arith, s .is, weight-next xs w i, only-true (bit w i) (at xs i) (eq-eqb (w / 2 ^ i % 2) 1 b));
-    small = omega (arith, s .small);
-  }
-
-  pub summed-out : {i x : ℕ} → Summed xs w i x → (w / 2 ^ i % 2 ≡ 1 → ⊥) → Summed xs w (i + 1) x
-  unfolding bit
-  summed-out {i} {x} s b = record {
-    is = omega (
-      arith,
-      s .is,
-      weight-next xs w i,
-      only-false (bit w i) (at xs i) (is-false (eqb (w / 2 ^ i % 2) 1) (λ h. b (eqb→eq (w / 2 ^ i % 2) 1 h))),
-    );
-    small = omega (arith, s .small);
-  }
+-- the load x of the set v, with the rows that join to make it w and without those that leave
+pub weight-moved : (n : ℕ) (xs : List ℕ) (v w : ℕ) {x a b : ℕ} → x ≡ weight n xs v → a ≡ sumIn n (bit (bitXor w (bitAnd w v))) (at xs)
+    → b ≡ sumIn n (bit (bitXor v (bitAnd w v))) (at xs) → (b ≤ x) × (x + a ≡ weight n xs w + b)
+unfolding weight
+weight-moved n xs v w p q r =
+    let to = sum-part n w (bitAnd w v) (at xs) (λ i t. fst (bit w i) (bit v i) (along (bit-and w v i) t)) in
+    let from = sum-part n v (bitAnd w v) (at xs) (λ i t. snd (bit w i) (bit v i) (along (bit-and w v i) t)) in
+    (omega (arith, p, r, from), omega (arith, p, q, r, from, to))
 
 -- ---- the lowest set over its bound
 

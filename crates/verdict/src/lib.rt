@@ -6,7 +6,8 @@ use outline::Outline;
 use table::Answer;
 use table::Table;
 ghost use mathlib.Core.Path.{_≡_};
-ghost use Prim.Native.Nat.{_+_, _-_, _*_, _/_, _<_, _≤_, max};
+ghost use mathlib.Core.List.{List};
+ghost use Prim.Native.Nat.{ℕ, _+_, _-_, _*_, _/_, _<_, _≤_, max};
 ghost use lib.Dec.{ltb};
 ghost use Rattle.numbers.specs.Lists.{at};
 ghost use Rattle.numbers.specs.Finite.{lowest};
@@ -18,20 +19,24 @@ ghost use Rattle.rules.specs.Calls.{Judged};
 ghost use Rattle.table.specs.Sound.{Sound};
 ghost use Rattle.table.specs.Columns.{ByRow, columnTable};
 ghost use Rattle.verdict.specs.Weights.{Times, lightBy, SmallRates, weight, past, nextLowest, Weighed};
-ghost use Rattle.verdict.specs.Analysed.{table-checks, blank, Analysed};
-ghost use Rattle.verdict.specs.Verdict.{numberOf, placeOf, cutOf, intervalOf, hyperOf, loadOf, setsOf};
+ghost use Rattle.verdict.specs.Analysed.{table-checks, blank, Ready, noWeights, withWeights, Analysed};
+ghost use Rattle.verdict.specs.declared.Analysis.{Analysis};
+ghost use Rattle.verdict.specs.Verdict.{numberOf, placeOf, cutOf, intervalOf, hyperOf, loadOf, setsOf, Tells};
 
 // ---- rows
 
-// The load cost / period of a row, in units of 1 / h.
-fn rate_of(hyper: u64, period: u64, cost: u64) -> u64
-    requires { ⌜ (hyper ≤ max-slots) × (1 ≤ period) × (cost ≤ max-slots) ⌝ }
-    ensures { λ r. ⌜ r ≡ hyper / period * cost ⌝ }
+// How many jobs come in h with the period `period`, where `jobs` come with the period before. Nothing is divided where these are equal.
+fn jobs_in(hyper: u64, last: u64, jobs: u64, period: u64) -> u64
+    requires { ⌜ (1 ≤ period) × (jobs ≡ hyper / last) ⌝ }
+    ensures { λ r. ⌜ r ≡ hyper / period ⌝ }
 {
-    hyper / period * cost
+    if period == last {
+        return jobs;
+    }
+    hyper / period
 }
 
-// All rows' rates, 0 past the last row.
+// All rows' rates, the loads cost / period in units of 1 / h, and 0 past the last row.
 fn rates<'a>(
     rows: usize,
     hyper: u64,
@@ -42,9 +47,14 @@ fn rates<'a>(
     ensures { λ r. ⌜ ByRow rows (λ i. hyper / at (now (period .entry)) i * at (now (cost .entry)) i) r ⌝ }
 {
     let mut rate = [0u64; Table::ROWS];
+    let mut last: u64 = 1;
+    let mut jobs = hyper;
     let mut i: usize = 0;
     while i < rows {
-        rate[i] = rate_of(hyper, table::slots_at(period, i), table::slots_at(cost, i));
+        let next = table::slots_at(period, i);
+        jobs = jobs_in(hyper, last, jobs, next);
+        last = next;
+        rate[i] = jobs * table::slots_at(cost, i);
         i += 1;
     }
     rate
@@ -88,20 +98,13 @@ fn lowest_light<'a>(
 
 // ---- sets
 
-// The load of the set whose word is `word`.
-fn set_load(word: u64, rate: &[u64; Table::ROWS], rows: usize) -> u64
-    requires { ⌜ SmallRates (now rate) rows ⌝ }
+// The load of the set whose word is `word`, from the load of the set before: only the rows that join and those that leave are gone through.
+fn next_load(load: u64, last: u64, word: u64, rate: &[u64; Table::ROWS], rows: usize) -> u64
+    requires { ⌜ SmallRates (now rate) rows × (load ≡ weight rows (now rate) last) ⌝ }
     ensures { λ r. ⌜ (r ≡ weight rows (now (rate .entry)) word) × (r ≤ max-rows * max-slots) ⌝ }
 {
-    let mut load: u64 = 0;
-    let mut i: usize = 0;
-    while i < rows {
-        if (word >> i) % 2 == 1 {
-            load += rate[i];
-        }
-        i += 1;
-    }
-    load
+    let both = word & last;
+    load + sets::sum_in(rows, word ^ both, rate) - sets::sum_in(rows, last ^ both, rate)
 }
 
 // The load is over the bound: 1 where all periods are equal, (L − 1) / L where they differ.
@@ -149,11 +152,15 @@ fn weigh_sets<'a>(
 {
     let mut over: usize = 0;
     let mut largest: u64 = 0;
+    let mut last: u64 = 0;
+    let mut load: u64 = 0;
     let mut k: usize = 0;
     while k < sets {
-        let load = set_load(words[k], rate, rows);
+        let word = words[k];
+        load = next_load(load, last, word, rate, rows);
         over = lowest_next(over, k, is_over(load, hyper, interval, equal));
         largest = larger(largest, load);
+        last = word;
         k += 1;
     }
     Weights { over, largest }
@@ -168,6 +175,58 @@ fn thousandths(load: u64, hyper: u64) -> u64
 }
 
 // ---- the analysis
+
+// What rows and sets weigh: the first refusal of 13 and 14, or the reported load and the rows' rates in units of 1 / h.
+struct Loaded {
+    answer: Answer,
+    load: u64,
+    rate: [u64; Table::ROWS],
+}
+
+fn unweighed(answer: Answer) -> Loaded
+    ensures { λ r. ⌜ r ≡ noWeights answer ⌝ }
+{
+    Loaded {
+        answer: answer,
+        load: 0,
+        rate: [0; Table::ROWS],
+    }
+}
+
+// The rows and sets of a table weighed, whose outline is found. All periods are equal exactly if L is h.
+fn weigh<'a>(found: Outline, cost: &'a [u16; Table::ROWS], period: &'a [u16; Table::ROWS]) -> Loaded
+    requires { ⌜ ((M : ℕ) × (n : ℕ) × (first : List ℕ) × (second : List ℕ)
+        × Ready (columnTable M n (now cost) (now period) first second) found) ⌝ }
+    ensures { λ r. ⌜ ((M n : ℕ) (first second : List ℕ)
+        → Ready (columnTable M n (now (cost .entry)) (now (period .entry)) first second) found
+        → Analysed (table-checks (columnTable M n (now (cost .entry)) (now (period .entry)) first second))
+        (columnTable M n (now (cost .entry)) (now (period .entry)) first second) (withWeights found r)) ⌝ }
+{
+    let time = found.time;
+    let equal = time.interval == time.hyper;
+    let light = lowest_light(found.rows, cost, period, time.interval, equal);
+    if light < found.rows {
+        return unweighed(Answer::at(Answer::LIGHT_ROW, light));
+    }
+    let rate = rates(found.rows, time.hyper, cost, period);
+    let weights = weigh_sets(
+        &found.words,
+        found.sets,
+        &rate,
+        found.rows,
+        time.hyper,
+        time.interval,
+        equal,
+    );
+    if weights.over < found.sets {
+        return unweighed(Answer::at(Answer::OVER_BOUND, weights.over));
+    }
+    Loaded {
+        answer: Answer::done(),
+        load: thousandths(weights.largest, time.hyper),
+        rate: rate,
+    }
+}
 
 // A table analysed: its outline, its reported load, and its rows' rates in units of 1 / h. All is 0 but the outline's answer where it is
 // refused.
@@ -189,7 +248,7 @@ impl Analysis {
     }
 }
 
-// The analysis of a table: 10 and 11 are refused by its outline, then 13, then 14. All periods are equal exactly if L is h.
+// The analysis of a table: 10 and 11 are refused by its outline, then 13, then 14.
 pub fn analysis_of<'a>(
     elements: usize,
     rows: usize,
@@ -209,28 +268,15 @@ pub fn analysis_of<'a>(
     if answer.number != Answer::DONE {
         return Analysis::refused(answer);
     }
-    let time = outline.time;
-    let equal = time.interval == time.hyper;
-    let light = lowest_light(outline.rows, cost, period, time.interval, equal);
-    if light < outline.rows {
-        return Analysis::refused(Answer::at(Answer::LIGHT_ROW, light));
+    let weighing = weigh(outline, cost, period);
+    let next = weighing.answer;
+    if next.number != Answer::DONE {
+        return Analysis::refused(next);
     }
-    let rate = rates(outline.rows, time.hyper, cost, period);
-    let weights = weigh_sets(
-        &outline.words,
-        outline.sets,
-        &rate,
-        outline.rows,
-        time.hyper,
-        time.interval,
-        equal,
-    );
-    if weights.over < outline.sets {
-        return Analysis::refused(Answer::at(Answer::OVER_BOUND, weights.over));
-    }
+    let rate = weighing.rate;
     Analysis {
         outline: outline,
-        load: thousandths(weights.largest, time.hyper),
+        load: weighing.load,
         rate: rate,
     }
 }
@@ -303,12 +349,22 @@ impl Verdict {
     }
 }
 
-// Whether the bus can carry the table of a file.
-pub fn judge(file: &[u8]) -> Verdict
-    ensures { λ r. ⌜ Judged (now (file .entry)) (numberOf r) (placeOf r) (cutOf r) (intervalOf r) (hyperOf r) (loadOf r) (setsOf r) ⌝ }
+// The verdict on a table: what its analysis tells. The analysis itself is not made up, which halves the stack.
+fn judge_table<'a>(
+    elements: usize,
+    rows: usize,
+    cost: &'a [u16; Table::ROWS],
+    period: &'a [u16; Table::ROWS],
+    first: &'a [u8; Table::ROWS],
+    second: &'a [u8; Table::ROWS],
+) -> Verdict
+    requires { ⌜ Sound (columnTable elements rows (now cost) (now period) (now first) (now second)) ⌝ }
+    ensures { λ r. ⌜ ((a : Analysis) × Analysed
+        (table-checks
+        (columnTable elements rows (now (cost .entry)) (now (period .entry)) (now (first .entry)) (now (second .entry))))
+        (columnTable elements rows (now (cost .entry)) (now (period .entry)) (now (first .entry)) (now (second .entry))) a × Tells a r) ⌝ }
 {
-    let table = analyse(file);
-    let outline = table.outline;
+    let outline = outline::outline_of(elements, rows, period, first, second);
     let answer = outline.answer;
     if answer.number != Answer::DONE {
         return Verdict::Refused {
@@ -316,12 +372,42 @@ pub fn judge(file: &[u8]) -> Verdict
             place: answer.place,
         };
     }
+    let weighing = weigh(outline, cost, period);
+    let next = weighing.answer;
+    if next.number != Answer::DONE {
+        return Verdict::Refused {
+            number: next.number,
+            place: next.place,
+        };
+    }
     let time = outline.time;
     Verdict::Admitted {
         cut: outline.cut as u32,
         interval: time.interval as u32,
         hyper: time.hyper as u32,
-        load: table.load as u32,
+        load: weighing.load as u32,
         sets: outline.sets as u32,
     }
+}
+
+// Whether the bus can carry the table of a file.
+pub fn judge(file: &[u8]) -> Verdict
+    ensures { λ r. ⌜ Judged (now (file .entry)) (numberOf r) (placeOf r) (cutOf r) (intervalOf r) (hyperOf r) (loadOf r) (setsOf r) ⌝ }
+{
+    let found = table::decode(file);
+    let answer = found.answer;
+    if answer.number != Answer::DONE {
+        return Verdict::Refused {
+            number: answer.number,
+            place: answer.place,
+        };
+    }
+    judge_table(
+        found.columns.elements,
+        found.columns.rows,
+        &found.columns.cost,
+        &found.columns.period,
+        &found.columns.first,
+        &found.columns.second,
+    )
 }

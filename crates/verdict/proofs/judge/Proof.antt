@@ -1,56 +1,50 @@
--- judge: the verdict of the analysis; an admitted table's values fit.
-use mathlib.Core.Path.{refl}
-use native.Mathlib.Omega.{arith}
+-- judge: past the file's checks the columns hold its table, and its verdict is the file's.
+use mathlib.Core.Path.{_≡_}
+use mathlib.Core.List.{List}
+use Prim.Native.Nat.{ℕ}
 use borrow.Author.Needs.{needs}
 use Rattle.rules.specs.TableFile.{fileTable}
-use Rattle.lags.proofs.Intervals.{shortest-le}
-use Rattle.verdict.specs.Analysed.{Accepted}
-use Rattle.verdict.proofs.Analysing.{load-small}
-use Rattle.verdict.proofs.Judging.{judged-refused, judged-admitted}
+use Rattle.rules.specs.Refusals.{Answers, file-checks}
+use Rattle.table.specs.Sound.{Sound}
+use Rattle.table.specs.Columns.{tableOf}
+use Rattle.table.proofs.Faults.{passed-of}
+use Rattle.outline.proofs.Outlined.{answers-zero}
+use Rattle.verdict.proofs.Analysing.{analysed-file, analysed-past}
+use Rattle.verdict.proofs.Judging.{judged, tells-refused}
 use Rattle.verdict.proofs.judge.Statement.{statement}
 use Rattle.verdict.proofs.judge.Tie as tie
 
-abbrev analysed : tie.Else1 → tie.After-analyse
-analysed z = z .before .before .before .before
+abbrev decoded : tie.Else1 → tie.After-decode
+decoded c = c .before .before .before
 
-accepted : (z : tie.Else1) → Accepted (fileTable (analysed z .before .before .args .file .now)) (analysed z .analyse .result)
-accepted z = analysed z .analyse .ensures .found (z .if1 .left)
+abbrev bytes : tie.Else1 → List ℕ
+bytes c = decoded c .before .before .args .file .now
 
-analyse-requires : tie.Need-analyse-requires
-analyse-requires c κs = search needs
+checked : (c : tie.Else1) → Answers (file-checks (bytes c)) 0 (decoded c .decode .result .answer .place)
+checked c = answers-zero (file-checks (bytes c)) (decoded c .decode .result .answer) (c .if1 .left) (decoded c .decode .ensures .answers)
+
+held : (c : tie.Else1) → tableOf (decoded c .decode .result .columns) ≡ fileTable (bytes c)
+held c = decoded c .decode .ensures .passed (c .if1 .left) .table
+
+sound : (c : tie.Else1) → Sound (tableOf (decoded c .decode .result .columns))
+sound c = rw (held c) (passed-of (bytes c) _ (checked c) .sound)
+
+decode-requires : tie.Need-decode-requires
+decode-requires c κs = search needs
 
 returns : tie.Need-returns
-returns c = judged-refused _ (c .before .before .before .before .analyse .ensures) (c .if1 .taken)
+returns c =
+    let a = c .before .before .before .decode in
+    judged _ (analysed-file _ (a .result .answer) (c .if1 .taken) (a .ensures .answers)) (tells-refused _)
 
-cast-t7 : tie.Need-cast-t7
-cast-t7 c =
-    let F = accepted (c .before .before) .outline in
-    let s = F .timed .sound in
-    omega (arith, F .cut, F .clear)
-
-cast-t8 : tie.Need-cast-t8
-cast-t8 c =
-    let T = accepted (c .before .before .before) .outline .timed in
-    omega (arith, T .interval, shortest-le (T .sound))
-
-cast-t9 : tie.Need-cast-t9
-cast-t9 c =
-    let T = accepted (c .before .before .before .before) .outline .timed in
-    omega (arith, T .hyper, T .short)
-
-cast-t10 : tie.Need-cast-t10
-cast-t10 c = omega (arith, load-small (accepted (c .before .before .before .before .before)))
-
-cast-t11 : tie.Need-cast-t11
-cast-t11 c =
-    let F = accepted (c .before .before .before .before .before .before) .outline in
-    let s = F .timed .sound in
-    omega (arith, F .few)
+judge-table-requires : tie.Need-judge-table-requires
+judge-table-requires c κs = sound (c .before .before .before .before .before)
 
 returns-2 : tie.Need-returns-2
 returns-2 c =
-    let z = c .before .before .before .before .before .before in
-    judged-admitted _ (analysed z .analyse .ensures) (z .if1 .left) _ _ _ _ _ refl refl refl refl refl
+    let e = c .before .before .before .before .before .before in
+    let v = c .judge-table .ensures in
+    judged (bytes e) (analysed-past (bytes e) _ (checked e) (rw (held e) at (v .1))) (v .2)
 
 pub judge-spec : {M : Type 1} → statement M
-judge-spec = tie.close (tie.spec analyse-requires returns cast-t7 cast-t8 cast-t9 cast-t10 cast-t11 returns-2)
+judge-spec = tie.close (tie.spec decode-requires returns judge-table-requires returns-2)

@@ -1,36 +1,49 @@
--- rates: row after row's rate is put in its place.
-use mathlib.Core.Path.{_≡_, ap₂, _∙_}
+-- rates: row after row's rate is put in its place; the jobs are those of the period before.
+use mathlib.Core.Path.{_≡_, sym, ap, ap₂, _∙_}
 use Prim.Native.Nat.{ℕ, _-_, _*_, _/_, _≤_}
+use native.Mathlib.Nat.{div-one, div-le-self, mul-le-mul}
 use native.Mathlib.Omega.{arith}
 use Rattle.numbers.specs.Lists.{at}
+use Rattle.rules.specs.Bounds.{max-slots}
 use Rattle.table.specs.Columns.{ByRow}
 use Rattle.table.proofs.ByRow.{by-row-start, by-row-put}
 use Rattle.verdict.proofs.rates.Statement.{statement}
 use Rattle.verdict.proofs.rates.Tie as tie
 
 abbrev Inv-loop : tie.InvT-loop
-Inv-loop rows hyper cost period rate₀ i₀ rate i = (i ≤ rows) × ByRow i (λ k. hyper / at period k * at cost k) rate
+Inv-loop rows hyper cost period rate₀ last₀ jobs₀ i₀ rate last jobs i =
+    (i ≤ rows) × ByRow i (λ k. hyper / at period k * at cost k) rate × (jobs ≡ hyper / last)
 
 abbrev μ-loop : tie.MeasureT-loop
-μ-loop rows hyper cost period rate₀ i₀ rate i = rows - i
+μ-loop rows hyper cost period rate₀ last₀ jobs₀ i₀ rate last jobs i = rows - i
 
 loop-holds : tie.Need-loop-holds Inv-loop μ-loop
-loop-holds c = (omega arith, by-row-start _)
+loop-holds c = (omega arith, by-row-start _, sym (div-one (c .args .hyper)))
 
 slots-at-requires : tie.Need-slots-at-requires Inv-loop μ-loop
 slots-at-requires c κs = omega arith
 
+jobs-in-requires : tie.Need-jobs-in-requires Inv-loop μ-loop
+jobs-in-requires c κs =
+    let u = c .before .before in
+    (omega (arith, c .slots-at .ensures, u .before .pre .0 .period-low (u .loop .i) (omega arith)), u .loop .inv .2)
+
 slots-at-requires-2 : tie.Need-slots-at-requires-2 Inv-loop μ-loop
 slots-at-requires-2 c κs = omega arith
 
-rate-of-requires : tie.Need-rate-of-requires Inv-loop μ-loop
-rate-of-requires c κs =
-    let T = c .before .before .before .before .pre .0 in
-    let i = c .before .before .before .loop .i in
-    omega (arith, T .period-low i (omega arith), T .cost-high i (omega arith))
-
 mul-rate : tie.Need-mul-rate Inv-loop μ-loop
-mul-rate c = omega arith
+mul-rate c =
+    let j = c .before in
+    let s = j .before in
+    let u = s .before .before in
+    let a = u .before .args in
+    let few : j .jobs-in .result ≤ max-slots = omega (arith, j .jobs-in .ensures, div-le-self (a .hyper) (s .slots-at .result)) in
+    let high : c .slots-at2 .result ≤ max-slots =
+    omega (arith, c .slots-at2 .ensures, u .before .pre .0 .cost-high (u .loop .i) (omega arith)) in
+    omega (arith, mul-le-mul few high)
+
+mul-rate-2 : tie.Need-mul-rate-2 Inv-loop μ-loop
+mul-rate-2 c = omega arith
 
 array-write-rate : tie.Need-array-write-rate Inv-loop μ-loop
 array-write-rate c = omega arith
@@ -43,11 +56,13 @@ loop-less c = omega arith
 
 loop-again : tie.Need-loop-again Inv-loop μ-loop
 loop-again c =
-    let u = c .before .before .before .before in
-    let rate : ℕ → ℕ → ℕ = λ p x. u .before .args .hyper / p * x in (
+    let j = c .before in
+    let u = j .before .before .before in
+    let hyper = u .before .args .hyper in (
       omega arith,
       by-row-put _ (u .loop .inv .1) (omega arith)
-          (c .rate-of .ensures ∙ ap₂ rate (c .before .before .slots-at .ensures) (c .before .slots-at2 .ensures)),
+          (ap₂ (λ (x y : ℕ). x * y) (j .jobs-in .ensures ∙ ap (λ (p : ℕ). hyper / p) (j .before .slots-at .ensures)) (c .slots-at2 .ensures)),
+      j .jobs-in .ensures,
     )
 
 returns : tie.Need-returns Inv-loop μ-loop
@@ -63,9 +78,10 @@ rates-spec =
     μ-loop
     loop-holds
     slots-at-requires
+    jobs-in-requires
     slots-at-requires-2
-    rate-of-requires
     mul-rate
+    mul-rate-2
     array-write-rate
     add-i
     loop-less
