@@ -159,7 +159,7 @@ pub fn advance<'a>(
         → Advanced t k (now (totals .entry)) (now (totals .exit)) (now (plan .entry)) (now (plan .exit))) ⌝ }
 {
     let mut load = [0u64; Table::ROWS];
-    let mut part = [0u64; Table::ROWS];
+    let mut part = [0u32; Table::ROWS];
     choice::part_shares(rate, end as u64, size, &mut load, &mut part);
     let rounded = choice::choose(tail, head, out, into, words, size, &part);
     give(rounded, size.rows, &mut load, totals);
