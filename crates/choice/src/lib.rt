@@ -51,7 +51,7 @@ pub fn part_shares(
     slots: u64,
     size: Size,
     whole: &mut [u64; ROWS],
-    part: &mut [u64; ROWS],
+    part: &mut [u32; ROWS],
 )
     requires { ⌜ (size .rows ≤ max-rows) × (0 < size .hyper) × ((i : ℕ) → i < size .rows → at (now rate) i * slots ≤ share-most)
         × (length (now whole) ≡ max-rows) × (length (now part) ≡ max-rows) ⌝ }
@@ -64,13 +64,13 @@ pub fn part_shares(
     while i < size.rows {
         let share = rate[i] * slots;
         whole[i] = share / h;
-        part[i] = share % h;
+        part[i] = (share % h) as u32;
         i += 1;
     }
 }
 
 // Adds v to the sums from one up to another.
-fn lift(sum: &mut [u64; SETS], from: usize, to: usize, v: u64)
+fn lift(sum: &mut [u32; SETS], from: usize, to: usize, v: u32)
     requires { ⌜ (from ≤ to) × (to ≤ max-elements) × (length (now sum) ≡ max-elements)
         × ((k : ℕ) → from ≤ k → k < to → at (now sum) k + v ≤ part-most) ⌝ }
     ensures { λ r. ⌜ (length (now (sum .exit)) ≡ max-elements) × Lifted (at (now (sum .entry))) (at (now (sum .exit))) from to v ⌝ }
@@ -86,9 +86,9 @@ fn lift(sum: &mut [u64; SETS], from: usize, to: usize, v: u64)
 fn add_parts(
     tail: &[u8; ROWS],
     head: &[u8; ROWS],
-    part: &[u64; ROWS],
+    part: &[u32; ROWS],
     size: Size,
-    sum: &mut [u64; SETS],
+    sum: &mut [u32; SETS],
 )
     requires { ⌜ Spans (size .rows) (size .sets) (at (now tail)) (last (now head)) × ((i : ℕ) → i < size .rows → 0 < at (now head) i)
         × Parts (size .rows) (size .hyper) (at (now part)) × ((k : ℕ) → at (now sum) k ≡ 0) × (length (now sum) ≡ max-elements) ⌝ }
@@ -108,7 +108,7 @@ fn add_parts(
 // ---- rows in turn
 
 // Whether none of the sets from one up to another is full.
-fn has_room(left: &[u64; SETS], from: usize, to: usize) -> bool
+fn has_room(left: &[u32; SETS], from: usize, to: usize) -> bool
     requires { ⌜ to ≤ max-elements ⌝ }
     ensures { λ r. ⌜ Open (at (now (left .entry))) from to r ⌝ }
 {
@@ -123,7 +123,7 @@ fn has_room(left: &[u64; SETS], from: usize, to: usize) -> bool
 }
 
 // What is left of v after h is taken, at least 0.
-fn less(v: u64, h: u64) -> u64
+fn less(v: u32, h: u32) -> u32
     ensures { λ r. ⌜ r ≡ v - h ⌝ }
 {
     if v < h {
@@ -133,7 +133,7 @@ fn less(v: u64, h: u64) -> u64
 }
 
 // Takes h from what is left of the sets from one up to another.
-fn lower(left: &mut [u64; SETS], from: usize, to: usize, h: u64)
+fn lower(left: &mut [u32; SETS], from: usize, to: usize, h: u32)
     requires { ⌜ (from ≤ to) × (to ≤ max-elements) × (length (now left) ≡ max-elements) ⌝ }
     ensures { λ r. ⌜ (length (now (left .exit)) ≡ max-elements)
         × Lowered (at (now (left .entry))) (at (now (left .exit))) from to h ⌝ }
@@ -149,9 +149,9 @@ fn lower(left: &mut [u64; SETS], from: usize, to: usize, h: u64)
 fn take_rows(
     tail: &[u8; ROWS],
     head: &[u8; ROWS],
-    part: &[u64; ROWS],
+    part: &[u32; ROWS],
     size: Size,
-    left: &mut [u64; SETS],
+    left: &mut [u32; SETS],
 ) -> u64
     requires { ⌜ Spans (size .rows) (size .sets) (at (now tail)) (last (now head)) × ((i : ℕ) → i < size .rows → 0 < at (now head) i)
         × Parts (size .rows) (size .hyper) (at (now part))
@@ -161,7 +161,7 @@ fn take_rows(
         × Taken (size .rows) (size .sets) (size .rows) (at (now (tail .entry))) (last (now (head .entry))) (size .hyper)
         (at (now (part .entry))) r (at (now (left .exit))) ⌝ }
 {
-    let h = size.hyper;
+    let h = size.hyper as u32;
     let mut top: u64 = 0;
     let mut i: usize = 0;
     while i < size.rows {
@@ -179,7 +179,7 @@ fn take_rows(
 }
 
 // Whether less than h is left of every set.
-fn all_less(left: &[u64; SETS], sets: usize, h: u64) -> bool
+fn all_less(left: &[u32; SETS], sets: usize, h: u32) -> bool
     requires { ⌜ sets ≤ max-elements ⌝ }
     ensures { λ r. ⌜ (r ≡ true → (k : ℕ) → k < sets → at (now (left .entry)) k < h) ⌝ }
 {
@@ -194,7 +194,7 @@ fn all_less(left: &[u64; SETS], sets: usize, h: u64) -> bool
 }
 
 // The rows that are not whole.
-fn parted_rows(part: &[u64; ROWS], rows: usize) -> u64
+fn parted_rows(part: &[u32; ROWS], rows: usize) -> u64
     requires { ⌜ rows ≤ max-rows ⌝ }
     ensures { λ r. ⌜ ((i : ℕ) → bit r i ≡ (ltb i rows && ltb 0 (at (now (part .entry)) i))) ⌝ }
 {
@@ -217,18 +217,18 @@ pub fn choose(
     into: &[u64; PLACES],
     words: &[u64; ROWS],
     size: Size,
-    part: &[u64; ROWS],
+    part: &[u32; ROWS],
 ) -> u64
     requires { ⌜ Laid (size .rows) (size .sets) (now tail) (now head) (now out) (now into) (now words)
         × Parts (size .rows) (size .hyper) (at (now part)) ⌝ }
     ensures { λ r. ⌜ Greatest (size .rows) (size .sets) (at (now (tail .entry))) (last (now (head .entry))) (size .hyper)
         (at (now (part .entry))) none (digit r) ⌝ }
 {
-    let mut sum = [0u64; SETS];
+    let mut sum = [0u32; SETS];
     add_parts(tail, head, part, size, &mut sum);
     let mut left = sum;
     let top = take_rows(tail, head, part, size, &mut left);
-    if all_less(&left, size.sets, size.hyper) {
+    if all_less(&left, size.sets, size.hyper as u32) {
         return top;
     }
     let parted = parted_rows(part, size.rows);

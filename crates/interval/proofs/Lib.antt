@@ -1,5 +1,6 @@
 pub mod Moved
 pub mod RowSets
+pub mod Placing
 pub mod Choice
 pub mod Fill
 pub mod Ready

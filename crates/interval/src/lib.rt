@@ -5,67 +5,79 @@ use loads::Size;
 use slots::Chains;
 use table::Table;
 ghost use mathlib.Core.Path.{_≡_};
-ghost use Prim.Native.Nat.{ℕ, _+_, _-_, _≤_, _<_};
+ghost use Prim.Native.Nat.{ℕ, suc, _+_, _-_, _≤_, _<_};
+ghost use lib.Dec.{ltb};
 ghost use lib.ListN.{length};
 ghost use Rattle.numbers.specs.Lists.{at};
+ghost use Rattle.numbers.specs.Word.{bit};
 ghost use Rattle.rules.specs.Bounds.{max-elements, max-rows, max-slots};
 ghost use Rattle.rules.specs.Bus as bus;
+ghost use Rattle.table.specs.Columns.{ByRow};
 ghost use Rattle.slots.specs.Chained.{all-heads};
-ghost use Rattle.interval.specs.Ranges.{lowestSet, highestSet, Ranged};
+ghost use Rattle.interval.specs.Ranges.{lowestSet, highestSet, Marked};
 ghost use Rattle.interval.specs.Interval.{Given};
 ghost use Rattle.interval.specs.Ready.{layout, LaidOut, Ready, Due, Advanced};
 
 // ---- the sets of each row
 
-// The lowest set that row `i` is in; `sets` where it is in none.
-fn lowest_set(words: &[u64; Table::ROWS], sets: usize, i: usize) -> u8
-    requires { ⌜ (sets ≤ max-rows) × (i < max-rows) ⌝ }
-    ensures { λ r. ⌜ r ≡ lowestSet sets (now (words .entry)) i ⌝ }
+// All of so many rows.
+fn all_rows(rows: usize) -> u64
+    requires { ⌜ rows ≤ max-rows ⌝ }
+    ensures { λ r. ⌜ ((i : ℕ) → bit r i ≡ ltb i rows) ⌝ }
 {
-    let mut k: usize = 0;
-    while k < sets {
-        if (words[k] >> i) % 2 == 1 {
-            return k as u8;
-        }
-        k += 1;
+    if rows == Table::ROWS {
+        return 0xffff_ffff_ffff_ffff;
     }
-    k as u8
+    numbers::stretch(0, rows)
 }
 
-// The highest set that row `i` is in; 0 where it is in none.
-fn highest_set(words: &[u64; Table::ROWS], sets: usize, i: usize) -> u8
-    requires { ⌜ (sets ≤ max-rows) × (i < max-rows) ⌝ }
-    ensures { λ r. ⌜ r ≡ highestSet sets (now (words .entry)) i ⌝ }
+// Writes v for each row in a word.
+fn put(rows: u64, v: u8, to: &mut [u8; Table::ROWS])
+    requires { ⌜ length (now to) ≡ max-rows ⌝ }
+    ensures { λ _. ⌜ Marked rows v (now (to .entry)) (now (to .exit)) ⌝ }
 {
-    let mut k: usize = sets;
-    while k > 0 {
-        k -= 1;
-        if (words[k] >> i) % 2 == 1 {
-            return k as u8;
-        }
+    let mut done: u64 = 0;
+    while done != rows {
+        let i = flow::pick(rows, done);
+        to[i] = v;
+        done = done | (1u64 << i);
     }
-    0
 }
 
-// The places where each row starts, before its lowest set, and ends, after its highest; 0 past the last row.
-struct Ends {
-    tail: [u8; Table::ROWS],
-    head: [u8; Table::ROWS],
-}
-
-fn ends_of(rows: usize, sets: usize, words: &[u64; Table::ROWS]) -> Ends
+// The place where each row starts, before its lowest set, and 0 past the last row. `left` are the rows that no set so far has.
+fn starts_of(rows: usize, sets: usize, words: &[u64; Table::ROWS]) -> [u8; Table::ROWS]
     requires { ⌜ (rows ≤ max-rows) × (sets ≤ max-elements) ⌝ }
-    ensures { λ r. ⌜ Ranged rows sets (now (words .entry)) (r .tail) (r .head) ⌝ }
+    ensures { λ r. ⌜ ByRow rows (lowestSet sets (now (words .entry))) r ⌝ }
 {
     let mut tail = [0u8; Table::ROWS];
-    let mut head = [0u8; Table::ROWS];
-    let mut i: usize = 0;
-    while i < rows {
-        tail[i] = lowest_set(words, sets, i);
-        head[i] = highest_set(words, sets, i) + 1;
-        i += 1;
+    let mut left = all_rows(rows);
+    let mut k: usize = 0;
+    while k < sets {
+        let here = left & words[k];
+        put(here, k as u8, &mut tail);
+        left = left ^ here;
+        k += 1;
     }
-    Ends { tail, head }
+    put(left, sets as u8, &mut tail);
+    tail
+}
+
+// The place where each row ends, after its highest set, and 0 past the last row: the sets from the last on.
+fn stops_of(rows: usize, sets: usize, words: &[u64; Table::ROWS]) -> [u8; Table::ROWS]
+    requires { ⌜ (rows ≤ max-rows) × (sets ≤ max-elements) ⌝ }
+    ensures { λ r. ⌜ ByRow rows (λ i. suc (highestSet sets (now (words .entry)) i)) r ⌝ }
+{
+    let mut head = [0u8; Table::ROWS];
+    let mut left = all_rows(rows);
+    let mut k = sets;
+    while k > 0 {
+        let here = left & words[k - 1];
+        put(here, k as u8, &mut head);
+        left = left ^ here;
+        k -= 1;
+    }
+    put(left, 1, &mut head);
+    head
 }
 
 // What the intervals of a table share: the places where its rows start and end, the rows that start and end at each place, and the chains
@@ -89,9 +101,8 @@ pub fn lay<'a>(
     requires { ⌜ (rows ≤ max-rows) × (sets ≤ max-elements) × ((i : ℕ) → i < rows → at (now first) i < all-heads) ⌝ }
     ensures { λ r. ⌜ LaidOut rows sets (now (words .entry)) (now (first .entry)) r ⌝ }
 {
-    let ends = ends_of(rows, sets, words);
-    let tail = ends.tail;
-    let head = ends.head;
+    let tail = starts_of(rows, sets, words);
+    let head = stops_of(rows, sets, words);
     let out = choice::sort_rows(&tail, rows);
     let into = choice::sort_rows(&head, rows);
     let chains = slots::chain(first, rows);
@@ -159,7 +170,7 @@ pub fn advance<'a>(
         → Advanced t k (now (totals .entry)) (now (totals .exit)) (now (plan .entry)) (now (plan .exit))) ⌝ }
 {
     let mut load = [0u64; Table::ROWS];
-    let mut part = [0u64; Table::ROWS];
+    let mut part = [0u32; Table::ROWS];
     choice::part_shares(rate, end as u64, size, &mut load, &mut part);
     let rounded = choice::choose(tail, head, out, into, words, size, &part);
     give(rounded, size.rows, &mut load, totals);

@@ -61,7 +61,7 @@ pub struct Sides {
 }
 
 // Compares the sets' sums with the rows that are rounded up.
-pub fn compare(words: &[u64; ROWS], sum: &[u64; SETS], size: Size, parted: u64, top: u64) -> Sides
+pub fn compare(words: &[u64; ROWS], sum: &[u32; SETS], size: Size, parted: u64, top: u64) -> Sides
     requires { ⌜ (size .sets ≤ max-elements) × (size .hyper ≤ max-slots) × ((k : ℕ) → k < size .sets → at (now sum) k ≤ part-most) ⌝ }
     ensures { λ r. ⌜ (r .parted ≡ parted) × (r .top ≡ top)
         × Compared (size .sets) (size .hyper) (λ k. ones (bitAnd top (at (now (words .entry)) k))) (at (now (sum .entry)))
@@ -74,7 +74,7 @@ pub fn compare(words: &[u64; ROWS], sum: &[u64; SETS], size: Size, parted: u64, 
     let mut k: usize = 0;
     while k < size.sets {
         let used = h * (u64::count_ones(top & words[k]) as u64);
-        let all = sum[k];
+        let all = sum[k] as u64;
         more = mark(more, k + 1, used < all);
         less = mark(less, k, all < used);
         low = mark(low, k, used + h <= all);
@@ -96,7 +96,7 @@ pub fn mend(
     out: &[u64; PLACES],
     into: &[u64; PLACES],
     words: &[u64; ROWS],
-    sum: &[u64; SETS],
+    sum: &[u32; SETS],
     size: Size,
     start: Sides,
 ) -> Sides
@@ -185,7 +185,7 @@ pub fn raise_rows(
     out: &[u64; PLACES],
     into: &[u64; PLACES],
     words: &[u64; ROWS],
-    sum: &[u64; SETS],
+    sum: &[u32; SETS],
     size: Size,
     start: Sides,
 ) -> u64

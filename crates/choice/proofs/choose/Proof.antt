@@ -2,6 +2,7 @@
 use borrow.Author.Needs.{needs}
 use mathlib.Core.Path.{refl, ap, _∙_}
 use mathlib.Core.Bool.{Bool, _&&_}
+use native.Mathlib.Omega.{arith}
 use lib.Dec.{ltb}
 use borrow.Author.Tests.{lt-ltb}
 use Rattle.numbers.specs.Lists.{at}
@@ -21,23 +22,26 @@ add-parts-requires c κs =
 take-rows-requires : tie.Need-take-rows-requires
 take-rows-requires c κs = search needs
 
+cast-all-less : tie.Need-cast-all-less
+cast-all-less c = omega (arith, c .before .before .before .before .before .before .pre .1 .fits)
+
 all-less-requires : tie.Need-all-less-requires
 all-less-requires c κs = search needs
 
 abbrev entry : tie.After-all-less → tie.Start
-entry d = d .before .before .before .before .before .before
+entry d = d .before .before .before .before .before .before .before
 
 returns : tie.Need-returns
 returns c =
     let d = c .before in
     let p = entry d .pre in
-    taken-greatest _ _ _ _ _ _ (p .0 .ends .spans) (p .1) _ _ (d .before .before .take-rows .ensures .1) (d .all-less .ensures (c .if1 .taken))
+    taken-greatest _ _ _ _ _ _ (p .0 .ends .spans) (p .1) _ _ (d .before .before .before .take-rows .ensures .1) (d .all-less .ensures (c .if1 .taken))
 
 parted-rows-requires : tie.Need-parted-rows-requires
 parted-rows-requires c κs = search needs
 
 abbrev summing : tie.After-parted-rows → tie.After-add-parts
-summing w = w .before .before .before .before .before .before
+summing w = w .before .before .before .before .before .before .before
 
 -- what is asked
 abbrev Given : tie.After-parted-rows → Type 0
@@ -60,9 +64,9 @@ started k =
     let d = w .before .before in
     let p = entry d .pre in
     let e = k .compare .ensures in
-    state-of (given w) (k .compare .result) (w .parted-rows .result) (d .before .before .take-rows .result)
+    state-of (given w) (k .compare .result) (w .parted-rows .result) (d .before .before .before .take-rows .result)
     (λ i l. w .parted-rows .ensures i ∙ ap (λ (b : Bool). b && ltb 0 (at (entry d .args .part .now) i)) (lt-ltb i (entry d .args .size .rows) l))
-    (taken-upper _ _ _ _ _ _ (p .0 .ends .spans) (p .1) _ _ (d .before .before .take-rows .ensures .1)) (e .0) (e .1) (e .2)
+    (taken-upper _ _ _ _ _ _ (p .0 .ends .spans) (p .1) _ _ (d .before .before .before .take-rows .ensures .1)) (e .0) (e .1) (e .2)
 
 compare-requires : tie.Need-compare-requires
 compare-requires c κs =
@@ -96,6 +100,7 @@ choose-spec =
     (tie.spec
     add-parts-requires
     take-rows-requires
+    cast-all-less
     all-less-requires
     returns
     parted-rows-requires

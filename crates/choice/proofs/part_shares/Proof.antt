@@ -1,6 +1,7 @@
 -- `part_shares` has parted the shares of the rows that it has passed.
 use mathlib.Core.Path.{_≡_, _∙_}
 use Prim.Native.Nat.{ℕ, _-_, _*_, _/_, _%_, _<_, _≤_}
+use native.Mathlib.Nat.{mod-le}
 use native.Mathlib.Omega.{arith}
 use lib.ListN.{length, set, length-set}
 use Rattle.numbers.specs.Lists.{at}
@@ -43,6 +44,17 @@ element-write-whole c = omega (arith, c .before .before .before .before .pre .0,
 
 rem-part : tie.Need-rem-part Inv-loop μ-loop
 rem-part c = omega (arith, c .before .before .before .before .pre .1)
+
+cast-part : tie.Need-cast-part Inv-loop μ-loop
+cast-part c =
+    let t = c .before in
+    let z = t .before .before .before in
+    let i = t .before .before .loop .i in
+    omega (
+      arith,
+      z .pre .2 i (t .if1 .taken),
+      mod-le (at (z .args .rate .now) i * z .args .slots) (z .args .size .hyper),
+    )
 
 mul-part : tie.Need-mul-part Inv-loop μ-loop
 mul-part c = omega (arith, c .before .before .before .before .pre .0)
@@ -94,6 +106,7 @@ part-shares-spec =
     mul-whole
     element-write-whole
     rem-part
+    cast-part
     mul-part
     element-write-part
     add-i

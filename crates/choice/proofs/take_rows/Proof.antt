@@ -22,25 +22,28 @@ abbrev μ-loop : tie.MeasureT-loop
 
 -- the row's sets
 span : (t : tie.Then1 Inv-loop μ-loop)
-    → (at (t .before .before .before .args .tail .now) (t .before .before .loop .i) ≤ max-elements)
-    × (at (t .before .before .before .args .head .now) (t .before .before .loop .i) ≤ max-elements)
-    × (at (t .before .before .before .args .head .now) (t .before .before .loop .i) ≤ t .before .before .before .args .size .sets)
-    × (at (t .before .before .before .args .tail .now) (t .before .before .loop .i)
-    ≤ at (t .before .before .before .args .head .now) (t .before .before .loop .i))
-    × (at (t .before .before .before .args .head .now) (t .before .before .loop .i)
-    ≡ suc (last (t .before .before .before .args .head .now) (t .before .before .loop .i)))
+    → (at (t .before .before .before .before .args .tail .now) (t .before .before .loop .i) ≤ max-elements)
+    × (at (t .before .before .before .before .args .head .now) (t .before .before .loop .i) ≤ max-elements)
+    × (at (t .before .before .before .before .args .head .now) (t .before .before .loop .i) ≤ t .before .before .before .before .args .size .sets)
+    × (at (t .before .before .before .before .args .tail .now) (t .before .before .loop .i)
+    ≤ at (t .before .before .before .before .args .head .now) (t .before .before .loop .i))
+    × (at (t .before .before .before .before .args .head .now) (t .before .before .loop .i)
+    ≡ suc (last (t .before .before .before .before .args .head .now) (t .before .before .loop .i)))
 span t =
-    let z = t .before .before .before in
+    let z = t .before .before .before .before in
     let r = z .pre .0 .row (t .before .before .loop .i) (t .if1 .taken) in
     let p = z .pre .1 (t .before .before .loop .i) (t .if1 .taken) in
     let f = z .pre .0 .few-sets in
     (omega (arith, r, f), omega (arith, r, f), omega (arith, r), omega (arith, r), omega arith)
 
 few : (t : tie.Then1 Inv-loop μ-loop) → t .before .before .loop .i < 64
-few t = omega (arith, t .if1 .taken, t .before .before .before .pre .0 .few-rows)
+few t = omega (arith, t .if1 .taken, t .before .before .before .before .pre .0 .few-rows)
 
 loop-holds : tie.Need-loop-holds Inv-loop μ-loop
-loop-holds c = (c .pre .4, omega arith, taken-start _ _ _ _ _ _ (c .pre .0) (c .pre .2) _ (c .pre .3))
+loop-holds c = let p = c .before .pre in (p .4, omega arith, taken-start _ _ _ _ _ _ (p .0) (p .2) _ (p .3))
+
+cast-h : tie.Need-cast-h Inv-loop μ-loop
+cast-h c = omega (arith, c .before .pre .2 .fits)
 
 element-copy-out-from : tie.Need-element-copy-out-from Inv-loop μ-loop
 element-copy-out-from c = omega (arith, few c)
@@ -80,7 +83,7 @@ loop-less c = omega (arith, c .before .before .before .before .if1 .taken)
 loop-again : tie.Need-loop-again Inv-loop μ-loop
 loop-again c =
     let t = c .before .before .before .before in
-    let z = t .before .before .before in
+    let z = t .before .before .before .before in
     let u = t .before .before .loop in
     let S = z .pre .0 in
     let P = z .pre .2 in
@@ -110,7 +113,7 @@ loop-again c =
 returns : tie.Need-returns Inv-loop μ-loop
 returns c =
     let u = c .before .before .loop in
-    let e : u .i ≡ c .before .before .before .args .size .rows = omega (arith, c .if1 .left, u .inv .1) in
+    let e : u .i ≡ c .before .before .before .before .args .size .rows = omega (arith, c .if1 .left, u .inv .1) in
     (u .inv .0, rw e at (u .inv .2))
 
 pub take-rows-spec : {M : Type 1} → statement M
@@ -119,6 +122,7 @@ take-rows-spec =
     (tie.spec
     Inv-loop
     μ-loop
+    cast-h
     loop-holds
     element-copy-out-from
     cast-from

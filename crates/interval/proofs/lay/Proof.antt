@@ -8,18 +8,21 @@ use Rattle.interval.proofs.RowSets.{highest-after}
 use Rattle.interval.proofs.lay.Statement.{statement}
 use Rattle.interval.proofs.lay.Tie as tie
 
-ends-of-requires : tie.Need-ends-of-requires
-ends-of-requires c κs = search needs
+starts-of-requires : tie.Need-starts-of-requires
+starts-of-requires c κs = search needs
+
+stops-of-requires : tie.Need-stops-of-requires
+stops-of-requires c κs = search needs
 
 sort-rows-requires : tie.Need-sort-rows-requires
 sort-rows-requires c κs =
-    let e = c .before .before .before in
+    let e = c .before .before in
     let z = e .before in (
       z .pre .0,
       λ i l.
           omega (
             arith,
-            e .ends-of .ensures .lowest .row i l,
+            e .starts-of .ensures .row i l,
             lowest-le (z .args .sets) (λ k. bit (at (z .args .words .now) k) i),
             z .pre .1,
           ),
@@ -27,13 +30,13 @@ sort-rows-requires c κs =
 
 sort-rows-requires-2 : tie.Need-sort-rows-requires-2
 sort-rows-requires-2 c κs =
-    let e = c .before .before .before .before .before in
-    let z = e .before in (
+    let e = c .before .before .before in
+    let z = e .before .before in (
       z .pre .0,
       λ i l.
           omega (
             arith,
-            e .ends-of .ensures .highest .row i l,
+            e .stops-of .ensures .row i l,
             highest-after (z .args .sets) 31 (λ k. bit (at (z .args .words .now) k) i) (z .pre .1),
           ),
     )
@@ -45,4 +48,4 @@ returns : tie.Need-returns
 returns c = search needs
 
 pub lay-spec : {M : Type 1} → statement M
-lay-spec = tie.close (tie.spec ends-of-requires sort-rows-requires sort-rows-requires-2 chain-requires returns)
+lay-spec = tie.close (tie.spec starts-of-requires stops-of-requires sort-rows-requires sort-rows-requires-2 chain-requires returns)

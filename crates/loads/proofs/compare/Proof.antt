@@ -59,6 +59,9 @@ mul-all c = omega (arith, start (c .before) .pre .0)
 element-copy-out-all : tie.Need-element-copy-out-all Inv-loop μ-loop
 element-copy-out-all c = omega (arith, start (c .before) .pre .0)
 
+cast-all : tie.Need-cast-all Inv-loop μ-loop
+cast-all c = let t = c .before .before in omega (arith, start t .pre .2 (t .before .before .loop .k) (t .if1 .taken))
+
 add-mark : tie.Need-add-mark Inv-loop μ-loop
 add-mark c = omega (arith, start (c .before .before) .pre .0)
 
@@ -123,6 +126,7 @@ compare-spec =
     mul-used-2
     mul-all
     element-copy-out-all
+    cast-all
     add-mark
     mark-requires
     mark-requires-2
