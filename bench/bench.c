@@ -46,6 +46,32 @@ struct file {
     size_t length;
 };
 
+/* Row i has the ends and the period of an earlier one. */
+static int pasted(const struct file *f, unsigned i) {
+    for (unsigned j = 0; j < i; j++)
+        if (!memcmp(f->byte + 7 + 6 * i + 2, f->byte + 7 + 6 * j + 2, 4)) return 1;
+    return 0;
+}
+
+/* A row of a table that `make` makes. */
+static void draw(struct file *f, unsigned i, unsigned interval, unsigned intervals, unsigned elements, unsigned span) {
+    uint8_t *r = f->byte + 7 + 6 * i;
+    unsigned divisor;
+    do divisor = 1 + below(intervals);
+    while (intervals % divisor);
+    if (i == 0) divisor = intervals;
+    if (i == 1) divisor = 1;
+    unsigned period = interval * divisor;
+    unsigned first = 1 + (span == 1 ? i : below(elements)) % (elements - 1), second = first + 1 + below(span);
+    if (second > elements) second = elements;
+    r[0] = (uint8_t)(divisor & 255);
+    r[1] = (uint8_t)(divisor >> 8);
+    r[2] = (uint8_t)(period & 255);
+    r[3] = (uint8_t)(period >> 8);
+    r[4] = (uint8_t)first;
+    r[5] = (uint8_t)second;
+}
+
 /* An admitted table of so many rows whose interval is L and whose plan has `intervals` intervals: costs are raised from the least that
  * passes until the bus is well loaded. */
 static int make(struct file *f, unsigned rows, unsigned interval, unsigned intervals) {
@@ -55,23 +81,9 @@ static int make(struct file *f, unsigned rows, unsigned interval, unsigned inter
     memcpy(f->byte, "RBT\1\0", 5);
     f->byte[5] = (uint8_t)elements;
     f->byte[6] = (uint8_t)rows;
-    for (unsigned i = 0; i < rows; i++) {
-        uint8_t *r = f->byte + 7 + 6 * i;
-        unsigned divisor;
-        do divisor = 1 + below(intervals);
-        while (intervals % divisor);
-        if (i == 0) divisor = intervals;
-        if (i == 1) divisor = 1;
-        unsigned period = interval * divisor;
-        unsigned first = 1 + (span == 1 ? i : below(elements)) % (elements - 1), second = first + 1 + below(span);
-        if (second > elements) second = elements;
-        r[0] = (uint8_t)(divisor & 255);
-        r[1] = (uint8_t)(divisor >> 8);
-        r[2] = (uint8_t)(period & 255);
-        r[3] = (uint8_t)(period >> 8);
-        r[4] = (uint8_t)first;
-        r[5] = (uint8_t)second;
-    }
+    for (unsigned i = 0; i < rows; i++)
+        do draw(f, i, interval, intervals, elements, span);
+        while (pasted(f, i));
     if (words_verdict(f->byte, f->length)) return 0;
     for (unsigned turn = 0; turn < 60 * rows; turn++) {
         uint8_t *r = f->byte + 7 + 6 * below(rows);

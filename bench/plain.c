@@ -89,6 +89,9 @@ static uint32_t analyse(const uint8_t *f, size_t length, struct analysis *a) {
         if (a->period[i] < 1 || a->period[i] > SLOTS) return refuse(8, (unsigned)i);
         if (a->cost[i] < 1 || a->cost[i] > a->period[i]) return refuse(9, (unsigned)i);
     }
+    for (int i = 1; i < a->rows; i++)
+        for (int j = 0; j < i; j++)
+            if (a->from[i] == a->from[j] && a->to[i] == a->to[j] && a->period[i] == a->period[j]) return refuse(18, (unsigned)i);
     int cut = a->cut = find_cut(a);
     if (!cut) return refuse(10, 0);
     a->hyper = 1;
@@ -225,7 +228,7 @@ uint32_t plain_sets(const uint8_t *file, size_t length, uint64_t *sets, size_t r
     struct analysis a;
     uint32_t answer = analyse(file, length, &a);
     /* 13 and 14 come after the list */
-    if (answer && answer / 256 < 13) return answer;
+    if (answer && answer / 256 != 13 && answer / 256 != 14) return answer;
     if (room < (size_t)a.sets) return refuse(17, 0);
     memcpy(sets, a.word, (size_t)a.sets * sizeof *sets);
     return 0;

@@ -51,15 +51,21 @@ static inline u32 analyse(const uint8_t *file, size_t length, struct line *t) {
     if (rows - 1 > ROWS - 1) return refuse(5, 0);
     if (length != 7 + 6 * (size_t)rows) return refuse(6, 0);
 
-    /* the rows as they stand: faults, elements gone through, hyperperiod and interval */
-    u64 through = 0;
-    u32 hyper = 1, interval = 0, last = 0;
+    /* the rows as they stand: faults, earlier rows with the same ends and period, elements gone through, hyperperiod and interval */
+    u64 through = 0, leaving[ELEMENTS + 1] = {0}, arriving[ELEMENTS + 1] = {0};
+    u32 hyper = 1, interval = 0, last = 0, pasted = ROWS;
     const uint8_t *row = file + 7;
     for (u32 i = 0; i < rows; i++, row += 6) {
         u32 cost = row[0] + 256u * row[1], period = row[2] + 256u * row[3], from = row[4], to = row[5];
         if (from - 1 >= elements || to - 1 >= elements || from == to) return refuse(7, i);
         if (period - 1 >= SLOTS) return refuse(8, i);
         if (cost - 1 >= period) return refuse(9, i);
+        for (u64 alike = leaving[from] & arriving[to]; alike && pasted == ROWS; alike &= alike - 1) {
+            const uint8_t *other = file + 7 + 6 * lowest(alike);
+            if (other[2] == row[2] && other[3] == row[3]) pasted = i;
+        }
+        leaving[from] |= bit(i);
+        arriving[to] |= bit(i);
         u32 steps = from < to ? to - from : to + elements - from;
         through |= (bit(steps - 1) - 1) << from;
         if (period != last) {
@@ -68,6 +74,7 @@ static inline u32 analyse(const uint8_t *file, size_t length, struct line *t) {
             if (hyper <= SLOTS) hyper = hyper / gcd(hyper, period) * period;
         }
     }
+    if (pasted < ROWS) return refuse(18, pasted);
     u64 clear = ~(through | through >> elements) & (bit(elements) - 1);
     if (!clear) return refuse(10, 0);
     if (hyper > SLOTS) return refuse(11, 0);

@@ -15,7 +15,7 @@
 #include <stdint.h>
 
 /* The version of these functions. The second number grows where something is added, the first where something changes. */
-#define RINGPLAN_VERSION_MAJOR 2
+#define RINGPLAN_VERSION_MAJOR 3
 #define RINGPLAN_VERSION_MINOR 0
 
 #ifdef __cplusplus
@@ -40,7 +40,8 @@ enum {
     RING_OVER_BOUND = 14,       /* an overlap set asks for more than the bus can carry; place: the set */
     RING_OFF_STATE = 15,        /* not given by these functions */
     RING_HAS_FINISHED = 16,     /* not given by these functions */
-    RING_SHORT_OUTPUT = 17      /* the memory lent for the answer is too short */
+    RING_SHORT_OUTPUT = 17,     /* the memory lent for the answer is too short */
+    RING_PASTED_ROW = 18        /* a row has the ends and the period of an earlier one; place: the later row */
 };
 
 /* number and place of an answer */
@@ -48,9 +49,9 @@ enum {
 #define RING_PLACE(answer) ((unsigned)((answer) % 256))
 
 /* the longest table file, the longest plan, the most sets, and the most stack in bytes */
-enum { RING_FILE_BYTES = 391, RING_PLAN_SLOTS = 4096, RING_MOST_SETS = 64, RING_STACK_BYTES = 19456 };
+enum { RING_FILE_BYTES = 391, RING_PLAN_SLOTS = 4096, RING_MOST_SETS = 64, RING_STACK_BYTES = 8192 };
 
-/* Whether the bus can carry the table. Gives 0 to 14. */
+/* Whether the bus can carry the table. Gives 0 to 14 and 18. */
 uint32_t ring_verdict(const uint8_t *file, size_t file_bytes);
 
 /* What the verdict finds of an admitted table, by place in `values`. */
@@ -64,15 +65,17 @@ enum {
     RING_VALUES = 6       /* how many values there are */
 };
 
-/* Fills in the six values of an admitted table. Gives 0 to 14, and 17 where `room` is under 6. */
+/* Fills in the six values of an admitted table. Gives 0 to 14 and 18, and 17 where `room` is under 6. */
 uint32_t ring_values(const uint8_t *file, size_t file_bytes, uint32_t *values, size_t room);
 
 /* The overlap sets of a table, one word a set: bit i is set if row i belongs to it. It fills as many words as there are sets; 64 are always
- * enough. A table that is refused with 13 or 14 has its list too, which shows what set 14 speaks of. Gives 0 to 11, and 17. */
+ * enough. A table that is refused with 13 or 14 has its list too, which shows what set 14 speaks of. Gives 0 to 11, 17 and
+ * 18. */
 uint32_t ring_sets(const uint8_t *file, size_t file_bytes, uint64_t *sets, size_t room);
 
 /* The whole plan of an admitted table: word s of `plan` has bit i set if row i moves in slot s. It fills as many words as the hyperperiod
- * has slots; 4096 words are always enough. Repeated from slot 0 on, it serves for ever. Gives 0 to 14, and 17. */
+ * has slots; 4096 words are always enough. Repeated from slot 0 on, it serves for ever. Gives 0 to 14, 17
+ * and 18. */
 uint32_t ring_plan(const uint8_t *file, size_t file_bytes, uint64_t *plan, size_t plan_words);
 
 #ifdef __cplusplus

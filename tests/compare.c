@@ -93,6 +93,28 @@ static void random_table(struct table *t) {
     }
 }
 
+/* Row i has the ends and the period of an earlier one. */
+static int pasted(const struct table *t, unsigned i) {
+    for (unsigned j = 0; j < i; j++)
+        if (t->row[i].first == t->row[j].first && t->row[i].second == t->row[j].second && t->row[i].period == t->row[j].period) return 1;
+    return 0;
+}
+
+/* Leaves out the rows that repeat an earlier one. */
+static void without_pasted(struct table *t) {
+    unsigned left = 0;
+    for (unsigned i = 0; i < t->rows; i++)
+        if (!pasted(t, i)) t->row[left++] = t->row[i];
+    t->rows = left;
+}
+
+/* Gives some row the ends and the period of another, and any cost. */
+static void paste(struct table *t) {
+    struct row *to = &t->row[below(t->rows)];
+    *to = t->row[below(t->rows)];
+    to->cost = between(1, to->period);
+}
+
 /* Many rows with long routes. So many share a segment that each row's load has to be small, and the interval long; then costs are raised as
  * long as the bus can carry it. */
 static void long_routes(struct table *t) {
@@ -110,6 +132,7 @@ static void long_routes(struct table *t) {
         r->second = (cut - 1 + b) % t->elements + 1;
         if (r->first == r->second) r->second = r->first % t->elements + 1;
     }
+    without_pasted(t);
     for (unsigned turn = 0; turn < 4 * t->rows; turn++) {
         struct file f;
         struct row *r = &t->row[below(t->rows)];
@@ -223,7 +246,7 @@ static void compare_values(const struct file *given, const uint8_t *file, const 
 
 static void compare_sets(const struct file *given, const uint8_t *file, const struct verdict *v) {
     uint64_t sets[MAX_ROWS + 1], expected[MAX_ROWS + 1];
-    unsigned listed = v->number == 0 || v->number > 12, room = listed && below(3) ? v->sets : below(MAX_ROWS + 2);
+    unsigned listed = v->number == 0 || v->number == 13 || v->number == 14, room = listed && below(3) ? v->sets : below(MAX_ROWS + 2);
     unsigned wrong = listed ? 0 : 256 * v->number + v->place;
     if (listed && room < v->sets) wrong = 256 * RING_SHORT_OUTPUT;
     for (unsigned k = 0; k <= MAX_ROWS; k++) sets[k] = expected[k] = below(1u << 31);
@@ -299,7 +322,9 @@ int main(int argc, char **argv) {
         struct file f = {.length = 0};
         if (routes) long_routes(&t);
         else random_table(&t);
+        if (!routes && below(30)) without_pasted(&t);
         if (!routes && below(3) == 0) to_the_bound(&t, (int)below(2));
+        if (!routes && below(30) == 0) paste(&t);
         encode(&t, &f);
         if (!routes && below(4) == 0) damage(&f);
         compare(&f);
@@ -308,10 +333,10 @@ int main(int argc, char **argv) {
     printf("greedy was not enough in %lu of %lu intervals\n", words_settled, words_intervals);
     if (routes) return 0;
     printf("refusals:");
-    for (unsigned n = 1; n < 18; n++) printf(" %u:%u", n, seen[n]);
+    for (unsigned n = 1; n < 19; n++) printf(" %u:%u", n, seen[n]);
     printf("\n");
     /* 12 is retired, and 15 and 16 are the planner's */
-    for (unsigned n = 1; n < 18; n++)
+    for (unsigned n = 1; n < 19; n++)
         if (!seen[n] && n != 12 && n != 15 && n != 16) {
             printf("compare: refusal %u was never seen\n", n);
             return 1;

@@ -161,6 +161,11 @@ void oracle_verdict(const uint8_t *f, size_t length, struct verdict *v) {
         if (w->period < 1 || w->period > MAX_SLOTS) { refuse(v, 8, i); return; }
         if (w->cost < 1 || w->cost > w->period) { refuse(v, 9, i); return; }
     }
+    for (unsigned i = 1; i < t->rows; i++)
+        for (unsigned j = 0; j < i; j++) {
+            const struct row *a = &t->row[i], *b = &t->row[j];
+            if (a->first == b->first && a->second == b->second && a->period == b->period) { refuse(v, 18, i); return; }
+        }
     for (unsigned e = t->elements; e >= 1; e--) {
         int clear = 1;
         for (unsigned i = 0; i < t->rows; i++) clear &= !goes_through(t, i, e);

@@ -18,7 +18,7 @@ use Rattle.rules.specs.Planner.{Stage, due, finished, Planner, Off}
 use Rattle.rules.specs.Refusals.{
   Check,
   no-cut,
-  file-checks,
+  given-checks,
   line-checks,
   bound-checks,
   reader-checks,
@@ -41,14 +41,15 @@ use Rattle.rules.proofs.Verdict.{
   answer-is,
   tests-join,
   in-test,
-  header-tests,
   row-tests,
+  file-tests,
+  given-tests,
   no-cut-test,
   line-tests,
   bound-tests,
 }
 use Rattle.table.specs.Sound.{Sound}
-use Rattle.table.proofs.Faults.{file-numbered, passed-none}
+use Rattle.outline.proofs.AsGiven.{given-numbered, given-passed}
 use Rattle.ring.proofs.Cut.{cut-high, cut-none}
 use Rattle.verdict.proofs.Bound.{verdict-numbered, verdict-split, sets-exist, admissible-of}
 use Rattle.demands.specs.Demands.{Answered}
@@ -69,10 +70,6 @@ by-lists cs ds m (n, p, a) more = go (ℕ-discrete n 0)
     go (no h) = (n, p, stopped cs ds n p h a)
 
 -- ---- the table file
-
-file-tests : (f : List ℕ) → Tests (file-checks f)
-unfolding file-checks
-file-tests f = tests-join (header-tests f) (row-tests (fileTable f))
 
 pub read-answered : (f : List ℕ) (room : ℕ) → Answered (reader-checks f room)
 unfolding reader-checks
@@ -101,20 +98,20 @@ line-answered t S ds more =
     (decide (no-cut-test t .test))
 
 module _ (f : List ℕ) where
-  past-file : (ds : List Check) → (Sound (fileTable f) → Answered ds) → Answered (file-checks f ++ ds)
-  past-file ds more = by-lists (file-checks f) ds (file-numbered f) (by-tests (file-tests f)) (λ N. more (passed-none f N .sound))
+  past-given : (ds : List Check) → (Sound (fileTable f) → Answered ds) → Answered (given-checks f ++ ds)
+  past-given ds more = by-lists (given-checks f) ds (given-numbered f) (by-tests (given-tests f)) (λ N. more (given-passed f N .sound))
 
   pub judged-answered : Answered (verdict-checks f)
   judged-answered =
       rw (verdict-split f)
-      (past-file (line-checks (fileTable f) ++ bound-checks (fileTable f))
+      (past-given (line-checks (fileTable f) ++ bound-checks (fileTable f))
       (λ S. line-answered (fileTable f) S (bound-checks (fileTable f)) (λ ws A. bound-tests (fileTable f) (S .rows-low) ws A)))
 
   pub listed-answered : (room : ℕ) → Answered (sets-checks f room)
   unfolding sets-checks
   listed-answered room =
       rw append-assoc
-      (past-file (line-checks (fileTable f) ++ _)
+      (past-given (line-checks (fileTable f) ++ _)
       (λ S. line-answered (fileTable f) S _ (λ ws A. short-list (S .rows-low) ws A then none)))
     where
       short-list : 0 < fileTable f .rows → (ws : List ℕ) → Sets (fileTable f) ws

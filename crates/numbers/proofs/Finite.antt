@@ -3,6 +3,7 @@
 --
 --   Additive R     R a b passes to sums; = and ≤ do, and so does Cong h
 --   Cong h a b     a and b differ by a multiple of h
+--   Sought n p i   none of the first i of n numbers has p
 --
 -- The laws that end in -next are in the form of a loop that counts up: n + 1 for the bound.
 use mathlib.Core.Path.{_≡_, refl, sym, ap, ap₂, _∙_}
@@ -17,7 +18,7 @@ use lib.Dec.{T, ltb, eqb, eqb→eq}
 use borrow.Author.Count.{below-more}
 use borrow.Author.Tests.{ltb-true, ltb-false}
 use Rattle.numbers.specs.Finite.{any, every, lowest, highest, only, sum, sumIn, count, largest}
-use Rattle.numbers.proofs.Truth.{both, fst, snd, orl, orr, or-cases, decide, is-true, is-false, le-or-lt}
+use Rattle.numbers.proofs.Truth.{both, fst, snd, orl, orr, or-cases, decide, is-true, is-false, of-true, of-false, le-or-lt}
 
 -- below suc n: n itself, or below n
 pub below : {i n : ℕ} → i < suc n → (i ≡ n) ⊎ (i < n)
@@ -127,6 +128,25 @@ lowest-eq zero p q h = refl
 lowest-eq (suc n) p q h =
     ap₂ (λ (b : Bool) (k : ℕ). cond b 0 (suc k)) (h 0 (omega arith))
     (lowest-eq n (λ i. p (suc i)) (λ i. q (suc i)) (λ i l. h (suc i) (omega arith)))
+
+-- what a loop that looks for the lowest keeps
+
+pub record Sought (n : ℕ) (p : ℕ → Bool) (i : ℕ) : Type 0 where
+  pub within : i ≤ n
+  pub none : (j : ℕ) → j < i → T (p j) → ⊥
+
+module _ {n : ℕ} {p : ℕ → Bool} where
+  pub sought-start : Sought n p 0
+  sought-start = record { within = omega arith; none = λ j l. absurd (omega arith) }
+
+  pub sought-next : {i : ℕ} → Sought n p i → i < n → p i ≡ false → Sought n p (i + 1)
+  sought-next h l e = record { within = omega arith; none = below-more _ _ (h .none) (of-false e) }
+
+  pub sought-found : {i : ℕ} → Sought n p i → i < n → p i ≡ true → i ≡ lowest n p
+  sought-found {i} h l e = sym (lowest-is n p i l (of-true e) (h .none))
+
+  pub sought-end : {i : ℕ} → Sought n p i → n ≤ i → i ≡ lowest n p
+  sought-end {i} h l = omega (arith, lowest-none n p (λ j m. h .none j (omega arith)))
 
 -- ---- highest
 

@@ -1,5 +1,5 @@
--- Refusals 1 to 11, and that only one outline fits. Past the file's checks a table has a cut or 10 is given, and a hyperperiod of at
--- most 4096 slots or 11 is given.
+-- Refusals 1 to 9, 18, 10 and 11, and that only one outline fits. Past the checks of a table as it is given it has a cut or 10 is given,
+-- and a hyperperiod of at most 4096 slots or 11 is given.
 use mathlib.Core.Path.{_≡_, refl, sym, ap, _∙_}
 use mathlib.Core.Logic.{_≢_, ⊎-elim}
 use mathlib.Core.List.{List, [], _∷_}
@@ -14,7 +14,7 @@ use Rattle.rules.specs.Bus.{Table}
 use Rattle.rules.specs.TableFile.{fileTable}
 use Rattle.rules.specs.Line.{cut, lineFirst, lineSecond, Sets}
 use Rattle.rules.specs.Loads.{hyperperiod}
-use Rattle.rules.specs.Refusals.{Check, Answers, no-cut, long-hyperperiod, file-checks, line-checks}
+use Rattle.rules.specs.Refusals.{Check, Answers, no-cut, long-hyperperiod, given-checks, line-checks}
 use Rattle.rules.proofs.Answers.{
   None,
   Numbered,
@@ -31,7 +31,6 @@ use Rattle.rules.proofs.Answers.{
 }
 use Rattle.rules.proofs.Sets.{sets-only}
 use Rattle.table.specs.Sound.{Sound, Passed}
-use Rattle.table.proofs.Faults.{file-numbered, passed-none}
 use Rattle.ring.proofs.Cut.{cut-high, cut-none}
 use Rattle.sets.specs.Sets.{OnLine, Listed}
 use Rattle.sets.proofs.Listed.{listed-only}
@@ -41,6 +40,7 @@ use Rattle.outline.specs.declared.time.Time.{Time}
 use Rattle.outline.specs.declared.Outline.{Outline}
 use Rattle.outline.specs.Time.{Timed}
 use Rattle.outline.specs.Outlined.{Found, blank, outline-checks, Outlined}
+use Rattle.outline.proofs.AsGiven.{given-numbered, given-passed}
 use Rattle.outline.proofs.Sets.{Ends, own-ends, ends-on-line, line-list}
 
 -- ---- one shape for number and place
@@ -90,18 +90,18 @@ module _ (t : Table) where
     ⊎-elim (λ l. l) (λ l. absurd (a .1 .0 l)) (le-or-lt (hyperperiod t) max-slots),
   )
 
--- ---- files that pass 1 to 11
+-- ---- files that pass 1 to 9, 18, 10 and 11
 
 module _ (f : List ℕ) where
   pub outline-numbered : Numbered (outline-checks f)
-  outline-numbered = numbered-join (file-checks f) (line-checks (fileTable f)) (file-numbered f) (line-numbered (fileTable f))
+  outline-numbered = numbered-join (given-checks f) (line-checks (fileTable f)) (given-numbered f) (line-numbered (fileTable f))
 
   module _ (a : None (outline-checks f)) where
     pub outline-passed : Passed f
-    outline-passed = passed-none f (none-left (file-checks f) (line-checks (fileTable f)) a)
+    outline-passed = given-passed f (none-left (given-checks f) (line-checks (fileTable f)) a)
 
     pub outline-short : (cut (fileTable f) ≤ fileTable f .elements) × (hyperperiod (fileTable f) ≤ max-slots)
-    outline-short = none-line (fileTable f) (none-right (file-checks f) (line-checks (fileTable f)) a)
+    outline-short = none-line (fileTable f) (none-right (given-checks f) (line-checks (fileTable f)) a)
 
     pub outline-list-only : (ws vs : List ℕ) → Sets (fileTable f) ws → Sets (fileTable f) vs → ws ≡ vs
     outline-list-only ws vs A B = sets-only (outline-passed .sound .rows-low) A B
@@ -120,17 +120,17 @@ outlined-found t o d F = record {
 }
 
 module _ (f : List ℕ) where
-  pub outlined-file : (r : Answer) → r .number ≢ 0 → Answers (file-checks f) (r .number) (r .place)
+  pub outlined-given : (r : Answer) → r .number ≢ 0 → Answers (given-checks f) (r .number) (r .place)
       → Outlined (outline-checks f) (fileTable f) (blank r)
-  outlined-file r h a = outlined-refused r h (stopped (file-checks f) (line-checks (fileTable f)) (r .number) (r .place) h a)
+  outlined-given r h a = outlined-refused r h (stopped (given-checks f) (line-checks (fileTable f)) (r .number) (r .place) h a)
 
-  -- past the file's checks its table's outline is the file's
-  pub outlined-past : (p : ℕ) → Answers (file-checks f) 0 p → {o : Outline} → Outlined (line-checks (fileTable f)) (fileTable f) o
+  -- past these checks its table's outline is the file's
+  pub outlined-past : (p : ℕ) → Answers (given-checks f) 0 p → {o : Outline} → Outlined (line-checks (fileTable f)) (fileTable f) o
       → Outlined (outline-checks f) (fileTable f) o
   outlined-past p a {o} O = record {
     answers =
-        joined (file-checks f) (line-checks (fileTable f)) (o .answer .number) (o .answer .place)
-        (none-of (file-checks f) p (file-numbered f) a) (O .answers);
+        joined (given-checks f) (line-checks (fileTable f)) (o .answer .number) (o .answer .place)
+        (none-of (given-checks f) p (given-numbered f) a) (O .answers);
     found = O .found;
     refused = O .refused;
   }

@@ -4,7 +4,7 @@
 --                      the table of M elements and n rows that has the costs g, and periods and ends from arrays
 --   Found t o          o is the outline of the table t, which has none of the faults 4 to 11
 --   blank r            the outline of a refusal: 0 for all but the answer
---   outline-checks f   1 to 11, in their order
+--   outline-checks f   1 to 9, 18, 10 and 11, in this order
 --   Outlined cs t o    o answers the checks cs, and is what is found of table t where none of them applies
 --
 -- Only one outline fits a table and its checks (proofs/Outlined, `outlined-only`).
@@ -18,7 +18,7 @@ use Rattle.rules.specs.Bounds.{max-rows}
 use Rattle.rules.specs.Bus.{Table}
 use Rattle.rules.specs.TableFile.{fileTable}
 use Rattle.rules.specs.Line as line
-use Rattle.rules.specs.Refusals.{Check, Answers, file-checks, line-checks}
+use Rattle.rules.specs.Refusals.{Check, Answers, given-checks, line-checks}
 use Rattle.table.specs.Columns.{ByRow}
 use Rattle.table.specs.declared.Answer.{Answer}
 use Rattle.outline.specs.declared.Outline.{Outline}
@@ -55,7 +55,7 @@ blank answer = record {
 }
 
 abbrev pub outline-checks : List ℕ → List Check
-outline-checks f = file-checks f ++ line-checks (fileTable f)
+outline-checks f = given-checks f ++ line-checks (fileTable f)
 
 pub record Outlined (cs : List Check) (t : Table) (o : Outline) : Type 0 where
   pub answers : Answers cs (o .answer .number) (o .answer .place)

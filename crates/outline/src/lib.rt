@@ -1,6 +1,8 @@
-// What a table is on the line: its cut, its rows' ends, its overlap sets, hyperperiod and interval, or a refusal from 1 to 11.
+// What a table is on the line: its cut, its rows' ends, its overlap sets, hyperperiod and interval, or a refusal of 1 to 11 and 18.
+mod pasted;
 mod time;
 
+pub use pasted::given;
 use table::Answer;
 use table::Table;
 pub use time::Time;
@@ -92,11 +94,11 @@ pub fn outline_of<'a>(
     }
 }
 
-// What a file's table is on the line, or the first refusal of 1 to 11.
+// What a file's table is on the line, or the first refusal of 1 to 9, 18, 10 and 11.
 fn outline_file(file: &[u8]) -> Outline
     ensures { λ r. ⌜ Outlined (outline-checks (now (file .entry))) (fileTable (now (file .entry))) r ⌝ }
 {
-    let found = table::decode(file);
+    let found = given(file);
     let answer = found.answer;
     if answer.number != Answer::DONE {
         return Outline::refused(answer);

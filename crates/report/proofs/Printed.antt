@@ -14,7 +14,7 @@ use Rattle.rules.specs.Line.{Sets}
 use Rattle.rules.specs.Line as line
 use Rattle.rules.specs.Loads.{hyperperiod, reported}
 use Rattle.rules.specs.Planner.{WholePlan}
-use Rattle.rules.specs.Refusals.{Answers, file-checks, line-checks, bound-checks, verdict-checks, sets-checks, plan-checks}
+use Rattle.rules.specs.Refusals.{Answers, given-checks, line-checks, bound-checks, verdict-checks, sets-checks, plan-checks}
 use Rattle.rules.specs.Calls.{lent, Listed, fileAsk}
 use Rattle.rules.proofs.Answers.{None, none-of, none-join, none-left}
 use Rattle.rules.proofs.Calls.{lent-take, call-must}
@@ -53,8 +53,8 @@ module _ (f : List ℕ) (a : Answers (verdict-checks f) 0 0) where
   list-passed : (room : ℕ) → max-rows ≤ room → None (sets-checks f room)
   unfolding sets-checks verdict-checks None
   list-passed room l =
-      none-join (file-checks f ++ line-checks (fileTable f)) _
-      (none-left (file-checks f ++ line-checks (fileTable f)) (bound-checks (fileTable f)) passed)
+      none-join (given-checks f ++ line-checks (fileTable f)) _
+      (none-left (given-checks f ++ line-checks (fileTable f)) (bound-checks (fileTable f)) passed)
       ((λ w. let few = list-few (w .0) (w .1) in omega (arith, w .2)), tt)
 
   plan-passed : (room : ℕ) → max-slots ≤ room → None (plan-checks (verdict-checks f) (fileTable f) room)

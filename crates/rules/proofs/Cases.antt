@@ -14,14 +14,15 @@ use Rattle.numbers.specs.Divisors.{gcd, lcm, product}
 use Rattle.numbers.specs.Rounding.{Rounded}
 use Rattle.numbers.specs.Lists.{at, each}
 use Rattle.numbers.proofs.Tests.{Test, and-test, every-test}
-use Rattle.rules.specs.Bus.{Table, steps, uses, through, overlap}
+use Rattle.rules.specs.Bus.{Table, steps, uses, through, overlap, pasted}
 use Rattle.rules.specs.TableFile.{bytes}
 use Rattle.rules.specs.Line.{clear, cut, onLine, lineFirst, lineSecond, Sets}
 use Rattle.rules.specs.Loads.{hyperperiod, shortest, start, end, intervals, rate, share, equalPeriods, light, over, reported}
 use Rattle.rules.specs.Interval.{lag, before, hinders, free}
 use Rattle.rules.specs.Planner.{Stage, due, finished, none, more, reached, Off, standing, WholePlan}
-use Rattle.rules.specs.Refusals.{header-checks, row-checks, file-checks, line-checks, bound-checks, verdict-checks}
-use Rattle.rules.specs.Cases.{case-A, case-B, case-B-with, equal-with, round, thirds, halves, none-had, B-at, Cases}
+use Rattle.rules.specs.Refusals.{header-checks, row-checks, file-checks, pasted-checks, given-checks}
+use Rattle.rules.specs.Refusals.{line-checks, bound-checks, verdict-checks}
+use Rattle.rules.specs.Cases.{case-A, case-B, case-B-with, equal-with, pasted-with, round, thirds, halves, none-had, B-at, Cases}
 use Rattle.rules.proofs.Sets.{set-in, sets-only, sets-by}
 use Rattle.rules.proofs.Verdict.{verdict-by}
 use Rattle.rules.proofs.Steps.{Outcome, Outcomes, rounded-test, qualify-test, moved-on, outcomes-by}
@@ -29,9 +30,9 @@ use Rattle.rules.proofs.Steps.{step-is, step-of, run-more, run-first, s
 
 -- All that computes below: an `unfolding` line that names it opens all that its own line names.
 computing : Unit {0}
-unfolding any every lowest highest only sum bit gcd lcm product Rounded each steps uses through overlap bytes clear cut onLine lineFirst
-    lineSecond hyperperiod shortest start end intervals rate equalPeriods light over largest reported lag before hinders free standing
-    header-checks row-checks file-checks line-checks bound-checks verdict-checks
+unfolding any every lowest highest only sum bit gcd lcm product Rounded each steps uses through overlap pasted bytes clear cut onLine
+    lineFirst lineSecond hyperperiod shortest start end intervals rate equalPeriods light over largest reported lag before hinders free
+    standing header-checks row-checks file-checks pasted-checks given-checks line-checks bound-checks verdict-checks
 computing = tt
 
 -- ---- the lists of sets
@@ -166,6 +167,8 @@ cases = record {
   p7 = verdict-by (bytes (case-B-with 2)) (3 ∷ []) 0 0 tt tt refl;
   p8 = verdict-by (bytes (equal-with 1)) (3 ∷ []) 0 0 tt tt refl;
   p9 = verdict-by (bytes (equal-with 2)) (3 ∷ []) 14 0 tt tt refl;
+  p8-before = verdict-by (bytes (pasted-with 1)) (3 ∷ []) 18 1 tt tt refl;
+  p9-before = verdict-by (bytes (pasted-with 2)) (3 ∷ []) 18 1 tt tt refl;
   p10 = verdict-by (bytes round) (7 ∷ []) 10 0 tt tt refl;
   two-thirds-sets = λ ws. listed thirds ws (1 ∷ []) (lit< tt) sets-thirds;
   two-thirds = refl;

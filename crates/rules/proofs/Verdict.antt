@@ -14,7 +14,7 @@ use lib.ListN.{length}
 use Rattle.numbers.specs.Word.{bit}
 use Rattle.numbers.specs.Lists.{at, each}
 use Rattle.rules.specs.Bounds.{max-elements, max-rows, max-slots}
-use Rattle.rules.specs.Bus.{Table, through}
+use Rattle.rules.specs.Bus.{Table, through, pasted}
 use Rattle.rules.specs.TableFile.{table-mark, table-version, headerSize, rowSize, mark, version, fileTable}
 use Rattle.rules.specs.Line.{Sets}
 use Rattle.rules.specs.Loads.{hyperperiod, light, over}
@@ -26,6 +26,8 @@ use Rattle.rules.specs.Refusals.{
   row-checks,
   header-checks,
   file-checks,
+  pasted-checks,
+  given-checks,
   line-checks,
   bound-checks,
   verdict-checks,
@@ -92,6 +94,10 @@ module _ (t : Table) where
       then not-test (in-test (t .cost i) 1 (t .period i))
       then none)
 
+  abbrev pub pasted-tests : Tests (pasted-checks t)
+  unfolding pasted-checks
+  pasted-tests = tests-each (t .rows) (λ i. holds-test (pasted t i) then none)
+
   -- elements are numbered from 1
   abbrev pub no-cut-test : Test (no-cut t .applies)
   no-cut-test =
@@ -117,11 +123,17 @@ module _ (t : Table) where
     bound-tests =
         tests-join (tests-each (t .rows) (λ i. holds-test (light t i) then none)) (tests-each (t .rows) (λ k. over-test k then none))
 
+abbrev pub file-tests : (f : List ℕ) → Tests (file-checks f)
+unfolding file-checks
+file-tests f = tests-join (header-tests f) (row-tests (fileTable f))
+
+abbrev pub given-tests : (f : List ℕ) → Tests (given-checks f)
+unfolding given-checks
+given-tests f = tests-join (file-tests f) (pasted-tests (fileTable f))
+
 abbrev pub verdict-tests : (f ws : List ℕ) → 0 < fileTable f .rows → Sets (fileTable f) ws → Tests (verdict-checks f)
-unfolding verdict-checks file-checks
-verdict-tests f ws pos A =
-    tests-join (tests-join (tests-join (header-tests f) (row-tests (fileTable f))) (line-tests (fileTable f)))
-    (bound-tests (fileTable f) pos ws A)
+unfolding verdict-checks
+verdict-tests f ws pos A = tests-join (tests-join (given-tests f) (line-tests (fileTable f))) (bound-tests (fileTable f) pos ws A)
 
 -- The verdict by tests alone: ws is the list of the table's overlap sets, and the first check whose test holds gives number n and place p.
 pub verdict-by : (f ws : List ℕ) (n p : ℕ) (some : T (ltb 0 (fileTable f .rows))) (listed : T (sets-test (fileTable f) ws .test))

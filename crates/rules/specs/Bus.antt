@@ -7,11 +7,12 @@
 --   routeThrough M a b e   that route goes through element e
 --   through t i e      row i goes through element e
 --   overlap t i j      rows i and j overlap: their routes share a segment
+--   pasted t i         an earlier row has row i's ends and period (#104)
 --
 -- Elements and segments are numbered 1 to M; segment s joins element s to the next one, and segment M joins M to 1.
 use mathlib.Core.Bool.{Bool, _&&_}
 use Prim.Native.Nat.{ℕ, suc, _+_, _-_, _%_}
-use lib.Dec.{ltb}
+use lib.Dec.{ltb, eqb}
 use Rattle.numbers.specs.Finite.{any}
 
 -- A row is one periodic transfer: cost in slots, period in slots, first and second element. Its first job arrives at slot 0, and each job's
@@ -43,3 +44,7 @@ through t i e = routeThrough (t .elements) (t .first i) (t .second i) e
 
 unfoldable pub overlap : Table → ℕ → ℕ → Bool
 overlap t i j = any (t .elements) (λ s. uses t i (suc s) && uses t j (suc s))
+
+-- An earlier row has its first end, its second end and its period, whatever the costs.
+unfoldable pub pasted : Table → ℕ → Bool
+pasted t i = any i (λ j. eqb (t .first j) (t .first i) && eqb (t .second j) (t .second i) && eqb (t .period j) (t .period i))

@@ -6,7 +6,7 @@
 --   Judged              the verdict
 --   Listed              the list of sets
 --   Ask                 what the planner's calls are asked about: a table, and the checks before their own
---   fileAsk f           a file's table, and 1 to 14
+--   fileAsk f           a file's table, and the verdict's checks
 --   Planned             the whole plan
 --   Stepped             a planner step
 --   Stood               the standings
@@ -80,7 +80,7 @@ Listed file was now number place sets =
     ((ws : List ℕ) × Sets (fileTable file) ws × (sets ≡ length ws) × (now ≡ lent ws was))
     ((sets ≡ 0) × (now ≡ was))
 
--- Whole plan, step and standings use 1 to 14 as the verdict does, and then numbers of their own. So they are said of any table with checks
+-- Whole plan, step and standings use the verdict's checks, and then numbers of their own. So they are said of any table with checks
 -- before their own.
 pub record Ask : Type 1 where
   pub checks : List Check

@@ -26,9 +26,13 @@ case-B-with cost = memoryTable 3 2 (1 ∷ 4 ∷ 1 ∷ 2 ∷ cost ∷ 8 ∷ 1 ∷
 abbrev pub case-B : Table
 case-B = case-B-with 3
 
--- M 2, rows (3,4,1,2) and (1,4,1,2), or (2,4,1,2)
+-- M 3, rows (3,4,1,3) and (1,4,1,2), or (2,4,1,2)
 abbrev pub equal-with : ℕ → Table
-equal-with cost = memoryTable 2 2 (3 ∷ 4 ∷ 1 ∷ 2 ∷ cost ∷ 4 ∷ 1 ∷ 2 ∷ [])
+equal-with cost = memoryTable 3 2 (3 ∷ 4 ∷ 1 ∷ 3 ∷ cost ∷ 4 ∷ 1 ∷ 2 ∷ [])
+
+-- M 2, first row (3,4,1,2): what P8 and P9 were before #104
+abbrev pub pasted-with : ℕ → Table
+pasted-with cost = memoryTable 2 2 (3 ∷ 4 ∷ 1 ∷ 2 ∷ cost ∷ 4 ∷ 1 ∷ 2 ∷ [])
 
 -- M 3, rows (1,4,1,3), (1,4,2,1), (1,4,3,2)
 abbrev pub round : Table
@@ -91,10 +95,13 @@ pub record Cases : Type 0 where
   pub p6 : Verdict (case-B-with 1) 13 1
   -- P7: cost 2: admitted
   pub p7 : Verdict (case-B-with 2) 0 0
-  -- P8: (3,4,1,2), (1,4,1,2): admitted
+  -- P8: (3,4,1,3), (1,4,1,2): admitted
   pub p8 : Verdict (equal-with 1) 0 0
-  -- P9: (3,4,1,2), (2,4,1,2): 14, set 0
+  -- P9: (3,4,1,3), (2,4,1,2): 14, set 0
   pub p9 : Verdict (equal-with 2) 14 0
+  -- with the first row (3,4,1,2) of before, both have a pasted row: 18, row 1
+  pub p8-before : Verdict (pasted-with 1) 18 1
+  pub p9-before : Verdict (pasted-with 2) 18 1
   -- P10: every element has some row through it: 10
   pub p10 : Verdict round 10 0
   -- Beside the marked cases, from the text: the reported load is rounded up, 2/3 is 667

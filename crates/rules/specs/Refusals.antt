@@ -12,7 +12,7 @@ use lib.Dec.{T}
 use lib.ListN.{length}
 use Rattle.numbers.specs.Lists.{each}
 use Rattle.rules.specs.Bounds.{max-elements, max-rows, max-slots}
-use Rattle.rules.specs.Bus.{Table, through}
+use Rattle.rules.specs.Bus.{Table, through, pasted}
 use Rattle.rules.specs.TableFile.{table-mark, table-version, headerSize, rowSize, rowNumbers, mark, version, fileTable, memoryTable}
 use Rattle.rules.specs.Line.{setAt, Sets}
 use Rattle.rules.specs.Loads.{hyperperiod, start, end, light, over}
@@ -32,7 +32,7 @@ Answers (c ∷ cs) n p = (c .applies × (n ≡ c .number) × (p ≡ c .place)) �
 
 -- the highest number of the table below
 abbrev pub last-number : ℕ
-last-number = 17
+last-number = 18
 
 -- x is one of a, a + 1, .., b
 abbrev In : ℕ → ℕ → ℕ → Type 0
@@ -104,6 +104,10 @@ has-finished p = refuse 16 0 (p .stage ≡ finished)
 abbrev pub short-output : Type 0 → Check
 short-output A = refuse 17 0 A
 
+-- a row has the ends and the period of an earlier one (#104); the place is the later row
+abbrev pub pasted-row : Table → ℕ → Check
+pasted-row t i = refuse 18 i (T (pasted t i))
+
 -- ---- the orders of checking: rows are taken in ascending order, within a row 7, 8, 9, and the lowest row or set is the place
 
 -- 4 to 6, of a table whose file or slice has `has` places and is to have `wants`
@@ -126,6 +130,14 @@ row-checks t = each (t .rows) (faults t)
 unfoldable pub file-checks : List ℕ → List Check
 file-checks f = header-checks f ++ row-checks (fileTable f)
 
+-- 18, after all of 7 to 9
+unfoldable pub pasted-checks : Table → List Check
+pasted-checks t = each (t .rows) (λ i. pasted-row t i ∷ [])
+
+-- 1 to 9, then 18: what is refused of a table as it is given
+unfoldable pub given-checks : List ℕ → List Check
+given-checks f = file-checks f ++ pasted-checks (fileTable f)
+
 -- 10 and 11; 12, of two sets that tie, is retired (#106)
 unfoldable pub line-checks : Table → List Check
 line-checks t = no-cut t ∷ long-hyperperiod t ∷ []
@@ -146,21 +158,21 @@ memory-checks M n xs = size-checks (memoryTable M n xs) (length xs) (rowNumbers 
 unfoldable pub writer-checks : ℕ → ℕ → List ℕ → ℕ → List Check
 writer-checks M n xs room = memory-checks M n xs ++ (short-output (room < headerSize + rowSize * n) ∷ [])
 
--- the verdict 1 to 14
+-- the verdict 1 to 9, 18, 10 to 14
 unfoldable pub verdict-checks : List ℕ → List Check
-verdict-checks f = file-checks f ++ line-checks (fileTable f) ++ bound-checks (fileTable f)
+verdict-checks f = given-checks f ++ line-checks (fileTable f) ++ bound-checks (fileTable f)
 
--- the list of sets 1 to 11, then 17
+-- the list of sets 1 to 9, 18, 10 and 11, then 17
 unfoldable pub sets-checks : List ℕ → ℕ → List Check
 sets-checks f room =
-    file-checks f ++ line-checks (fileTable f)
+    given-checks f ++ line-checks (fileTable f)
     ++ (short-output ((ws : List ℕ) × Sets (fileTable f) ws × (room < length ws)) ∷ [])
 
--- the whole plan 1 to 14, here cs, then 17
+-- the whole plan the verdict's, here cs, then 17
 unfoldable pub plan-checks : List Check → Table → ℕ → List Check
 plan-checks cs t room = cs ++ (short-output (room < hyperperiod t) ∷ [])
 
--- a planner step 1 to 14, here cs, 15, 16, 17; a finished planner has no interval left to write
+-- a planner step the verdict's, here cs, 15, 16, 17; a finished planner has no interval left to write
 abbrev pub step-room : Table → Stage → ℕ
 step-room t (due k) = end t k - start t k
 step-room t finished = 0
@@ -168,6 +180,6 @@ step-room t finished = 0
 unfoldable pub step-checks : List Check → Table → Planner → ℕ → List Check
 step-checks cs t p room = cs ++ (off-state t p ∷ has-finished p ∷ short-output (room < step-room t (p .stage)) ∷ [])
 
--- the standings 1 to 15
+-- the standings the verdict's, here cs, then 15
 unfoldable pub standings-checks : List Check → Table → Planner → List Check
 standings-checks cs t p = cs ++ (off-state t p ∷ [])

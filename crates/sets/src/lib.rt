@@ -11,6 +11,7 @@ ghost use Rattle.numbers.specs.Finite.{sumIn};
 ghost use Rattle.numbers.specs.Word.{bit};
 ghost use Rattle.numbers.specs.Lists.{at};
 ghost use Rattle.rules.specs.Bounds.{max-rows, max-slots};
+ghost use Rattle.sets.specs.Walk.{line-size, RowsAt};
 ghost use Rattle.sets.specs.Sets.{OnLine, Listed};
 
 // The words of the overlap sets, by ascending least second end; those from `count` on are 0.
@@ -21,7 +22,22 @@ pub struct Sets {
 
 impl Sets {
     // A line's elements are 1 to M + 1, and an array by element has a place 0 too.
-    const LINE: usize = Table::ELEMENTS + 2;
+    pub const LINE: usize = Table::ELEMENTS + 2;
+}
+
+// For each element of the line the word of the rows that have this end there.
+pub fn rows_at(ends: &[u8; Table::ROWS], rows: usize) -> [u64; Sets::LINE]
+    requires { ⌜ (rows ≤ max-rows) × ((i : ℕ) → i < rows → at (now ends) i < line-size) ⌝ }
+    ensures { λ r. ⌜ RowsAt rows (at (now (ends .entry))) r ⌝ }
+{
+    let mut words = [0u64; Sets::LINE];
+    let mut i: usize = 0;
+    while i < rows {
+        let e = table::end_at(ends, i);
+        words[e] = words[e] | (1u64 << i);
+        i += 1;
+    }
+    words
 }
 
 // The overlap sets of the first `rows` rows, which run from first to second on a line whose last element is `top`.

@@ -9,15 +9,15 @@ use lib.Dec.{lit≤}
 use lib.ListN.{length}
 use Rattle.rules.specs.TableFile.{fileTable}
 use Rattle.rules.specs.Line.{Sets}
-use Rattle.rules.specs.Refusals.{Check, Answers, short-output, bound-checks, verdict-checks, sets-checks}
+use Rattle.rules.specs.Refusals.{Check, Answers, last-number, short-output, bound-checks, verdict-checks, sets-checks}
 use Rattle.rules.proofs.Answers.{Fit, stopped, answered, none-of, answers-only, answers-split, answers-fit}
-use Rattle.rules.proofs.Small.{verdict-small}
+use Rattle.rules.proofs.Small.{last-place, verdict-small}
 use Rattle.outline.specs.Outlined.{outline-checks}
 use Rattle.outline.proofs.Outlined.{outline-numbered}
 
 module _ (f : List ℕ) where
-  -- a refusal by 1 to 11 is the verdict's too
-  outline-small : (n p : ℕ) → Answers (outline-checks f) n p → Dec (n ≡ 0) → (n ≤ 17) × (p ≤ 63)
+  -- a refusal by 1 to 9, 18, 10 and 11 is the verdict's too
+  outline-small : (n p : ℕ) → Answers (outline-checks f) n p → Dec (n ≡ 0) → (n ≤ last-number) × (p ≤ last-place)
   unfolding verdict-checks
   outline-small n p a (no h) = verdict-small f n p (stopped (outline-checks f) (bound-checks (fileTable f)) n p h a)
   outline-small n p a (yes z) =
@@ -28,9 +28,9 @@ module _ (f : List ℕ) where
   abbrev no-room : ℕ → List Check
   no-room room = short-output ((ws : List ℕ) × Sets (fileTable f) ws × (room < length ws)) ∷ []
 
-  pub sets-small : (room n p : ℕ) → Answers (sets-checks f room) n p → (n ≤ 17) × (p ≤ 63)
+  pub sets-small : (room n p : ℕ) → Answers (sets-checks f room) n p → (n ≤ last-number) × (p ≤ last-place)
   unfolding sets-checks Fit
   sets-small room n p r =
       ⊎-elim (λ a. outline-small n p a (ℕ-discrete n 0))
-      (λ a. answers-fit 17 63 (no-room room) n p (lit≤ tt, lit≤ tt, tt) (a .1))
+      (λ a. answers-fit last-number last-place (no-room room) n p (lit≤ tt, lit≤ tt, tt) (a .1))
       (answers-split (outline-checks f) (no-room room) n p r)

@@ -31,7 +31,7 @@ values cut interval hyper load sets = cut ∷ 0 ∷ interval ∷ hyper ∷ load 
 abbrev pub value-count : ℕ
 value-count = 6
 
--- 1 to 14, then 17
+-- the verdict's, then 17
 unfoldable pub values-checks : List ℕ → ℕ → List Check
 values-checks f room = verdict-checks f ++ (short-output (room < value-count) ∷ [])
 

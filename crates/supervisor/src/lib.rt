@@ -5,12 +5,13 @@ use verdict::Verdict;
 ghost use mathlib.Core.Path.{_≡_};
 ghost use Prim.Native.Nat.{_≤_};
 ghost use lib.ListN.{length};
+ghost use Rattle.rules.specs.Refusals.{last-number};
 ghost use Rattle.rules.specs.Calls.{lent, c-answer};
 ghost use Rattle.supervisor.specs.ToC.{VerdictToC, values, value-count, ValuesToC, SetsToC, PlanToC};
 
 // Number and place as one number.
 fn joined(number: u32, place: u32) -> u32
-    requires { ⌜ (number ≤ 17) × (place ≤ 63) ⌝ }
+    requires { ⌜ (number ≤ last-number) × (place ≤ 63) ⌝ }
     ensures { λ r. ⌜ r ≡ c-answer number place ⌝ }
 {
     256 * number + place

@@ -14,7 +14,7 @@ use Rattle.numbers.specs.Lists.{at}
 use Rattle.rules.specs.Bounds.{max-rows}
 use Rattle.rules.specs.Bus.{Table}
 use Rattle.rules.specs.TableFile.{headerSize, rowSize, read16, fileTable}
-use Rattle.rules.specs.Refusals.{Answers, header-checks, row-checks, file-checks}
+use Rattle.rules.specs.Refusals.{Check, Answers, header-checks, row-checks, file-checks}
 use Rattle.rules.proofs.Answers.{None, stopped, joined, answers-only}
 use Rattle.table.specs.Columns.{ByRow, Whole, tableOf, Holds}
 use Rattle.table.specs.Decoded.{refusal, Decodes}
@@ -79,7 +79,8 @@ decoding-end {f} c w m n D =
 
 module _ (f : List ℕ) (a : Answer) where
   -- the header is refused
-  pub decodes-header : {n p : ℕ} → Answers (header-checks f) n p → n ≢ 0 → a .number ≡ n → a .place ≡ p → Decodes f (refusal a)
+  pub decodes-header : {n p : ℕ} → Answers (header-checks f) n p → n ≢ 0 → a .number ≡ n → a .place ≡ p
+      → Decodes (file-checks f) (fileTable f) (refusal a)
   unfolding file-checks
   decodes-header {n} {p} h z e q = record {
     answers = rw (e, q) (stopped (header-checks f) (row-checks (fileTable f)) n p z h);
@@ -93,10 +94,11 @@ module _ (f : List ℕ) (a : Answer) where
     rows-decide = joined (header-checks f) (row-checks (fileTable f)) (a .number) (a .place) s h
 
     -- a row is refused
-    pub decodes-row : a .number ≢ 0 → Decodes f (refusal a)
+    pub decodes-row : a .number ≢ 0 → Decodes (file-checks f) (fileTable f) (refusal a)
     decodes-row z = record { answers = rows-decide; passed = λ k. absurd (z k); refused = λ k. refl }
 
-    pub decodes-all : {c : Columns} → a .number ≡ 0 → Holds (fileTable f) c → Decodes f (record { answer = a; columns = c })
+    pub decodes-all : {c : Columns} → a .number ≡ 0 → Holds (fileTable f) c
+        → Decodes (file-checks f) (fileTable f) (record { answer = a; columns = c })
     decodes-all e H = record { answers = rows-decide; passed = λ k. H; refused = λ k. absurd (k e) }
 
 -- ---- only one answer fits
@@ -121,9 +123,9 @@ holds-only {t} {c} {d} H K =
       second = second k;
     }
 
-pub decodes-only : {f : List ℕ} {r s : Decoded} → Decodes f r → Decodes f s → r ≡ s
-decodes-only {f} {r} {s} D E =
-    let z = answers-only (file-checks f) _ _ _ _ (D .answers) (E .answers) in
+pub decodes-only : {cs : List Check} {t : Table} {r s : Decoded} → Decodes cs t r → Decodes cs t s → r ≡ s
+decodes-only {cs} {t} {r} {s} D E =
+    let z = answers-only cs _ _ _ _ (D .answers) (E .answers) in
     let columns : r .columns ≡ s .columns = go (z .0) (ℕ-discrete (r .answer .number) 0) in
     λ k. record { answer = record { number = z .0 k; place = z .1 k }; columns = columns k }
   where

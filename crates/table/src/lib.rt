@@ -148,6 +148,8 @@ impl Answer {
 
     pub const SHORT_OUTPUT: u32 = 17;
 
+    pub const PASTED_ROW: u32 = 18;
+
     pub fn done() -> Answer
         ensures { λ r. ⌜ (r .number ≡ 0) × (r .place ≡ 0) ⌝ }
     {

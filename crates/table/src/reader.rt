@@ -14,8 +14,8 @@ ghost use Prim.Native.Nat.{_+_, _*_, _≤_};
 ghost use lib.ListN.{length};
 ghost use lib.Seq.{sets};
 ghost use Rattle.rules.specs.Bounds.{max-rows};
-ghost use Rattle.rules.specs.TableFile.{table-mark, rowNumbers, mark, numbers};
-ghost use Rattle.rules.specs.Refusals.{Answers, header-checks, row-checks};
+ghost use Rattle.rules.specs.TableFile.{table-mark, rowNumbers, mark, fileTable, numbers};
+ghost use Rattle.rules.specs.Refusals.{Answers, header-checks, row-checks, file-checks};
 ghost use Rattle.rules.specs.Calls.{lent, Read};
 ghost use Rattle.table.specs.Rows.{inMemory};
 ghost use Rattle.table.specs.Columns.{columnTable};
@@ -89,22 +89,24 @@ pub struct Decoded {
     pub columns: Columns,
 }
 
-fn refuse(answer: Answer) -> Decoded
-    ensures { λ r. ⌜ r ≡ refusal answer ⌝ }
-{
-    Decoded {
-        answer: answer,
-        columns: no_columns(),
+impl Decoded {
+    pub fn refused(answer: Answer) -> Decoded
+        ensures { λ r. ⌜ r ≡ refusal answer ⌝ }
+    {
+        Decoded {
+            answer: answer,
+            columns: no_columns(),
+        }
     }
 }
 
 // Checks 1 to 9. The columns are a passed file's; all 0 beside a refusal.
 pub fn decode(file: &[u8]) -> Decoded
-    ensures { λ r. ⌜ Decodes (now (file .entry)) r ⌝ }
+    ensures { λ r. ⌜ Decodes (file-checks (now (file .entry))) (fileTable (now (file .entry))) r ⌝ }
 {
     let number = header_fault(file);
     if number != Answer::DONE {
-        return refuse(Answer::at(number, 0));
+        return Decoded::refused(Answer::at(number, 0));
     }
     let columns = columns_of(file);
     let answer = check_rows(
@@ -116,7 +118,7 @@ pub fn decode(file: &[u8]) -> Decoded
         &columns.second,
     );
     if answer.number != Answer::DONE {
-        return refuse(answer);
+        return Decoded::refused(answer);
     }
     Decoded {
         answer: answer,

@@ -20,11 +20,11 @@ use Rattle.numbers.proofs.Truth.{is-true, is-false, eqb-of}
 use Rattle.rules.specs.Bus.{Table}
 use Rattle.rules.specs.TableFile.{fileTable}
 use Rattle.rules.specs.Loads.{hyperperiod, shortest, rate, load, equalPeriods, light, over, reported}
-use Rattle.rules.specs.Refusals.{Check, Answers, light-row, over-bound, file-checks, line-checks, bound-checks, verdict-checks}
+use Rattle.rules.specs.Refusals.{Check, Answers, light-row, over-bound, given-checks, line-checks, bound-checks, verdict-checks}
 use Rattle.rules.proofs.Answers.{None, stopped, joined, answered, none-of, none-join, answers-only}
 use Rattle.table.specs.declared.Answer.{Answer}
 use Rattle.table.specs.Columns.{ByRow}
-use Rattle.table.proofs.Faults.{file-numbered}
+use Rattle.outline.proofs.AsGiven.{given-numbered}
 use Rattle.outline.specs.declared.Outline.{Outline}
 use Rattle.outline.specs.Outlined.{Found, Outlined}
 use Rattle.outline.proofs.Outlined.{answer-only, answers-at, line-numbered, outlined-none, found-count, found-only}
@@ -177,19 +177,19 @@ module _ (o : Outline) (w : Loaded) where
 -- ---- of a file
 
 module _ (f : List ℕ) where
-  pub analysed-file : (r : Answer) → r .number ≢ 0 → Answers (file-checks f) (r .number) (r .place)
+  pub analysed-given : (r : Answer) → r .number ≢ 0 → Answers (given-checks f) (r .number) (r .place)
       → Analysed (verdict-checks f) (fileTable f) (blank r)
-  analysed-file r h a =
-      analysed-refused r h (rw (verdict-split f) (stopped (file-checks f) (table-checks (fileTable f)) (r .number) (r .place) h a))
+  analysed-given r h a =
+      analysed-refused r h (rw (verdict-split f) (stopped (given-checks f) (table-checks (fileTable f)) (r .number) (r .place) h a))
 
-  -- past the file's checks its table's analysis is the file's
-  pub analysed-past : (p : ℕ) → Answers (file-checks f) 0 p → {a : Analysis} → Analysed (table-checks (fileTable f)) (fileTable f) a
+  -- past these checks its table's analysis is the file's
+  pub analysed-past : (p : ℕ) → Answers (given-checks f) 0 p → {a : Analysis} → Analysed (table-checks (fileTable f)) (fileTable f) a
       → Analysed (verdict-checks f) (fileTable f) a
   analysed-past p c {a} A = record {
     answers =
         rw (verdict-split f)
-        (joined (file-checks f) (table-checks (fileTable f)) (a .outline .answer .number) (a .outline .answer .place)
-        (none-of (file-checks f) p (file-numbered f) c) (A .answers));
+        (joined (given-checks f) (table-checks (fileTable f)) (a .outline .answer .number) (a .outline .answer .place)
+        (none-of (given-checks f) p (given-numbered f) c) (A .answers));
     found = A .found;
     refused = A .refused;
   }

@@ -17,11 +17,11 @@ use Rattle.rules.specs.TableFile.{fileTable}
 use Rattle.rules.specs.Line.{cut, OverlapSet, Sets, lineFirst, lineSecond}
 use Rattle.rules.specs.Loads.{light, over}
 use Rattle.rules.specs.Refusals.{Check, Answers, light-row, over-bound}
-use Rattle.rules.specs.Refusals.{file-checks, line-checks, bound-checks, verdict-checks}
+use Rattle.rules.specs.Refusals.{given-checks, line-checks, bound-checks, verdict-checks}
 use Rattle.rules.proofs.Answers.{None, Numbered, stopped, joined, none-join, none-left, none-right, numbered-join}
 use Rattle.rules.proofs.Sets.{sets-only, set-in}
 use Rattle.table.specs.Sound.{Sound}
-use Rattle.table.proofs.Faults.{passed-none}
+use Rattle.outline.proofs.AsGiven.{given-passed}
 use Rattle.ring.proofs.OnLine.{line-ordered}
 use Rattle.sets.proofs.List.{setsTo, setsTo-few, sets-are}
 use Rattle.outline.proofs.Sets.{ring-list}
@@ -122,13 +122,13 @@ table-admissible t s a =
       bounded = bounded t (s .rows-low) (e .0) (e .1) (none-within t (s .rows-low) (e .0) (e .1) n (e .2));
     }
 
--- the verdict's checks are the file's, then the table's
-pub verdict-split : (f : List ℕ) → verdict-checks f ≡ file-checks f ++ table-checks (fileTable f)
+-- the verdict's checks are those of the table as it is given, then those of its line and bound
+pub verdict-split : (f : List ℕ) → verdict-checks f ≡ given-checks f ++ table-checks (fileTable f)
 unfolding verdict-checks
-verdict-split f = append-assoc (file-checks f) (line-checks (fileTable f)) (bound-checks (fileTable f))
+verdict-split f = append-assoc (given-checks f) (line-checks (fileTable f)) (bound-checks (fileTable f))
 
 pub admissible-of : (f : List ℕ) → None (verdict-checks f) → Admissible (fileTable f)
 admissible-of f a =
-    let n : None (file-checks f ++ table-checks (fileTable f)) = rw (verdict-split f) at a in
-    table-admissible (fileTable f) (passed-none f (none-left (file-checks f) (table-checks (fileTable f)) n) .sound)
-    (none-right (file-checks f) (table-checks (fileTable f)) n)
+    let n : None (given-checks f ++ table-checks (fileTable f)) = rw (verdict-split f) at a in
+    table-admissible (fileTable f) (given-passed f (none-left (given-checks f) (table-checks (fileTable f)) n) .sound)
+    (none-right (given-checks f) (table-checks (fileTable f)) n)

@@ -1,7 +1,6 @@
 -- The weights of a sound table's rows and sets, found row by row and set by set: what one turn of each loop does, and that the code's
 -- weights are document 01's loads and bound.
 --
---   Sought n q i         none of the first i of n numbers passes the test q
 use mathlib.Core.Path.{_≡_, refl, sym, ap, _∙_}
 use mathlib.Core.Logic.{⊎-elim}
 use mathlib.Core.Bool.{Bool, true, false, not, _&&_}
@@ -15,7 +14,7 @@ use borrow.Author.Count.{below-more}
 use Rattle.numbers.specs.Finite.{every, lowest, sumIn, largest}
 use Rattle.numbers.specs.Word.{bit}
 use Rattle.numbers.specs.Lists.{at}
-use Rattle.numbers.proofs.Truth.{both, fst, snd, decide, is-true, is-false, of-true, of-false, along, eqb-of, refutes}
+use Rattle.numbers.proofs.Truth.{both, fst, snd, decide, is-true, is-false, of-true, along, eqb-of, refutes}
 use Rattle.numbers.proofs.Finite.{every-of, lowest-is, lowest-none, lowest-le, lowest-has, lowest-below}
 use Rattle.numbers.proofs.Finite.{sumIn-eq, sumIn-most, largest-next}
 use Rattle.numbers.proofs.Word.{bit-and}
@@ -78,26 +77,6 @@ pub rates-are : (t : Table) {h : ℕ} {xs : List ℕ} → h ≡ hyperperiod t �
     → ByRow (t .rows) (rate t) xs
 unfolding rate
 rates-are t e B = rw e at B
-
--- ---- the lowest number that passes a test, from 0 up
-
--- none below i passes
-pub record Sought (n : ℕ) (q : ℕ → Bool) (i : ℕ) : Type 0 where
-  pub within : i ≤ n
-  pub none : (j : ℕ) → j < i → T (q j) → ⊥
-
-module _ {n : ℕ} {q : ℕ → Bool} where
-  pub sought-start : Sought n q 0
-  sought-start = record { within = omega arith; none = λ j l. absurd (omega arith) }
-
-  pub sought-next : {i : ℕ} → Sought n q i → i < n → q i ≡ false → Sought n q (i + 1)
-  sought-next h l e = record { within = omega arith; none = below-more _ _ (h .none) (of-false e) }
-
-  pub sought-found : {i : ℕ} → Sought n q i → i < n → q i ≡ true → i ≡ lowest n q
-  sought-found {i} h l e = sym (lowest-is n q i l (of-true e) (h .none))
-
-  pub sought-end : {i : ℕ} → Sought n q i → n ≤ i → i ≡ lowest n q
-  sought-end {i} h l = omega (arith, lowest-none n q (λ j m. h .none j (omega arith)))
 
 -- ---- the load of a set
 

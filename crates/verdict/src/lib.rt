@@ -281,11 +281,11 @@ pub fn analysis_of<'a>(
     }
 }
 
-// The analysis of a file's table, or the first refusal of 1 to 14.
+// The analysis of a file's table, or the first refusal of 1 to 9, 18, 10 to 14.
 pub fn analyse(file: &[u8]) -> Analysis
     ensures { λ r. ⌜ Analysed (verdict-checks (now (file .entry))) (fileTable (now (file .entry))) r ⌝ }
 {
-    let found = table::decode(file);
+    let found = outline::given(file);
     let answer = found.answer;
     if answer.number != Answer::DONE {
         return Analysis::refused(answer);
@@ -394,7 +394,7 @@ fn judge_table<'a>(
 pub fn judge(file: &[u8]) -> Verdict
     ensures { λ r. ⌜ Judged (now (file .entry)) (numberOf r) (placeOf r) (cutOf r) (intervalOf r) (hyperOf r) (loadOf r) (setsOf r) ⌝ }
 {
-    let found = table::decode(file);
+    let found = outline::given(file);
     let answer = found.answer;
     if answer.number != Answer::DONE {
         return Verdict::Refused {

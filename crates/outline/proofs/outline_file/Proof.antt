@@ -1,52 +1,52 @@
--- outline_file: past the file's checks the columns hold its table.
+-- outline_file: past the checks of a table as it is given the columns hold it.
 use mathlib.Core.Path.{_≡_}
 use mathlib.Core.List.{List}
 use Prim.Native.Nat.{ℕ}
 use borrow.Author.Needs.{needs}
 use Rattle.numbers.specs.Lists.{at}
 use Rattle.rules.specs.TableFile.{fileTable}
-use Rattle.rules.specs.Refusals.{Answers, file-checks}
+use Rattle.rules.specs.Refusals.{Answers, given-checks}
 use Rattle.table.specs.Sound.{Sound}
 use Rattle.table.specs.Columns.{tableOf}
-use Rattle.table.proofs.Faults.{passed-of}
-use Rattle.outline.proofs.Outlined.{answers-zero, outlined-file, outlined-past}
+use Rattle.outline.proofs.AsGiven.{given-of}
+use Rattle.outline.proofs.Outlined.{answers-zero, outlined-given, outlined-past}
 use Rattle.outline.proofs.outline_file.Statement.{statement}
 use Rattle.outline.proofs.outline_file.Tie as tie
 
-abbrev decoded : tie.Else1 → tie.After-decode
-decoded c = c .before .before .before
+abbrev taken : tie.Else1 → tie.After-given
+taken c = c .before .before .before
 
 abbrev bytes : tie.Else1 → List ℕ
-bytes c = decoded c .before .before .args .file .now
+bytes c = taken c .before .before .args .file .now
 
-checked : (c : tie.Else1) → Answers (file-checks (bytes c)) 0 (decoded c .decode .result .answer .place)
-checked c = answers-zero (file-checks (bytes c)) (decoded c .decode .result .answer) (c .if1 .left) (decoded c .decode .ensures .answers)
+checked : (c : tie.Else1) → Answers (given-checks (bytes c)) 0 (taken c .given .result .answer .place)
+checked c = answers-zero (given-checks (bytes c)) (taken c .given .result .answer) (c .if1 .left) (taken c .given .ensures .answers)
 
-held : (c : tie.Else1) → tableOf (decoded c .decode .result .columns) ≡ fileTable (bytes c)
-held c = decoded c .decode .ensures .passed (c .if1 .left) .table
+held : (c : tie.Else1) → tableOf (taken c .given .result .columns) ≡ fileTable (bytes c)
+held c = taken c .given .ensures .passed (c .if1 .left) .table
 
-sound : (c : tie.Else1) → Sound (tableOf (decoded c .decode .result .columns))
-sound c = rw (held c) (passed-of (bytes c) _ (checked c) .sound)
+sound : (c : tie.Else1) → Sound (tableOf (taken c .given .result .columns))
+sound c = rw (held c) (given-of (bytes c) _ (checked c) .sound)
 
-decode-requires : tie.Need-decode-requires
-decode-requires c κs = search needs
+given-requires : tie.Need-given-requires
+given-requires c κs = search needs
 
 refused-requires : tie.Need-refused-requires
 refused-requires c κs = search needs
 
 returns : tie.Need-returns
 returns c =
-    let a = c .before .before .before .before .decode in
-    rw (c .refused .ensures) (outlined-file _ (a .result .answer) (c .before .if1 .taken) (a .ensures .answers))
+    let a = c .before .before .before .before .given in
+    rw (c .refused .ensures) (outlined-given _ (a .result .answer) (c .before .if1 .taken) (a .ensures .answers))
 
 outline-of-requires : tie.Need-outline-of-requires
-outline-of-requires c κs = let e = c .before .before .before .before in (at (decoded e .decode .result .columns .cost), sound e)
+outline-of-requires c κs = let e = c .before .before .before .before in (at (taken e .given .result .columns .cost), sound e)
 
 returns-2 : tie.Need-returns-2
 returns-2 c =
     let e = c .before .before .before .before .before in
     outlined-past (bytes e) _ (checked e)
-    (rw (held e) at (c .outline-of .ensures (at (decoded e .decode .result .columns .cost)) (sound e)))
+    (rw (held e) at (c .outline-of .ensures (at (taken e .given .result .columns .cost)) (sound e)))
 
 pub outline-file-spec : {M : Type 1} → statement M
-outline-file-spec = tie.close (tie.spec decode-requires refused-requires returns outline-of-requires returns-2)
+outline-file-spec = tie.close (tie.spec given-requires refused-requires returns outline-of-requires returns-2)

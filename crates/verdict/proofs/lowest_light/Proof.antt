@@ -3,9 +3,9 @@ use mathlib.Core.Path.{_≡_, sym, _∙_}
 use Prim.Native.Nat.{_-_}
 use native.Mathlib.Omega.{arith}
 use Rattle.numbers.specs.Lists.{at}
-use Rattle.numbers.proofs.Finite.{lowest-none}
+use Rattle.numbers.proofs.Finite.{lowest-none, Sought, sought-start, sought-next, sought-found, sought-end}
 use Rattle.verdict.specs.Weights.{lightBy}
-use Rattle.verdict.proofs.Weighing.{Sought, sought-start, sought-next, sought-found, sought-end, light-equal, light-differ}
+use Rattle.verdict.proofs.Weighing.{light-equal, light-differ}
 use Rattle.verdict.proofs.lowest_light.Statement.{statement}
 use Rattle.verdict.proofs.lowest_light.Tie as tie
 

@@ -1,6 +1,6 @@
 -- next_load: what both sets share is in both loads.
 use mathlib.Core.Path.{_≡_}
-use Prim.Native.Nat.{_+_, _≤_}
+use Prim.Native.Nat.{_+_}
 use native.Mathlib.Omega.{arith}
 use Rattle.verdict.specs.Weights.{weight}
 use Rattle.verdict.proofs.Weighing.{weight-moved, weight-small}
@@ -19,23 +19,19 @@ add-result c =
 sum-in-requires-2 : tie.Need-sum-in-requires-2
 sum-in-requires-2 c κs = (c .before .pre .0 .few, c .before .pre .0 .small)
 
-moved : (c : tie.After-sum-in2)
-    → let a = c .before .before .args in
-    (c .sum-in2 .result ≤ a .load)
-    × (a .load + c .before .sum-in .result ≡ weight (a .rows) (a .rate .now) (a .word) + c .sum-in2 .result)
-moved c =
+sub-result : tie.Need-sub-result
+sub-result c =
     let z = c .before .before in
     let a = z .args in
-    weight-moved (a .rows) (a .rate .now) (a .last) (a .word) (z .pre .1) (c .before .sum-in .ensures .0) (c .sum-in2 .ensures .0)
-
-sub-result : tie.Need-sub-result
-sub-result c = omega (arith, moved c)
+    let in-word = c .before .sum-in .ensures .0 in
+    omega (arith, weight-moved (a .rows) (a .rate .now) (a .last) (a .word) (z .pre .1) in-word (c .sum-in2 .ensures .0))
 
 returns : tie.Need-returns
 returns c =
     let z = c .before .before in
     let a = z .args in
-    let e : a .load + c .before .sum-in .result ≡ weight (a .rows) (a .rate .now) (a .word) + c .sum-in2 .result = moved c .1 in
+    let e : a .load + c .before .sum-in .result ≡ weight (a .rows) (a .rate .now) (a .word) + c .sum-in2 .result =
+    weight-moved (a .rows) (a .rate .now) (a .last) (a .word) (z .pre .1) (c .before .sum-in .ensures .0) (c .sum-in2 .ensures .0) .1 in
     (omega (arith, e), omega (arith, e, weight-small (z .pre .0) (a .word), z .pre .0 .few))
 
 pub next-load-spec : {M : Type 1} → statement M

@@ -32,12 +32,12 @@ header-fault-requires c κs = search needs
 at-requires : tie.Need-at-requires
 at-requires c κs = search needs
 
-refuse-requires : tie.Need-refuse-requires
-refuse-requires c κs = search needs
+refused-requires : tie.Need-refused-requires
+refused-requires c κs = search needs
 
 returns : tie.Need-returns
 returns c =
-    rw (c .refuse .ensures)
+    rw (c .refused .ensures)
     (decodes-header _ _ (c .before .before .before .header-fault .ensures) (c .before .before .if1 .taken) (c .before .at .ensures .0)
     (c .before .at .ensures .1))
 
@@ -50,14 +50,14 @@ check-rows-requires c κs =
     let e = ap (λ (t : Table). t .rows) (z .columns-of .ensures .table) in
     omega (arith, e, header-whole _ (none (z .before)) .few)
 
-refuse-requires-2 : tie.Need-refuse-requires-2
-refuse-requires-2 c κs = search needs
+refused-requires-2 : tie.Need-refused-requires-2
+refused-requires-2 c κs = search needs
 
 returns-2 : tie.Need-returns-2
 returns-2 c =
     let z = c .before .before .before in
     let e = z .before .before .before .before .before .before in
-    rw (c .refuse2 .ensures) (decodes-row _ _ (none (e .before)) (rows z) (c .before .if2 .taken))
+    rw (c .refused2 .ensures) (decodes-row _ _ (none (e .before)) (rows z) (c .before .if2 .taken))
 
 returns-3 : tie.Need-returns-3
 returns-3 c =
@@ -71,10 +71,10 @@ decode-spec =
     (tie.spec
     header-fault-requires
     at-requires
-    refuse-requires
+    refused-requires
     returns
     columns-of-requires
     check-rows-requires
-    refuse-requires-2
+    refused-requires-2
     returns-2
     returns-3)
