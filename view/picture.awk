@@ -50,7 +50,7 @@ function move(i, a, b,    top, high) {
 # Where the band that starts at slot s ends: with an interval, if one ends within it.
 function band_end(s,    e) {
     if (s + band >= hyper) return hyper
-    for (e = s + band; e > s; e--) if (job_end(e)) return e
+    for (e = s + band; e > s; e--) if (interval_end(e)) return e
     return s + band
 }
 
@@ -70,7 +70,7 @@ function marks(    s, i, every) {
     every = wide >= 24 ? 1 : wide >= 6 ? 8 : 32
     for (s = start; s <= stop; s++) {
         if (s % every == 0 && s < stop) printf "<text class=\"slot\" x=\"%g\" y=\"%g\">%d</text>\n", x_of(s) + 1, above - 5, s
-        if (s > start && job_end(s))
+        if (s > start && interval_end(s))
             printf "<line class=\"end\" x1=\"%g\" y1=\"%g\" x2=\"%g\" y2=\"%g\"/>\n", x_of(s), above - 3, x_of(s), below + rows * strip
         for (i = 0; i < rows; i++)
             if (s > start && s % period[i] == 0)

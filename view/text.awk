@@ -14,7 +14,7 @@ END {
                 a = lane(first[i])
                 for (l = a; l < a + steps(i); l++) at[l, s] = substr(signs, i + 1, 1)
             }
-            ends = ends (job_end(s + 1) ? "|" : " ")
+            ends = ends (interval_end(s + 1) ? "|" : " ")
         }
         ruler = ""
         for (s = from; s < to; s += 8) ruler = ruler sprintf("%-8d", s)

@@ -1,7 +1,6 @@
-# Shared by the views. They read, on one stream, what ./plan prints of an admitted table and before that its rows:
-#   elements M
-#   row I COST PERIOD FIRST SECOND
-#   verdict, cut, interval, hyper, load, set.., slot..
+# Shared by the views. They read, on one stream, the lines of view/table.awk and those of the program:
+#   bytes, head, elements M, row I COST PERIOD FIRST SECOND ..
+#   verdict, and of an admitted table cut, interval, hyper, load, set .., slot ..
 
 # The rows of a word, ascending, as numbers with spaces between. A word has 64 bits and stands in decimal: awk's own numbers would round it,
 # so it is divided by 2^16 as decimal parts of six digits.
@@ -60,8 +59,7 @@ function next_element(s) {
     return s % elements + 1
 }
 
-# Whether some job ends at slot s: there an interval ends.
-function job_end(s,    i) {
-    for (i = 0; i < rows; i++) if (s % period[i] == 0) return 1
-    return 0
+# Whether an interval ends at slot s.
+function interval_end(s) {
+    return s % interval == 0
 }
