@@ -115,11 +115,13 @@ placed-next m K end words words' w old p one v i l = go (ℕ-discrete v (end m))
 
     go : Dec (v ≡ end m) → Dec (i ≡ m) → bit (words' v) i ≡ (ltb i (m + 1) && eqb (end i) v)
     go (yes e) (yes d) =
-        ap (λ (z : ℕ). bit (words' z) i) e ∙ ap (λ (z : ℕ). bit z i) (p .0) ∙ one i ∙ ap (λ (c : Bool). bit (words (end m)) i || c) (eq-eqb i m d)
+        ap (λ (z : ℕ). bit (words' z) i) e ∙ ap (λ (z : ℕ). bit z i) (p .0) ∙ one i ∙ ap (λ (c : Bool). bit (words (end m)) i || c)
+        (eq-eqb i m d)
         ∙ either (bit (words (end m)) i)
         ∙ sym (rw (lt-ltb i (m + 1) (omega arith)) (eq-eqb (end i) v (ap end d ∙ sym e)))
     go (yes e) (no d) =
-        ap (λ (z : ℕ). bit (words' z) i) e ∙ ap (λ (z : ℕ). bit z i) (p .0) ∙ one i ∙ ap (λ (c : Bool). bit (words (end m)) i || c) (ne-eqb i m d)
+        ap (λ (z : ℕ). bit (words' z) i) e ∙ ap (λ (z : ℕ). bit z i) (p .0) ∙ one i ∙ ap (λ (c : Bool). bit (words (end m)) i || c)
+        (ne-eqb i m d)
         ∙ unlike (bit (words (end m)) i) ∙ ap (λ (z : ℕ). bit (words z) i) (sym e) ∙ old v i l
         ∙ ap (λ (c : Bool). c && eqb (end i) v) (wider d (decLt i m))
     go (no e) (yes d) =

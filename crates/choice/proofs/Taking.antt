@@ -1,5 +1,5 @@
--- The greedy theorem: rows that are rounded up in turn, where all their sets have room left, are the greatest loads, if no set's sum is then
--- below its parts rounded down.
+-- The greedy theorem: rows that are rounded up in turn, where all their sets have room left, are the greatest loads, if no set's sum is
+-- then below its parts rounded down.
 use mathlib.Core.Path.{_≡_, refl, ap, _∙_}
 use mathlib.Core.Bool.{Bool, true, false, _||_}
 use Prim.Native.Nat.{ℕ, suc, _+_, _-_, _*_, _≤_, _<_}

@@ -1,8 +1,8 @@
 // Which rows of an interval are rounded up: the greatest loads in the order of rows.
 //
 // Source: document 000, section 4.3 (GenerateLoad). Changed against it:
-// - First the rows are rounded up in turn, each where all its sets have room. Where no set is then below its sum rounded down, these are the
-//   greatest loads, and no network is needed: a row left out has a set that rows before it have filled. Else they are settled (crate
+// - First the rows are rounded up in turn, each where all its sets have room. Where no set is then below its sum rounded down, these are
+//   the greatest loads, and no network is needed: a row left out has a set that rows before it have filled. Else they are settled (crate
 //   loads).
 // - The bound by the interval's length is left out: a set's lag is at most the length, and so is the lag rounded up.
 // - Document 01 lets any qualifying loads be chosen. These are the greatest, row 0's first, so that there is one answer.

@@ -198,8 +198,22 @@ module _ (G : Net) (may seen : ℕ → Bool) (x : ℕ → ℕ) (i : ℕ) (l : i 
       by-ends : (p q : Bool) (X Y : ℕ) → (p ≡ true → q ≡ false → Y ≤ X) → (q ≡ true → p ≡ false → X ≤ Y)
           → only q X + only p Y ≤ only p X + only q Y
       by-ends true true X Y f g = omega arith
-      by-ends true false X Y f g = omega (arith, f refl refl, only-true true X refl, only-true true Y refl, only-false false X refl, only-false false Y refl)
-      by-ends false true X Y f g = omega (arith, g refl refl, only-true true X refl, only-true true Y refl, only-false false X refl, only-false false Y refl)
+      by-ends true false X Y f g = omega (
+        arith,
+        f refl refl,
+        only-true true X refl,
+        only-true true Y refl,
+        only-false false X refl,
+        only-false false Y refl,
+      )
+      by-ends false true X Y f g = omega (
+        arith,
+        g refl refl,
+        only-true true X refl,
+        only-true true Y refl,
+        only-false false X refl,
+        only-false false Y refl,
+      )
       by-ends false false X Y f g = omega arith
 
       term : (e : ℕ) → e < G .arcs → e ≢ i
@@ -356,7 +370,8 @@ module _ (seen : ℕ) (by : ℕ → ℕ) where
   passed-not on p w q =
       record { kept = λ v e. (e, refl); came = λ v f t. absurd (true≢false (sym t ∙ f)); swept = λ t. absurd (true≢false (sym t ∙ q)) }
 
-  pub passed-on : (on : Bool) (p w seen' : ℕ) (by' : ℕ → ℕ) → on ≡ true → Passed true p w seen seen' by by' → Passed on p w seen seen' by by'
+  pub passed-on : (on : Bool) (p w seen' : ℕ) (by' : ℕ → ℕ) → on ≡ true → Passed true p w seen seen' by by' → Passed on p w seen seen' by
+      by'
   passed-on on p w seen' by' e P = rw e P
 
   pub passed-new : (p w seen' : ℕ) (by' : ℕ → ℕ) → bit seen p ≡ false → ((v : ℕ) → bit seen' v ≡ (bit seen v || eqb v p)) → Put by p w by'
@@ -439,21 +454,25 @@ module _ (n K : ℕ) (tail head out into : ℕ → ℕ) (W : Wired n K tail head
 
   found-at : (end words : ℕ → ℕ) → ByPlace n K end words → (v i w : ℕ) → v ≤ K → i < n → end i ≡ v → bit w i ≡ true
       → bit (bitAnd (words v) w) i ≡ true
-  found-at end words B v i w l m e q = bit-and (words v) w i ∙ go (bit (words v) i) (bit w i) (B v i l ∙ rw (lt-ltb i n m, eq-eqb (end i) v e)) q
+  found-at end words B v i w l m e q = bit-and (words v) w i ∙ go (bit (words v) i) (bit w i)
+      (B v i l ∙ rw (lt-ltb i n m, eq-eqb (end i) v e)) q
     where
       go : (a b : Bool) → a ≡ true → b ≡ true → (a && b) ≡ true
       go true b p q = q
       go false b p q = p
 
   pub leave-line : (A : Arcs) (N : Narrow K A) (u way seen one two three four : ℕ) (by by1 by2 by3 by4 : ℕ → ℕ) → u ≤ K
-      → Visited 64 (bit (bitAnd (out u) (A .up))) head way seen one by by1 → Visited 64 (bit (bitAnd (into u) (A .down))) tail way one two by1 by2
+      → Visited 64 (bit (bitAnd (out u) (A .up))) head way seen one by by1 → Visited 64 (bit (bitAnd (into u) (A .down))) tail way one
+      two by1 by2
       → Passed (bit (A .more) u) (u - 1) way two three by2 by3 → Passed (bit (A .less) u) (u + 1) way three four by3 by4
       → ((v : ℕ) → bit seen v ≡ true → v ≤ K) → (v : ℕ) → bit four v ≡ true → v ≤ K
   leave-line A N u way seen one two three four by by1 by2 by3 by4 ul a b c d line =
       passed-line K (bit (A .less) u) (u + 1) way three four by3 by4 d (λ q. omega (arith, N .less u q))
       (passed-line K (bit (A .more) u) (u - 1) way two three by2 by3 c (λ q. omega arith)
-      (visited-line K 64 (bit (bitAnd (into u) (A .down))) tail way one two by1 by2 b (λ i q. W .ends i (into-place u i (A .down) ul q .0) .0)
-      (visited-line K 64 (bit (bitAnd (out u) (A .up))) head way seen one by by1 a (λ i q. W .ends i (out-place u i (A .up) ul q .0) .1) line)))
+      (visited-line K 64 (bit (bitAnd (into u) (A .down))) tail way one two by1 by2 b
+      (λ i q. W .ends i (into-place u i (A .down) ul q .0) .0)
+      (visited-line K 64 (bit (bitAnd (out u) (A .up))) head way seen one by by1 a (λ i q. W .ends i (out-place u i (A .up) ul q .0) .1)
+      line)))
 
   module _ (A : Arcs) (N : Narrow K A) (G : Net) (may : ℕ → Bool) (x : ℕ → ℕ) (S : Shown n K G may x tail head A) (s : ℕ)
       (u way seen one two three four : ℕ) (by by1 by2 by3 by4 : ℕ → ℕ) (ul : u ≤ K) (us : bit seen u ≡ true) (wu : way ≡ by u)
@@ -526,7 +545,8 @@ module _ (n K : ℕ) (tail head out into : ℕ → ℕ) (W : Wired n K tail head
             go : (r : Bool) → bit (A .up) e ≡ r → G .high e ≤ x e
             go true q =
                 let p = found-at tail out (W .starting) u e (A .up) ul g (sym (S .rows e g .0) ∙ t) q in
-                absurd (true≢false (sym (d .kept _ (c .kept _ (b .kept _ (a .swept e p) .0) .0) .0) ∙ ap (bit four) (sym (S .rows e g .1)) ∙ f))
+                absurd (true≢false (sym (d .kept _ (c .kept _ (b .kept _ (a .swept e p) .0) .0) .0) ∙ ap (bit four)
+                (sym (S .rows e g .1)) ∙ f))
             go false q = S .up e g .cannot q m
         ahead e l m t f (no g) = go (bit (A .more) u) refl
           where

@@ -77,7 +77,8 @@ pub first-differ : (d a b : ℕ) → a < 2 ^ d → b < 2 ^ d → a ≢ b
 unfolding trailingZeros
 first-differ zero a b p q ne = absurd (ne (omega arith))
 first-differ (suc d) a b p q ne =
-    go (bitXor a b % 2) refl (λ (k : ¬ (a / 2 ≡ b / 2)). first-differ d (a / 2) (b / 2) (omega (arith, pow-suc 2 d)) (omega (arith, pow-suc 2 d)) k)
+    go (bitXor a b % 2) refl (λ (k : ¬ (a / 2 ≡ b / 2)). first-differ d (a / 2) (b / 2) (omega (arith, pow-suc 2 d))
+    (omega (arith, pow-suc 2 d)) k)
   where
     la : a % 2 < 2
     la = omega arith
@@ -144,7 +145,8 @@ fewer done done' u l f one =
       arith,
       sum-bump 64 (λ v. only (not (bit done' v)) 1) (λ v. only (not (bit done v)) 1) u 1 l
           (λ j k ne. ap (λ (b : Bool). only (not b) 1) (sym (one j ∙ or-same (bit done j) (eqb j u) (ne-eqb j u ne))))
-          (rw (f, one u ∙ or-right (bit done u) (eqb u u) (eq-eqb u u refl)) (omega (arith, only-true true 1 refl, only-false false 1 refl))),
+          (rw (f, one u ∙ or-right (bit done u) (eqb u u) (eq-eqb u u refl))
+          (omega (arith, only-true true 1 refl, only-false false 1 refl))),
     )
 
 -- of two words that differ in a digit, where the second has no digit that the first has not

@@ -91,7 +91,8 @@ module _ (n K : ℕ) (a b : ℕ → ℕ) (h : ℕ) (f : ℕ → ℕ) (S : Spans 
   pub row-low : (i : ℕ) → i < n → line n K a b h f .low i ≡ 0
   row-low i l =
       let r = carried-row f i l in
-      let u : down (carried n a b f i) h < 1 = lt-of-mul-lt-mul-right h (omega (arith, down-under (carried n a b f i) h (P .some), P .row i l)) in
+      let u : down (carried n a b f i) h < 1 = lt-of-mul-lt-mul-right h
+      (omega (arith, down-under (carried n a b f i) h (P .some), P .row i l)) in
       omega arith
 
   pub row-high : (i : ℕ) → i < n → line n K a b h f .high i ≤ 1
@@ -157,7 +158,8 @@ module _ (n K : ℕ) (a b : ℕ → ℕ) (h : ℕ) (f : ℕ → ℕ) (S : Spans 
       cannot = λ q m. omega (arith, carried-row (digit top) i l, digit-off top i (z q m));
     }
 
-    pub takes-more : (k : ℕ) (on : Bool) → (on ≡ true → (may (n + k) ≡ true) × (h * sumIn n (inSet a b k) (digit top) < sumIn n (inSet a b k) f))
+    pub takes-more : (k : ℕ) (on : Bool) → (on ≡ true → (may (n + k) ≡ true) ×
+        (h * sumIn n (inSet a b k) (digit top) < sumIn n (inSet a b k) f))
         → (on ≡ false → may (n + k) ≡ true → sumIn n (inSet a b k) f ≤ h * sumIn n (inSet a b k) (digit top))
         → Takes may (carried n a b (digit top)) (line n K a b h f .high) (n + k) on
     takes-more k on y z = record {
@@ -165,7 +167,8 @@ module _ (n K : ℕ) (a b : ℕ → ℕ) (h : ℕ) (f : ℕ → ℕ) (S : Spans 
       cannot = λ q m. rw (carried-set (digit top) k) (high-less k _ (z q m));
     }
 
-    pub takes-less : (k : ℕ) (on : Bool) → (on ≡ true → (may (n + k) ≡ true) × (sumIn n (inSet a b k) f < h * sumIn n (inSet a b k) (digit top)))
+    pub takes-less : (k : ℕ) (on : Bool) → (on ≡ true → (may (n + k) ≡ true) ×
+        (sumIn n (inSet a b k) f < h * sumIn n (inSet a b k) (digit top)))
         → (on ≡ false → may (n + k) ≡ true → h * sumIn n (inSet a b k) (digit top) ≤ sumIn n (inSet a b k) f)
         → Takes may (line n K a b h f .low) (carried n a b (digit top)) (n + k) on
     takes-less k on y z = record {

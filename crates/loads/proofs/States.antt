@@ -56,7 +56,8 @@ module _ {n K h : ℕ} {tail head out into words sums : List ℕ} {f : ℕ → �
   }
 
   -- what is needed still, by the network and by the arrays
-  pub need-is : (top : ℕ) → sum K (λ k. line n K (at tail) (last head) h f .low (n + k) - carried n (at tail) (last head) (digit top) (n + k))
+  pub need-is : (top : ℕ) → sum K (λ k. line n K (at tail) (last head) h f .low (n + k) - carried n (at tail) (last head) (digit top)
+      (n + k))
       ≡ sum K (λ k. at sums k / h - ones (bitAnd top (at words k)))
   need-is top =
       let S = A .laid .ends .spans in
@@ -111,7 +112,8 @@ after-step n i later p a j l = a j l ∙ ap (λ (b : Bool). b && p j) (go (decLt
 
 -- ---- one row raised
 
-module _ {n K h : ℕ} {tail head out into words sums : List ℕ} {f : ℕ → ℕ} (A : Asked n K h tail head out into words sums f) (s : Sides) (w i : ℕ)
+module _ {n K h : ℕ} {tail head out into words sums : List ℕ} {f : ℕ → ℕ} (A : Asked n K h tail head out into words sums f) (s : Sides)
+    (w i : ℕ)
     (St : State n K h tail head f s)
     (Se : Settled i (line n K (at tail) (last head) h f) (carried n (at tail) (last head) (digit (s .top))))
     (R : Raised (line n K (at tail) (last head) h f) i (carried n (at tail) (last head) (digit (s .top)))
@@ -119,7 +121,8 @@ module _ {n K h : ℕ} {tail head out into words sums : List ℕ} {f : ℕ → �
   -- by a way
   pub raised-next : (s' : Sides) → s' .parted ≡ s .parted → s' .top ≡ bitXor (s .top) w
       → Compared K h (λ k. ones (bitAnd (bitXor (s .top) w) (at words k))) (at sums) (s' .more) (s' .less) (s' .low)
-      → State n K h tail head f s' × Settled (i + 1) (line n K (at tail) (last head) h f) (carried n (at tail) (last head) (digit (s' .top)))
+      → State n K h tail head f s' × Settled (i + 1) (line n K (at tail) (last head) h f)
+      (carried n (at tail) (last head) (digit (s' .top)))
   raised-next s' e d c = (
     state-of A s' (s .parted) (bitXor (s .top) w) (St .parted-is) (λ e l. R .within e l .1) e d c,
     rw d (settle-next (line n K (at tail) (last head) h f) i _ _ Se R),

@@ -25,7 +25,8 @@ use Rattle.flow.proofs.Ways.{way-kept, way-within, way-circ, way-pushed, shut-b
 use Rattle.loads.specs.Loads.{inSet, digit, Spans, Parts}
 use Rattle.loads.specs.Line.{carried, line}
 use Rattle.loads.specs.State.{Compared}
-use Rattle.loads.proofs.Settling.{digit-on, digit-off, digit-le, digit-xor, lines-of, carried-row, carried-set, carried-circ, carried-is}
+use Rattle.loads.proofs.Settling.{digit-on, digit-off, digit-le, digit-xor, lines-of}
+use Rattle.loads.proofs.Settling.{carried-row, carried-set, carried-circ, carried-is}
 use Rattle.loads.proofs.Settling.{parts-within, row-high, row-whole, row-open, open-high, low-more}
 use Rattle.loads.proofs.Settling.{takes-up, takes-down, takes-more, takes-less}
 
@@ -204,7 +205,14 @@ module _ (n K h : ℕ) (a b hd f : ℕ → ℕ) (heads : (i : ℕ) → i < n →
           let y = shut-enough (line n K a b h f) others (z .0) (carried n a b (digit top)) (n + q) (omega (arith, qK))
           (carried-circ n K a b h f S P (digit top)) (z .3) (ap (z .0) hq ∙ z .1) (ap (z .0) tq ∙ z .2) h (carried n a b f)
           (carried-circ n K a b h f S P f) (parts-within n K a b h f S P) other-on in
-          absurd (omega (arith, y, carried-set n K a b h f S P f q, ap (λ (u : ℕ). u * h) (carried-set n K a b h f S P (digit top) q), q-low, P .some))
+          absurd (omega (
+            arith,
+            y,
+            carried-set n K a b h f S P f q,
+            ap (λ (u : ℕ). u * h) (carried-set n K a b h f S P (digit top) q),
+            q-low,
+            P .some,
+          ))
 
       module _ (w : ℕ) (s : Sought n (line n K a b h f) others (carried n a b (digit top)) q (q + 1) w true) where
         new : ℕ
@@ -288,7 +296,8 @@ module _ (n K h : ℕ) (a b hd f : ℕ → ℕ) (heads : (i : ℕ) → i < n →
             (λ k l ne. let e : n + k < n + K = omega arith in
             let o = others-kept (n + k) e (λ z. ne (omega arith)) in
             let m = mend-carried (n + k) e in
-            go (G .low (n + k)) (X (n + k)) (one-more (n + k)) (carried n a b (digit (bitXor top w)) (n + k)) m (o .1) (o .2) (decLe (G .low (n + k)) (X (n + k))))
+            go (G .low (n + k)) (X (n + k)) (one-more (n + k)) (carried n a b (digit (bitXor top w)) (n + k)) m (o .1) (o .2)
+            (decLe (G .low (n + k)) (X (n + k))))
             (omega (arith, own-more, mend-carried (n + q) inside)) in
             omega arith
           where
@@ -391,7 +400,8 @@ module _ (n K h : ℕ) (a b hd f : ℕ → ℕ) (heads : (i : ℕ) → i < n →
                 within = within;
                 kept = λ j l. refl;
                 best =
-                    shut-best G' (ltb i) (z .0) X' i (omega arith) (carried-circ n K a b h f S P (digit top)) (z .3) (ap (z .0) (lines .0) ∙ z .1)
+                    shut-best G' (ltb i) (z .0) X' i (omega arith) (carried-circ n K a b h f S P (digit top)) (z .3)
+                    (ap (z .0) (lines .0) ∙ z .1)
                     (ap (z .0) (lines .1) ∙ z .2) within (λ j l. lt-ltb i j l);
               })
 

@@ -65,7 +65,8 @@ lift-requires c κs =
       omega (arith, span t),
       omega (arith, span t),
       u .inv .0,
-      λ k l g. summed-room (z .args .size .sets) (u .i) (at (z .args .tail .now)) (last (z .args .head .now)) (at (z .args .part .now)) _ (u .inv .2)
+      λ k l g. summed-room (z .args .size .sets) (u .i) (at (z .args .tail .now)) (last (z .args .head .now)) (at (z .args .part .now)) _
+          (u .inv .2)
           (z .args .size .rows) (z .args .size .hyper) (z .pre .2) (z .pre .0 .few-rows) (t .if1 .taken) k (omega (arith, span t)),
     )
 
@@ -82,7 +83,8 @@ loop-again c =
     let u = t .before .before .loop in (
       c .lift .ensures .0,
       omega (arith, t .if1 .taken),
-      summed-next (z .args .size .sets) (u .i) (at (z .args .tail .now)) (last (z .args .head .now)) (at (z .args .part .now)) _ (u .inv .2) _ _
+      summed-next (z .args .size .sets) (u .i) (at (z .args .tail .now)) (last (z .args .head .now)) (at (z .args .part .now)) _
+          (u .inv .2) _ _
           (span t .4) (c .lift .ensures .1),
     )
 

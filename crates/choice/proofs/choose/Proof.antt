@@ -35,7 +35,8 @@ returns : tie.Need-returns
 returns c =
     let d = c .before in
     let p = entry d .pre in
-    taken-greatest _ _ _ _ _ _ (p .0 .ends .spans) (p .1) _ _ (d .before .before .before .take-rows .ensures .1) (d .all-less .ensures (c .if1 .taken))
+    taken-greatest _ _ _ _ _ _ (p .0 .ends .spans) (p .1) _ _ (d .before .before .before .take-rows .ensures .1)
+    (d .all-less .ensures (c .if1 .taken))
 
 parted-rows-requires : tie.Need-parted-rows-requires
 parted-rows-requires c κs = search needs
@@ -65,7 +66,8 @@ started k =
     let p = entry d .pre in
     let e = k .compare .ensures in
     state-of (given w) (k .compare .result) (w .parted-rows .result) (d .before .before .before .take-rows .result)
-    (λ i l. w .parted-rows .ensures i ∙ ap (λ (b : Bool). b && ltb 0 (at (entry d .args .part .now) i)) (lt-ltb i (entry d .args .size .rows) l))
+    (λ i l. w .parted-rows .ensures i ∙ ap (λ (b : Bool). b && ltb 0 (at (entry d .args .part .now) i))
+    (lt-ltb i (entry d .args .size .rows) l))
     (taken-upper _ _ _ _ _ _ (p .0 .ends .spans) (p .1) _ _ (d .before .before .before .take-rows .ensures .1)) (e .0) (e .1) (e .2)
 
 compare-requires : tie.Need-compare-requires

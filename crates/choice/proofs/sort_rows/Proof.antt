@@ -34,7 +34,8 @@ loop-holds : tie.Need-loop-holds Inv-loop μ-loop
 loop-holds c = (
   omega arith,
   refl,
-  λ v i l. ap (λ (w : ℕ). bit w i) (zeros-at places-most v) ∙ bit-zero i ∙ sym (ap (λ (b : Bool). b && eqb (at (c .args .end .now) i) v) (le-ltb i 0 (omega arith))),
+  λ v i l. ap (λ (w : ℕ). bit w i) (zeros-at places-most v) ∙ bit-zero i ∙ sym
+      (ap (λ (b : Bool). b && eqb (at (c .args .end .now) i) v) (le-ltb i 0 (omega arith))),
 )
 
 element-copy-out-v : tie.Need-element-copy-out-v Inv-loop μ-loop

@@ -15,7 +15,8 @@ use Rattle.choice.proofs.take_rows.Tie as tie
 
 abbrev Inv-loop : tie.InvT-loop
 Inv-loop tail head part size left₀ h top₀ i₀ left top i =
-    (length left ≡ max-elements) × (i ≤ size .rows) × Taken (size .rows) (size .sets) i (at tail) (last head) (size .hyper) (at part) top (at left)
+    (length left ≡ max-elements) × (i ≤ size .rows) × Taken (size .rows) (size .sets) i (at tail) (last head) (size .hyper) (at part) top
+    (at left)
 
 abbrev μ-loop : tie.MeasureT-loop
 μ-loop tail head part size left₀ h top₀ i₀ left top i = size .rows - i
@@ -24,7 +25,8 @@ abbrev μ-loop : tie.MeasureT-loop
 span : (t : tie.Then1 Inv-loop μ-loop)
     → (at (t .before .before .before .before .args .tail .now) (t .before .before .loop .i) ≤ max-elements)
     × (at (t .before .before .before .before .args .head .now) (t .before .before .loop .i) ≤ max-elements)
-    × (at (t .before .before .before .before .args .head .now) (t .before .before .loop .i) ≤ t .before .before .before .before .args .size .sets)
+    × (at (t .before .before .before .before .args .head .now) (t .before .before .loop .i) ≤ t .before .before .before .before .args
+    .size .sets)
     × (at (t .before .before .before .before .args .tail .now) (t .before .before .loop .i)
     ≤ at (t .before .before .before .before .args .head .now) (t .before .before .loop .i))
     × (at (t .before .before .before .before .args .head .now) (t .before .before .loop .i)

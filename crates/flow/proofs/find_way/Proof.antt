@@ -183,7 +183,8 @@ loop-again c =
       λ n K G may x W N sK S circ.
           let R = L .inv .3 n K G may x W N sK S circ in
           let ul = L .inv .2 n K W N sK u (picked p .0) in (
-            leave-reached n K _ _ _ _ W (i .arcs) N G may x S (i .s) u _ (L .seen) _ _ _ (c .step-up .result) _ _ _ _ _ ul (picked p .0) refl
+            leave-reached n K _ _ _ _ W (i .arcs) N G may x S (i .s) u _ (L .seen) _ _ _ (c .step-up .result) _ _ _ _ _ ul (picked p .0)
+                refl
                 a b d (e .1) (R .0),
             leave-done n K _ _ _ _ W (i .arcs) N G may x S (i .s) u _ (L .seen) _ _ _ (c .step-up .result) _ _ _ _ _ ul (picked p .0) refl
                 a b d (e .1) (L .done) _ (λ v. bit-one-more (L .done) u v l) (R .1),

@@ -24,8 +24,11 @@ reach-requires c κs = search needs
 
 returns-2 : tie.Need-returns-2
 returns-2 c =
-    let z = c .before .before .before in
-    (c .reach .ensures .0, passed-on _ _ _ _ _ _ _ (bit-some (z .args .more) (z .args .u) (c .before .before .if1 .left)) (c .reach .ensures .1))
+    let z = c .before .before .before in (
+      c .reach .ensures .0,
+      passed-on _ _ _ _ _ _ _ (bit-some (z .args .more) (z .args .u) (c .before .before .if1 .left))
+          (c .reach .ensures .1),
+    )
 
 pub step-down-spec : {M : Type 1} → statement M
 step-down-spec = tie.close (tie.spec shr-if1 returns sub-reach reach-requires returns-2)

@@ -25,8 +25,11 @@ reach-requires c κs =
 
 returns-2 : tie.Need-returns-2
 returns-2 c =
-    let z = c .before .before .before in
-    (c .reach .ensures .0, passed-on _ _ _ _ _ _ _ (bit-some (z .args .less) (z .args .u) (c .before .before .if1 .left)) (c .reach .ensures .1))
+    let z = c .before .before .before in (
+      c .reach .ensures .0,
+      passed-on _ _ _ _ _ _ _ (bit-some (z .args .less) (z .args .u) (c .before .before .if1 .left))
+          (c .reach .ensures .1),
+    )
 
 pub step-up-spec : {M : Type 1} → statement M
 step-up-spec = tie.close (tie.spec shr-if1 returns add-reach reach-requires returns-2)

@@ -30,7 +30,8 @@ counted z k =
     ones-le 64 (bitAnd (z .args .top) (at (z .args .words .now) k))
     (lt-of-le-of-lt (and-le-l (z .args .top) (at (z .args .words .now) k)) (z .fits .top .fits))
 
-few : (z : tie.Start Inv-loop μ-loop) (k : ℕ) → z .args .size .hyper * ones (bitAnd (z .args .top) (at (z .args .words .now) k)) ≤ max-slots * max-rows
+few : (z : tie.Start Inv-loop μ-loop) (k : ℕ) → z .args .size .hyper * ones (bitAnd (z .args .top) (at (z .args .words .now) k)) ≤
+    max-slots * max-rows
 few z k =
     mul-le-mul (z .pre .1) (counted z k)
 

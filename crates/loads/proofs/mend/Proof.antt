@@ -125,10 +125,13 @@ module _ (w : tie.After-find-way Inv-loop μ-loop) (f : ℕ → ℕ)
 
   -- the search, with the way that there must be
   sought : Sought (entry picked .args .size .rows)
-      (line (entry picked .args .size .rows) (entry picked .args .size .sets) (at (entry picked .args .tail .now)) (last (entry picked .args .head .now))
+      (line (entry picked .args .size .rows) (entry picked .args .size .sets) (at (entry picked .args .tail .now))
+      (last (entry picked .args .head .now))
       (entry picked .args .size .hyper) f)
-      (others (entry picked .args .size .rows) (entry picked .args .size .sets) (entry picked .args .size .hyper) (at (entry picked .args .tail .now))
-      (last (entry picked .args .head .now)) (at (entry picked .args .head .now)) f (heads-are (A .laid .ends)) (A .laid .ends .spans) (A .parts)
+      (others (entry picked .args .size .rows) (entry picked .args .size .sets) (entry picked .args .size .hyper)
+      (at (entry picked .args .tail .now))
+      (last (entry picked .args .head .now)) (at (entry picked .args .head .now)) f (heads-are (A .laid .ends)) (A .laid .ends .spans)
+      (A .parts)
       (picked .before .before .loop .s .parted) (picked .before .before .loop .s .top) (picked .before .before .loop .s .more)
       (picked .before .before .loop .s .less) (picked .before .before .loop .s .low) (now picked f A B .parted-is) (now picked f A B .upper)
       (now picked f A B .compared) (picked .pick .result) (small picked f A B) (lacking picked f A B))
@@ -140,7 +143,8 @@ module _ (w : tie.After-find-way Inv-loop μ-loop) (f : ℕ → ℕ)
       let M = now p f A B in
       let S = A .laid .ends .spans in
       let l = set-in p f A B in
-      let s = w .find-way .ensures (a .size .rows) (a .size .sets) _ _ _ (A .laid .ends .wired) (narrow p f A B) (omega (arith, l)) (omega (arith, l))
+      let s = w .find-way .ensures (a .size .rows) (a .size .sets) _ _ _ (A .laid .ends .wired) (narrow p f A B) (omega (arith, l))
+      (omega (arith, l))
       (mend-shown _ _ _ _ _ (at (a .head .now)) f (heads-are (A .laid .ends)) S (A .parts) (p .before .before .loop .s .parted)
       (p .before .before .loop .s .top) _ _ _ (M .parted-is) (M .upper) (M .compared) (p .pick .result) (small p f A B) (lacking p f A B))
       (carried-circ _ _ _ _ _ f S (A .parts) (digit (p .before .before .loop .s .top))) in
@@ -164,7 +168,8 @@ loop-less c =
       t,
       need-is (q .1) (p .before .before .loop .s .top),
       need-is (q .1) top',
-      ap (λ (z : ℕ). sum (a .size .sets) (λ k. at (a .sum .now) k / a .size .hyper - ones (bitAnd z (at (a .words .now) k)))) (c .compare .ensures .1),
+      ap (λ (z : ℕ). sum (a .size .sets) (λ k. at (a .sum .now) k / a .size .hyper - ones (bitAnd z (at (a .words .now) k))))
+          (c .compare .ensures .1),
     )
 
 loop-again : tie.Need-loop-again Inv-loop μ-loop
@@ -178,7 +183,8 @@ loop-again c =
           state-of A (c .compare .result) (p .before .before .loop .s .parted)
           (bitXor (p .before .before .loop .s .top) (w .find-way .result .rows)) (M .parted-is)
           (mend-upper _ _ _ _ _ (at (a .head .now)) f (heads-are (A .laid .ends)) (A .laid .ends .spans) (A .parts)
-          (p .before .before .loop .s .parted) (p .before .before .loop .s .top) _ _ _ (M .parted-is) (M .upper) (M .compared) (p .pick .result)
+          (p .before .before .loop .s .parted) (p .before .before .loop .s .top) _ _ _ (M .parted-is) (M .upper) (M .compared)
+          (p .pick .result)
           (small p f A B) (lacking p f A B) (w .find-way .result .rows) (sought w f A B))
           (c .compare .ensures .0) (c .compare .ensures .1) (c .compare .ensures .2),
     )

@@ -43,7 +43,11 @@ loop-holds : tie.Need-loop-holds Inv-loop μ-loop
 loop-holds c = (
   omega arith,
   λ j l. sym (ap (λ (b : Bool). b && bit (c .args .start .parted) j) (le-leb 0 j (omega arith))),
-  λ f A M. (M .state, settle-start _ _ (carried-circ _ _ _ _ _ f (A .laid .ends .spans) (A .parts) (digit (c .args .start .top))) (M .within)),
+  λ f A M. (
+    M .state,
+    settle-start _ _ (carried-circ _ _ _ _ _ f (A .laid .ends .spans) (A .parts) (digit (c .args .start .top)))
+        (M .within),
+  ),
 )
 
 without-requires : tie.Need-without-requires Inv-loop μ-loop

@@ -14,7 +14,8 @@ use Rattle.loads.proofs.seek.Statement.{statement}
 use Rattle.loads.proofs.seek.Tie as tie
 
 -- the row's ends are places
-near : (z : tie.Start) → (at (z .args .head .now) (z .args .i) ≤ z .args .size .sets) × (at (z .args .tail .now) (z .args .i) ≤ z .args .size .sets)
+near : (z : tie.Start) → (at (z .args .head .now) (z .args .i) ≤ z .args .size .sets) ×
+    (at (z .args .tail .now) (z .args .i) ≤ z .args .size .sets)
 near z = let T = z .pre .1 in let e = T .ends .wired .ends (z .args .i) (T .row) in (e .1, e .0)
 
 low-sets : (z : tie.Start) → z .args .size .sets ≤ max-elements
@@ -58,7 +59,8 @@ returns-2 c f T =
     let M = T .mended .state in
     let H = heads-are (T .ends) in
     let e = T .ends .wired .ends (a .i) (T .row) in
-    let s = w .find-way .ensures (a .size .rows) (a .size .sets) _ (ltb (a .i)) _ (T .ends .wired) (narrow-of (M .compared) _ _) (e .1) (e .0)
+    let s = w .find-way .ensures (a .size .rows) (a .size .sets) _ (ltb (a .i)) _ (T .ends .wired) (narrow-of (M .compared) _ _) (e .1)
+    (e .0)
     (turn-shown _ _ _ _ _ (at (a .head .now)) f H (T .ends .spans) (T .parts) (a .s .parted) (a .s .top) _ _ _ (M .parted-is) (M .upper)
     (M .compared) (T .mended .within) (a .i) (T .row) (a .later) (T .after))
     (carried-circ _ _ _ _ _ f (T .ends .spans) (T .parts) (digit (a .s .top))) in
@@ -80,7 +82,8 @@ returns-3 c f T =
     let H = heads-are (T .ends) in
     let e = T .ends .wired .ends (a .i) (T .row) in
     let l : a .i < 64 = omega (arith, T .row, T .ends .spans .few-rows) in
-    let s = w .find-way .ensures (a .size .rows) (a .size .sets) _ (ltb (a .i)) _ (T .ends .wired) (narrow-of (M .compared) _ _) (e .1) (e .0)
+    let s = w .find-way .ensures (a .size .rows) (a .size .sets) _ (ltb (a .i)) _ (T .ends .wired) (narrow-of (M .compared) _ _) (e .1)
+    (e .0)
     (turn-shown _ _ _ _ _ (at (a .head .now)) f H (T .ends .spans) (T .parts) (a .s .parted) (a .s .top) _ _ _ (M .parted-is) (M .upper)
     (M .compared) (T .mended .within) (a .i) (T .row) (a .later) (T .after))
     (carried-circ _ _ _ _ _ f (T .ends .spans) (T .parts) (digit (a .s .top))) in

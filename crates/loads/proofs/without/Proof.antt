@@ -24,7 +24,8 @@ and-on false = refl
 returns : tie.Need-returns
 returns c j =
     let a = c .before .args in
-    bit-xor (a .w) (1 * 2 ^ a .i % 2 ^ 64) j ∙ ap (λ (q : Bool). cond q (not (bit (a .w) j)) (bit (a .w) j)) (bit-first (a .i) j (c .before .pre))
+    bit-xor (a .w) (1 * 2 ^ a .i % 2 ^ 64) j ∙ ap (λ (q : Bool). cond q (not (bit (a .w) j)) (bit (a .w) j))
+    (bit-first (a .i) j (c .before .pre))
     ∙ go (a .w) (a .i) (bit-odd (a .w) (a .i) (c .if1 .taken)) (ℕ-discrete j (a .i))
   where
     go : (w i : ℕ) → bit w i ≡ true → Dec (j ≡ i)

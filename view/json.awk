@@ -1,0 +1,19 @@
+# One object: verdict, values, sets and slots; a set and a slot are the numbers of their rows.
+function list(word,    rows) {
+    rows = rows_of(word)
+    gsub(/ /, ", ", rows)
+    return "[" rows "]"
+}
+END {
+    printf "{\n  \"verdict\": {\"number\": %d, \"place\": %d", number, place
+    if (number) printf ", \"words\": \"%s\"", words
+    printf "}"
+    if (!number) {
+        printf ",\n  \"cut\": %d, \"interval\": %d, \"hyper\": %d, \"load\": %d,\n  \"sets\": [", cut, interval, hyper, load
+        for (k = 0; k < sets; k++) printf "%s%s", k ? ", " : "", list(set[k])
+        printf "],\n  \"slots\": ["
+        for (k = 0; k < hyper; k++) printf "%s\n    %s", k ? "," : "", list(slot[k])
+        printf "\n  ]"
+    }
+    printf "\n}\n"
+}

@@ -1,0 +1,87 @@
+# Why a table is refused, in its own numbers: what was found, what would pass. Reads the file's size, its first bytes and its rows as far as
+# they are there, and then the verdict line.
+$1 == "bytes" { bytes = $2 }
+$1 == "head" { head = $2 " " $3 " " $4; version = $5 + 256 * $6; said = $8 }
+
+function ends_of(i) {
+    return "row " i " goes from " first[i] " to " second[i]
+}
+
+function plural(n, one) {
+    return n " " one (n == 1 ? "" : "s")
+}
+
+function gcd(a, b,    r) {
+    while (b) { r = a % b; a = b; b = r }
+    return a
+}
+
+# The interval: the greatest common divisor of all periods.
+function common(    i, d) {
+    for (i = 0; i < rows; i++) d = gcd(d, period[i])
+    return d
+}
+
+function through(i, e,    d) {
+    d = (e - first[i] + elements) % elements
+    return 0 < d && d < steps(i)
+}
+
+function on_ends(i) {
+    if (first[i] == second[i]) return ends_of(i) ": both ends are the same element"
+    return ends_of(i) ", and this ring has the elements 1 to " elements
+}
+
+# The earlier row that row i repeats.
+function on_pasted(i,    j) {
+    for (j = 0; j < i; j++)
+        if (first[j] == first[i] && second[j] == second[i] && period[j] == period[i])
+            return ends_of(i) " with a period of " period[i] " slots, and so does row " j ": take one out, or give its cost to the other"
+}
+
+function on_cut(    e, i, line, lines) {
+    for (e = 1; e <= elements; e++) {
+        line = ""
+        for (i = 0; i < rows; i++) if (through(i, e)) line = line (line == "" ? "" : ", ") i
+        lines = lines "\nthrough element " e ": row" (line ~ /,/ ? "s " : " ") line
+    }
+    return "a table needs an element that no row goes through, between its ends" lines
+}
+
+# The first periods that are too many.
+function on_hyper(    i, h, list) {
+    h = 1
+    for (i = 0; i < rows && h <= 4096; i++) {
+        if (h % period[i] == 0) continue
+        h = h / gcd(h, period[i]) * period[i]
+        list = list (list == "" ? "" : ", ") period[i] " (row " i ")"
+    }
+    return "the periods " list " have the least common multiple " h "; at most 4096 passes"
+}
+
+function on_light(    i, l, line) {
+    l = common()
+    for (i = 0; i < rows; i++)
+        if (cost[i] * l < period[i])
+            line = line (line == "" ? "" : "\n") "row " i " costs " plural(cost[i], "slot") " of " period[i] "; with intervals of " l " slots " \
+                "the least that passes is " int((period[i] + l - 1) / l)
+    return line
+}
+
+function reason(n, i) {
+    if (n == 1) return "the file has " plural(bytes, "byte")
+    if (n == 2) return "its first bytes are " head "; a table's are 82 66 84"
+    if (n == 3) return "its version is " version
+    if (n == 4) return "it says " elements
+    if (n == 5) return "it says " said
+    if (n == 6) return "it has " bytes " bytes; with " plural(said, "row") " that is " (7 + 6 * said)
+    if (n == 7) return on_ends(i)
+    if (n == 8) return "row " i " has a period of " plural(period[i], "slot")
+    if (n == 9) return "row " i " costs " plural(cost[i], "slot") " of " period[i]
+    if (n == 10) return on_cut()
+    if (n == 11) return on_hyper()
+    if (n == 13) return on_light()
+    if (n == 18) return on_pasted(i)
+}
+
+END { print reason(number, place) }
