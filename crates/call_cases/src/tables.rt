@@ -44,7 +44,7 @@ fn print_bytes(bytes: &[u8]) {
 // ---- the reader
 
 fn read(heading: &[u8], file: &[u8], out: &mut [u16]) {
-    let r = table::read(file, out);
+    let r = reader::read(file, out);
     print(
         heading,
         &[
@@ -94,7 +94,7 @@ pub(crate) fn read_case(heading: &[u8], given: &[u64]) {
 // ---- the writer
 
 fn write(heading: &[u8], elements: u64, rows: u64, numbers: &[u16], out: &mut [u8]) {
-    let answer = table::write(elements, rows, numbers, out);
+    let answer = writer::write(elements, rows, numbers, out);
     print(heading, &[answer.number as u64, answer.place as u64]);
     print_bytes(out);
 }

@@ -14,7 +14,7 @@ use Rattle.rules.proofs.Answers.{None, Numbered, answers-only, position-none, n
 use Rattle.rules.proofs.Calls.{lent-take, call-must}
 use Rattle.rules.proofs.Lags.{qualify-by-lags}
 use Rattle.table.proofs.Faults.{passed-none, memory-sound}
-use Rattle.table.proofs.RoundTrip.{read-none, written-none, read-then-written, written-then-read}
+use Rattle.round_trip.proofs.RoundTrip.{read-none, written-none, read-then-written, written-then-read}
 use Rattle.verdict.proofs.Bound.{verdict-numbered, admissible-of}
 use Rattle.verdict.proofs.Judging.{demand-2}
 use Rattle.promises.specs.Steps.{Serves}

@@ -21,9 +21,9 @@ use Rattle.rules.proofs.Answers.{None, Numbered, stopped, joined, answered, non
 use Rattle.rules.proofs.Answers.{single-none, single-numbered, single-stopped}
 use Rattle.table.specs.Sound.{Sound, Passed}
 use Rattle.table.specs.Columns.{tableOf}
-use Rattle.table.specs.Decoded.{refusal, Decodes}
+use Rattle.decoding.specs.Decoded.{refusal, Decodes}
 use Rattle.table.specs.declared.Answer.{Answer}
-use Rattle.table.specs.declared.reader.Decoded.{Decoded}
+use Rattle.decoding.specs.declared.Decoded.{Decoded}
 use Rattle.table.proofs.Faults.{file-numbered, passed-none}
 use Rattle.sets.specs.Walk.{line-size, RowsAt}
 

@@ -1,6 +1,6 @@
 // A table as it is given: what is refused of it before anything is looked for on its ring.
+use decoding::Decoded;
 use table::Answer;
-use table::Decoded;
 use table::Table;
 ghost use mathlib.Core.Path.{_≡_};
 ghost use mathlib.Core.Bool.{_&&_};
@@ -14,7 +14,7 @@ ghost use Rattle.rules.specs.Bus.{pasted};
 ghost use Rattle.rules.specs.TableFile.{fileTable};
 ghost use Rattle.rules.specs.Refusals.{given-checks};
 ghost use Rattle.sets.specs.Walk.{line-size};
-ghost use Rattle.table.specs.Decoded.{Decodes};
+ghost use Rattle.decoding.specs.Decoded.{Decodes};
 ghost use Rattle.outline.specs.Outlined.{tableWith};
 
 // Some row before row `i` is in the word `alike` and has row `i`'s period. Most rows are the only one with their ends.
@@ -65,7 +65,7 @@ fn lowest_pasted<'a>(
 pub fn given(file: &[u8]) -> Decoded
     ensures { λ r. ⌜ Decodes (given-checks (now (file .entry))) (fileTable (now (file .entry))) r ⌝ }
 {
-    let found = table::decode(file);
+    let found = decoding::decode(file);
     let answer = found.answer;
     if answer.number != Answer::DONE {
         return found;

@@ -1,6 +1,2 @@
 pub mod Faults
-pub mod Fills
-pub mod Calls
-pub mod RoundTrip
 pub mod ByRow
-pub mod Decoding

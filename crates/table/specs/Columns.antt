@@ -3,7 +3,7 @@
 --   ByRow n g xs       the array xs holds g of each of n rows, and 0 past the last row
 --   columnTable M n .. the table of M elements and n rows whose numbers are the columns'
 --   tableOf c          the table that the columns c hold
---   Holds t c          the columns hold t: only one c does (proofs/Decoding)
+--   Holds t c          the columns hold t: only one c does (`decoding/proofs/Decoding`)
 --   noColumns          columns of nothing but 0
 --   Whole f            file f is as long as it says, and its rows fit columns
 use mathlib.Core.Path.{_≡_}

@@ -8,7 +8,7 @@ ghost use Rattle.rules.specs.Refusals.{Answers, size-checks, faults};
 ghost use Rattle.table.specs.Rows.{single, sized};
 ghost use Rattle.numbers.specs.Decides.{Decides};
 
-pub(crate) fn within(x: usize, low: usize, high: usize) -> bool
+fn within(x: usize, low: usize, high: usize) -> bool
     ensures { λ r. ⌜ Decides ((low ≤ x) × (x ≤ high)) r ⌝ }
 {
     if x < low {
@@ -18,13 +18,7 @@ pub(crate) fn within(x: usize, low: usize, high: usize) -> bool
 }
 
 // Checks 4 to 6, of a table whose file or slice has `size` places: it is to have `front`, and `each` a row.
-pub(crate) fn size_fault(
-    elements: usize,
-    rows: usize,
-    size: usize,
-    front: usize,
-    each: usize,
-) -> u32
+pub fn size_fault(elements: usize, rows: usize, size: usize, front: usize, each: usize) -> u32
     requires { ⌜ (front ≤ headerSize) × (each ≤ rowSize) ⌝ }
     ensures { λ r. ⌜ Answers (size-checks (sized elements rows) size (front + each * rows)) r 0 ⌝ }
 {
@@ -41,7 +35,7 @@ pub(crate) fn size_fault(
 }
 
 // Checks 7 to 9 of one row.
-pub(crate) fn row_fault(elements: usize, row: Row) -> u32
+pub fn row_fault(elements: usize, row: Row) -> u32
     ensures { λ r. ⌜ Answers (faults (single elements row) 0) r 0 ⌝ }
 {
     if !within(row.first as usize, 1, elements) {

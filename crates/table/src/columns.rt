@@ -1,15 +1,13 @@
 // A table in memory: a column for each of its rows' numbers. Below this crate a table is its columns, whatever file it came from.
 use crate::Row;
 use crate::Table;
-use crate::read16;
 use crate::wide;
 ghost use mathlib.Core.Path.{_≡_};
 ghost use Prim.Native.Nat.{ℕ, _<_};
 ghost use Rattle.numbers.specs.Lists.{at};
 ghost use Rattle.rules.specs.Bounds.{max-rows};
-ghost use Rattle.rules.specs.TableFile.{fileTable};
 ghost use Rattle.table.specs.Rows.{IsRow};
-ghost use Rattle.table.specs.Columns.{Whole, columnTable, noColumns, Holds};
+ghost use Rattle.table.specs.Columns.{columnTable, noColumns};
 
 // Every column has 0 past the last row.
 pub struct Columns {
@@ -22,7 +20,7 @@ pub struct Columns {
 }
 
 // The columns of no table: what stands beside a refusal.
-pub(crate) fn no_columns() -> Columns
+pub fn no_columns() -> Columns
     ensures { λ r. ⌜ r ≡ noColumns ⌝ }
 {
     Columns {
@@ -35,37 +33,8 @@ pub(crate) fn no_columns() -> Columns
     }
 }
 
-// The columns of the table in a file that is as long as it says.
-pub(crate) fn columns_of(file: &[u8]) -> Columns
-    requires { ⌜ Whole (now file) ⌝ }
-    ensures { λ r. ⌜ Holds (fileTable (now (file .entry))) r ⌝ }
-{
-    let table = Table::of(file);
-    let mut cost = [0u16; Table::ROWS];
-    let mut period = [0u16; Table::ROWS];
-    let mut first = [0u8; Table::ROWS];
-    let mut second = [0u8; Table::ROWS];
-    let mut i: usize = 0;
-    while i < table.rows {
-        let at = Table::HEADER + Table::ROW_BYTES * i;
-        cost[i] = read16(file, at);
-        period[i] = read16(file, at + 2);
-        first[i] = file[at + 4];
-        second[i] = file[at + 5];
-        i += 1;
-    }
-    Columns {
-        elements: table.elements,
-        rows: table.rows,
-        cost: cost,
-        period: period,
-        first: first,
-        second: second,
-    }
-}
-
 // Row `i` of a table in columns.
-pub(crate) fn row_at<'a>(
+pub fn row_at<'a>(
     cost: &'a [u16; Table::ROWS],
     period: &'a [u16; Table::ROWS],
     first: &'a [u8; Table::ROWS],

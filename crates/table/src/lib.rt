@@ -1,17 +1,14 @@
-// The table file: its bounds, its rows, its reader and writer.
+// A table: its bounds, its columns in memory, and the checks that its reader and its writer share.
 mod checks;
 mod columns;
-mod reader;
-mod writer;
 
+pub use checks::row_fault;
+pub use checks::size_fault;
 pub use columns::Columns;
 pub use columns::end_at;
+pub use columns::no_columns;
+pub use columns::row_at;
 pub use columns::slots_at;
-pub use reader::Decoded;
-pub use reader::Reading;
-pub use reader::decode;
-pub use reader::read;
-pub use writer::write;
 ghost use mathlib.Core.Path.{_≡_};
 ghost use Prim.Native.Nat.{_+_, _*_, _<_, _≤_};
 ghost use lib.ListN.{length};
@@ -38,15 +35,15 @@ impl Table {
 
     pub const ROW_NUMBERS: usize = 4;
     // the header: the mark, and where the version, the elements and the rows stand
-    const MARK: [u8; 3] = [b'R', b'B', b'T'];
+    pub const MARK: [u8; 3] = [b'R', b'B', b'T'];
 
-    const VERSION: u16 = 1;
+    pub const VERSION: u16 = 1;
 
-    const VERSION_AT: usize = 3;
+    pub const VERSION_AT: usize = 3;
 
-    const ELEMENTS_AT: usize = 5;
+    pub const ELEMENTS_AT: usize = 5;
 
-    const ROWS_AT: usize = 6;
+    pub const ROWS_AT: usize = 6;
 
     // What a file that has a header says of its table.
     pub fn of(file: &[u8]) -> Table
@@ -178,7 +175,7 @@ pub(crate) fn wide(x: u8) -> u16
 }
 
 // The 16 bits at byte `at`, low byte first.
-pub(crate) fn read16(file: &[u8], at: usize) -> u16
+pub fn read16(file: &[u8], at: usize) -> u16
     requires { ⌜ at + 1 < length (now file) ⌝ }
     ensures { λ r. ⌜ r ≡ Rattle.rules.specs.TableFile.read16 (now (file .entry)) at ⌝ }
 {

@@ -1,0 +1,151 @@
+// From a file to a table in columns: the one place where the bytes of rows are read.
+use table::Answer;
+use table::Columns;
+use table::Table;
+use table::no_columns;
+use table::read16;
+use table::row_at;
+use table::row_fault;
+use table::size_fault;
+ghost use mathlib.Core.Path.{_≡_};
+ghost use Prim.Native.Nat.{_≤_};
+ghost use lib.ListN.{length};
+ghost use Rattle.rules.specs.Bounds.{max-rows};
+ghost use Rattle.rules.specs.TableFile.{table-mark, mark, fileTable};
+ghost use Rattle.rules.specs.Refusals.{Answers, header-checks, row-checks, file-checks};
+ghost use Rattle.table.specs.Columns.{Whole, columnTable, Holds};
+ghost use Rattle.decoding.specs.Decoded.{refusal, Decodes};
+ghost use Rattle.numbers.specs.Decides.{Decides};
+
+fn is_marked(file: &[u8]) -> bool
+    requires { ⌜ 3 ≤ length (now file) ⌝ }
+    ensures { λ r. ⌜ Decides (mark (now (file .entry)) ≡ table-mark) r ⌝ }
+{
+    if file[0] != Table::MARK[0] {
+        return false;
+    }
+    if file[1] != Table::MARK[1] {
+        return false;
+    }
+    file[2] == Table::MARK[2]
+}
+
+// Checks 1 to 6.
+fn header_fault(file: &[u8]) -> u32
+    ensures { λ r. ⌜ Answers (header-checks (now (file .entry))) r 0 ⌝ }
+{
+    if file.len() < Table::HEADER {
+        return Answer::SHORT_FILE;
+    }
+    if !is_marked(file) {
+        return Answer::WRONG_MARK;
+    }
+    if read16(file, Table::VERSION_AT) != Table::VERSION {
+        return Answer::WRONG_VERSION;
+    }
+    let table = Table::of(file);
+    size_fault(
+        table.elements,
+        table.rows,
+        file.len(),
+        Table::HEADER,
+        Table::ROW_BYTES,
+    )
+}
+
+// The columns of the table in a file that is as long as it says.
+fn columns_of(file: &[u8]) -> Columns
+    requires { ⌜ Whole (now file) ⌝ }
+    ensures { λ r. ⌜ Holds (fileTable (now (file .entry))) r ⌝ }
+{
+    let table = Table::of(file);
+    let mut cost = [0u16; Table::ROWS];
+    let mut period = [0u16; Table::ROWS];
+    let mut first = [0u8; Table::ROWS];
+    let mut second = [0u8; Table::ROWS];
+    let mut i: usize = 0;
+    while i < table.rows {
+        let at = Table::HEADER + Table::ROW_BYTES * i;
+        cost[i] = read16(file, at);
+        period[i] = read16(file, at + 2);
+        first[i] = file[at + 4];
+        second[i] = file[at + 5];
+        i += 1;
+    }
+    Columns {
+        elements: table.elements,
+        rows: table.rows,
+        cost: cost,
+        period: period,
+        first: first,
+        second: second,
+    }
+}
+
+// Checks 7 to 9 of a table in columns.
+fn check_rows<'a>(
+    elements: usize,
+    rows: usize,
+    cost: &'a [u16; Table::ROWS],
+    period: &'a [u16; Table::ROWS],
+    first: &'a [u8; Table::ROWS],
+    second: &'a [u8; Table::ROWS],
+) -> Answer
+    requires { ⌜ rows ≤ max-rows ⌝ }
+    ensures { λ r. ⌜ Answers
+        (row-checks (columnTable elements rows (now (cost .entry)) (now (period .entry)) (now (first .entry)) (now (second .entry))))
+        (r .number) (r .place) ⌝ }
+{
+    let mut i: usize = 0;
+    while i < rows {
+        let number = row_fault(elements, row_at(cost, period, first, second, i));
+        if number != Answer::DONE {
+            return Answer::at(number, i);
+        }
+        i += 1;
+    }
+    Answer::done()
+}
+
+// A file's table, or why it is refused.
+pub struct Decoded {
+    pub answer: Answer,
+    pub columns: Columns,
+}
+
+impl Decoded {
+    pub fn refused(answer: Answer) -> Decoded
+        ensures { λ r. ⌜ r ≡ refusal answer ⌝ }
+    {
+        Decoded {
+            answer: answer,
+            columns: no_columns(),
+        }
+    }
+}
+
+// Checks 1 to 9. The columns are a passed file's; all 0 beside a refusal.
+pub fn decode(file: &[u8]) -> Decoded
+    ensures { λ r. ⌜ Decodes (file-checks (now (file .entry))) (fileTable (now (file .entry))) r ⌝ }
+{
+    let number = header_fault(file);
+    if number != Answer::DONE {
+        return Decoded::refused(Answer::at(number, 0));
+    }
+    let columns = columns_of(file);
+    let answer = check_rows(
+        columns.elements,
+        columns.rows,
+        &columns.cost,
+        &columns.period,
+        &columns.first,
+        &columns.second,
+    );
+    if answer.number != Answer::DONE {
+        return Decoded::refused(answer);
+    }
+    Decoded {
+        answer: answer,
+        columns: columns,
+    }
+}

@@ -1,0 +1,62 @@
+-- What the writer leaves in a lent slice and answers, from its checks; and that only one answer fits.
+use mathlib.Core.Path.{_≡_, refl, sym, ap, _∙_}
+use mathlib.Core.Logic.{⊎-elim, _≢_}
+use mathlib.Core.List.{List, _++_}
+use Prim.Native.Nat.{ℕ, _+_, _*_, _≤_, _<_}
+use native.Mathlib.Omega.{arith}
+use lib.ListN.{length, take, drop, length-append}
+use lib.Seq.{sets, drop-drop}
+use Rattle.numbers.proofs.Lists.{Filled, filled-start, filled-take, filled-drop, filled-sets}
+use Rattle.rules.specs.Bus.{Table}
+use Rattle.rules.specs.TableFile.{headerSize, rowSize, memoryTable, fileRow, bytes}
+use Rattle.rules.specs.Refusals.{Answers, memory-checks, writer-checks}
+use Rattle.rules.specs.Calls.{Written, lent}
+use Rattle.rules.proofs.Answers.{None}
+use Rattle.rules.proofs.Calls.{call-refused, call-short, call-done, call-only}
+use Rattle.table.specs.declared.Row.{Row}
+use Rattle.table.specs.Rows.{IsRow, inFile}
+use Rattle.table.proofs.Faults.{memory-numbered}
+
+-- ---- the lent slice
+
+-- a header of k places, and then the rest with the header kept
+pub lent-headed : (was mid out h rest : List ℕ) (k : ℕ) → length h ≡ k → k ≤ length was → mid ≡ sets was 0 h
+    → out ≡ lent (take k mid ++ rest) mid → out ≡ lent (h ++ rest) was
+unfolding lent
+lent-headed was mid out h rest k e l q r =
+    let F : Filled was (sets was 0 h) k h = filled-sets h k (filled-start was) (omega (arith, e)) l in
+    let front : take k mid ≡ h = ap (take k) q ∙ filled-take F in
+    let long : length (h ++ rest) ≡ k + length rest = length-append h rest ∙ ap (λ (j : ℕ). j + length rest) e in
+    let past : drop (length (h ++ rest)) mid ≡ drop (length (h ++ rest)) was =
+    ap (λ (j : ℕ). drop j mid) long ∙ sym (drop-drop (length rest) k mid) ∙ ap (drop (length rest)) (ap (drop k) q ∙ filled-drop F)
+    ∙ drop-drop (length rest) k was ∙ ap (λ (j : ℕ). drop j was) (sym long) in
+    r ∙ rw (front, past)
+
+-- the places of a row
+pub file-row : {t : Table} {i : ℕ} {r : Row} → IsRow t i r → inFile r ≡ fileRow t i
+file-row q = rw (q .cost, q .period, q .first, q .second)
+
+-- ---- the answer
+
+module _ (M n : ℕ) (xs was : List ℕ) where
+  abbrev cramped : Type 0
+  cramped = length was < headerSize + rowSize * n
+
+  pub written-refused : (m p : ℕ) → Answers (memory-checks M n xs) m p → m ≢ 0 → Written M n xs was was m p
+  unfolding writer-checks
+  written-refused m p a h = call-refused (memory-checks M n xs) cramped a h refl
+
+  pub written-short : None (memory-checks M n xs) → cramped → Written M n xs was was 17 0
+  unfolding writer-checks
+  written-short a h = call-short (memory-checks M n xs) cramped a h refl
+
+  pub written-done : (now : List ℕ) (m p : ℕ) → Answers (memory-checks M n xs) m p → m ≡ 0 → (cramped → ⊥)
+      → now ≡ lent (bytes (memoryTable M n xs)) was → Written M n xs was now m p
+  unfolding writer-checks
+  written-done now m p a e h k = call-done (memory-checks M n xs) cramped (memory-numbered M n xs) a e h k
+
+pub written-only : (M r : ℕ) (xs was now now′ : List ℕ) (m n p q : ℕ) → Written M r xs was now m p → Written M r xs was now′ n q
+    → (m ≡ n) × (p ≡ q) × (now ≡ now′)
+written-only M r xs was now now′ m n p q c d =
+    let z = call-only c d in
+    (z .0, z .1, ⊎-elim (λ w. w .0 ∙ sym (w .1)) (λ w. w .0 ∙ sym (w .1)) (z .2))
