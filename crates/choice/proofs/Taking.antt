@@ -16,7 +16,8 @@ use Rattle.numbers.proofs.Rounding.{up-over, rounded-is, rounded-of, rounded-be
 use Rattle.numbers.proofs.Word.{bit-zero}
 use Rattle.flow.specs.Network.{Put}
 use Rattle.flow.proofs.Words.{or-same, or-right}
-use Rattle.loads.specs.Loads.{inSet, digit, none, Spans, Parts, Summed, Qualified, Greatest}
+use Rattle.rules.specs.Interval.{Greatest}
+use Rattle.loads.specs.Loads.{inSet, digit, none, Spans, Parts, Summed, Qualified}
 use Rattle.loads.specs.Line.{carried, line}
 use Rattle.loads.proofs.Line.{covers-in, covers-before, covers-after}
 use Rattle.loads.proofs.Choice.{both, zero-plus, sum-none}
@@ -165,16 +166,16 @@ module _ (n K : ℕ) (a b : ℕ → ℕ) (h : ℕ) (f : ℕ → ℕ) (S : Spans 
           rounded-is (sumIn n D f) h (P .some) (sumIn n D z) (rw (sum-none n D, zero-plus (sumIn n D z)) at (q .sets k l)) .1;
     }
 
-    pub taken-greatest : ((k : ℕ) → k < K → left k < h) → Greatest n K a b h f none (digit top)
+    pub taken-greatest : ((k : ℕ) → k < K → left k < h) → Greatest n (Qualified n K a b h f none) (digit top)
     taken-greatest small = record {
-      qualified = record {
+      qualify = record {
         rows = λ i l. rw (zero-plus (digit top i)) (t .fits .rows i l);
         sets = λ k l.
             let D = inSet a b k in
             rw (sum-none n D, zero-plus (sumIn n D (digit top)))
             (rounded-of (sumIn n D f) h (P .some) (sumIn n D (digit top)) (omega (arith, t .sets k l, small k l)) (t .fits .sets k l));
       };
-      greatest = λ z q i l. t .best z (qualified-fits z q) i l;
+      most = λ z q i l. t .best z (qualified-fits z q) i l;
     }
 
     -- no row and no set is above its part rounded up

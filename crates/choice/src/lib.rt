@@ -5,7 +5,7 @@
 //   the greatest loads, and no network is needed: a row left out has a set that rows before it have filled. Else they are settled (crate
 //   loads).
 // - The bound by the interval's length is left out: a set's lag is at most the length, and so is the lag rounded up.
-// - Document 01 lets any qualifying loads be chosen. These are the greatest, row 0's first, so that there is one answer.
+// - Of all loads that qualify these are the greatest, row 0's first, as document 02, #110, has them.
 use flow::PLACES;
 use loads::Size;
 use table::Table;
@@ -17,8 +17,9 @@ ghost use lib.ListN.{length};
 ghost use Rattle.numbers.specs.Lists.{at};
 ghost use Rattle.numbers.specs.Word.{bit};
 ghost use Rattle.rules.specs.Bounds.{max-elements, max-rows};
+ghost use Rattle.rules.specs.Interval.{Greatest};
 ghost use Rattle.flow.specs.Way.{ByPlace};
-ghost use Rattle.loads.specs.Loads.{share-most, part-most, digit, last, none, Spans, Parts, Summed, Greatest};
+ghost use Rattle.loads.specs.Loads.{share-most, part-most, digit, last, none, Spans, Parts, Summed, Qualified};
 ghost use Rattle.loads.specs.State.{Laid};
 ghost use Rattle.choice.specs.Taken.{Lifted, Lowered, Open, Taken};
 
@@ -221,8 +222,8 @@ pub fn choose(
 ) -> u64
     requires { ⌜ Laid (size .rows) (size .sets) (now tail) (now head) (now out) (now into) (now words)
         × Parts (size .rows) (size .hyper) (at (now part)) ⌝ }
-    ensures { λ r. ⌜ Greatest (size .rows) (size .sets) (at (now (tail .entry))) (last (now (head .entry))) (size .hyper)
-        (at (now (part .entry))) none (digit r) ⌝ }
+    ensures { λ r. ⌜ Greatest (size .rows) (Qualified (size .rows) (size .sets) (at (now (tail .entry))) (last (now (head .entry)))
+        (size .hyper) (at (now (part .entry))) none) (digit r) ⌝ }
 {
     let mut sum = [0u32; SETS];
     add_parts(tail, head, part, size, &mut sum);

@@ -20,10 +20,9 @@ use Rattle.verdict.proofs.Judging.{demand-2}
 use Rattle.promises.specs.Steps.{Serves}
 use Rattle.promises.proofs.Steps.{step-serves, run-serves}
 use Rattle.planner.specs.State.{stageOf, plannerOf}
-use Rattle.planner.proofs.Chosen.{chosen-run}
 use Rattle.planner.proofs.Only.{step-only}
 use Rattle.planner.proofs.Asks.{file-proper}
-use Rattle.planner.proofs.Promises.{admitted-table, steps-run, standings-between, never-refused, whole-is-steps, carried}
+use Rattle.planner.proofs.Promises.{admitted-table, steps-run, standings-between, never-refused, whole-is-steps, carried, exactly-one-plan}
 use Rattle.demands.specs.Demands.{Demand-1, Demand-2, Demand-3, Demands}
 use Rattle.demands.proofs.Answered.{
   read-answered,
@@ -95,6 +94,7 @@ step-passed f p room place a =
 third : Demand-3
 third = record {
   carried = carried;
+  exactly-one-plan = exactly-one-plan;
   whole-is-steps = whole-is-steps;
   never-refused = never-refused;
   in-place = λ f p q a r was now then m c. step-only (fileAsk f) p _ r was now then m c;
@@ -107,7 +107,7 @@ third = record {
       let e : take l now ≡ w .0 = ap (take l) (w .2) ∙ lent-take (w .0) was l (omega (arith, S .size)) in
       subst (Serves t (start t k) (end t k) (plannerOf p) (plannerOf (r .planner))) (sym e) S;
   first-steps = λ f k p ws a s.
-      run-serves (fileTable f) k (plannerOf p) ws (admitted-table (fileAsk f) (file-proper f) a) (chosen-run (steps-run s));
+      run-serves (fileTable f) k (plannerOf p) ws (admitted-table (fileAsk f) (file-proper f) a) (steps-run s);
 }
 
 pub demands : Demands

@@ -47,7 +47,7 @@ use Rattle.planner.specs.declared.Standings.{Standings}
 use Rattle.planner.specs.State.{plannerOf}
 use Rattle.planner.specs.Answers.{StepAnswer, StandingsAnswer, PlanAnswer}
 use Rattle.planner.specs.Proper.{Admits}
-use Rattle.planner.specs.Promises.{Steps, Standings-between, Never-refused, Whole-is-steps, Carried}
+use Rattle.planner.specs.Promises.{Steps, Standings-between, Never-refused, Whole-is-steps, Carried, Exactly-one-plan}
 use Rattle.kept.specs.InPlace.{joined, MovedInPlace}
 
 abbrev pub Answered : List Check → Type 0
@@ -89,7 +89,7 @@ pub record Demand-2 : Type 1 where
   -- The list of sets is the document's list of the overlap sets.
   pub sets : (f was now : List ℕ) (number place sets : ℕ) → Listed f was now number place sets → number ≡ 0
       → (ws : List ℕ) × Sets (fileTable f) ws × (sets ≡ length ws) × (now ≡ lent ws was)
-  -- A step is one of the document's: its loads qualify, its words are the loads' slots, and its totals are the slots had.
+  -- A step is the document's: its loads are the greatest that qualify, its words are the loads' slots, and its totals are the slots had.
   pub steps : (f : List ℕ) (p : Planner) (r : MovedOn) (was now : List ℕ) → StepAnswer (fileAsk f) p r was now → r .answer .number ≡ 0
       → (ws : List ℕ) × rules.Step (fileTable f) (plannerOf p) (plannerOf (r .planner)) ws × (now ≡ lent ws was)
   -- Loads qualify exactly if each is the row's lag rounded down or up, and so the sum over each set, which fits the interval.
@@ -116,6 +116,8 @@ pub record Demand-3 : Type 1 where
   -- Every table that the verdict admits gets, with room for h words, a whole plan that carries it: rows that share a segment never share a
   -- slot, at every interval's end each row has had its share, and every job gets exactly its cost before its deadline, for ever.
   pub carried : Carried
+  -- Exactly one plan meets document 01: the words of the whole plan are one, and any that is one is those words.
+  pub exactly-one-plan : Exactly-one-plan
   -- The whole plan is what a fresh planner's steps write, joined in order.
   pub whole-is-steps : Whole-is-steps
   -- A step on any admitted table, from any due state that isn't off and with room, is never refused; the planner handed back isn't off.

@@ -16,13 +16,13 @@ use Rattle.rules.specs.Bounds.{max-slots}
 use Rattle.rules.specs.Bus.{Table, overlap}
 use Rattle.rules.specs.Line.{lineFirst, Sets}
 use Rattle.rules.specs.Loads.{hyperperiod, start, end, intervals, rate, share}
-use Rattle.rules.specs.Interval.{Qualify, SlotWords}
+use Rattle.rules.specs.Interval.{Qualify, Greatest, SlotWords}
 use Rattle.rules.proofs.Sets.{set-in}
 use Rattle.lags.specs.Lags.{Admissible, Steady}
 use Rattle.lags.proofs.Intervals.{hyperperiod-positive, rate-le, end-le}
 use Rattle.lags.proofs.Lags.{row-lag, qualify-of}
 use Rattle.promises.proofs.Words.{words-placed}
-use Rattle.loads.specs.Loads.{inSet, Qualified, Greatest}
+use Rattle.loads.specs.Loads.{inSet, Qualified}
 use Rattle.interval.specs.Ranges.{lowestSet, highestSet}
 use Rattle.interval.specs.Interval.{Moved}
 use Rattle.interval.proofs.RowSets.{set-rows}
@@ -90,16 +90,15 @@ module _ {t : Table} (A : Admissible t) {k : ℕ} (in-range : k < intervals t) w
 
       -- ---- the interval done
 
-      module _ {x : ℕ → ℕ} (G : Greatest (t .rows) (length ws) a b (hyperperiod t) s had x) where
+      module _ {x : ℕ → ℕ} (G : Greatest (t .rows) (Qualified (t .rows) (length ws) a b (hyperperiod t) s had) x) where
         pub chosen-qualify : Qualify t k had x
-        chosen-qualify = qualify-is x (G .qualified)
+        chosen-qualify = qualify-is x (G .qualify)
 
         pub moved-of : (now : ℕ → ℕ) (vs : List ℕ) → SlotWords (t .rows) (overlap t) (lineFirst t) x (end t k - start t k) vs
             → ((i : ℕ) → i < t .rows → now i ≡ had i + x i) → ((i : ℕ) → t .rows ≤ i → now i ≡ had i) → Moved t k had now vs
         moved-of now vs W m p = record {
           loads = x;
-          qualify = chosen-qualify;
-          greatest = λ z Q. G .greatest z (qualified-of z Q);
+          greatest = record { qualify = chosen-qualify; most = λ z Q. G .most z (qualified-of z Q) };
           words = W;
           placed = words-placed A chosen-qualify W;
           moved = m;

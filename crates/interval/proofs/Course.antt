@@ -10,10 +10,10 @@ use Rattle.rules.specs.Bounds.{max-rows, max-slots}
 use Rattle.rules.specs.Bus.{Table}
 use Rattle.rules.specs.Line.{meet}
 use Rattle.rules.specs.Loads.{hyperperiod, start, end, share}
-use Rattle.rules.specs.Interval.{SlotWords}
+use Rattle.rules.specs.Interval.{Greatest, SlotWords}
 use Rattle.lags.specs.Lags.{Steady}
 use Rattle.lags.proofs.Intervals.{hyperperiod-positive, end-far, end-le}
-use Rattle.loads.specs.Loads.{last, digit, none, share-most, Spans, Parts, Greatest}
+use Rattle.loads.specs.Loads.{last, digit, none, share-most, Spans, Parts, Qualified}
 use Rattle.loads.specs.State.{Laid}
 use Rattle.loads.specs.declared.Size.{Size}
 use Rattle.loads.proofs.Choice.{greatest-shift}
@@ -108,9 +108,11 @@ module _ {t : Table} {size : Size} {top : ℕ} {second rate words : List ℕ} {L
           )
 
       module _ (rounded : ℕ) (x now : ℕ → ℕ)
-          (C : Greatest (size .rows) (size .sets) (at (L .tail)) (last (L .head)) (size .hyper) (at part) none (digit rounded))
+          (C : Greatest (size .rows)
+          (Qualified (size .rows) (size .sets) (at (L .tail)) (last (L .head)) (size .hyper) (at part) none) (digit rounded))
           (B : Given (size .rows) rounded (at whole) (at totals) x now) where
-        shifted : Greatest (size .rows) (size .sets) (at (L .tail)) (last (L .head)) (size .hyper) (λ i. at rate i * e) (at totals) x
+        shifted : Greatest (size .rows)
+            (Qualified (size .rows) (size .sets) (at (L .tail)) (last (L .head)) (size .hyper) (λ i. at rate i * e) (at totals)) x
         shifted =
             greatest-shift (size .rows) (size .sets) (at (L .tail)) (last (L .head)) (size .hyper) (λ i. at rate i * e) (at totals) (at part)
             (at whole) x (digit rounded) hyper-some
@@ -122,8 +124,8 @@ module _ {t : Table} {size : Size} {top : ℕ} {second rate words : List ℕ} {L
             ))
             (B .loads) C
 
-        chosen : Greatest (t .rows) (length (take (size .sets) words)) (at (L .tail)) (last (L .head)) (hyperperiod t) (λ i. at rate i * e)
-            (at totals) x
+        chosen : Greatest (t .rows) (Qualified (t .rows) (length (take (size .sets) words)) (at (L .tail)) (last (L .head)) (hyperperiod t)
+            (λ i. at rate i * e) (at totals)) x
         chosen = rw (list-length (R .room) (R .laid .ranged)) (rw (R .row-count, R .hyper-is) at shifted)
 
         -- ---- the slots and the totals

@@ -1,7 +1,7 @@
 -- One planning interval of a table, done: what `advance` gives.
 --
---   Moved t k had now ws    interval k takes rows that have had `had` slots to `now`, writing the words ws, by the loads that are greatest
---                           in the order of rows among those that qualify
+--   Moved t k had now ws    interval k takes rows that have had `had` slots to `now`, writing the words ws, by the greatest loads that
+--                           qualify
 --   Given n top whole had x now   n rows that have had `had` slots get x more: with their whole slots, those in the word `top` one more
 --
 -- Only one ws fits, and only one `now` (proofs/Moved).
@@ -12,14 +12,12 @@ use Rattle.numbers.specs.Finite.{count}
 use Rattle.rules.specs.Bus.{Table, overlap}
 use Rattle.rules.specs.Line.{lineFirst}
 use Rattle.rules.specs.Loads.{start, end}
-use Rattle.rules.specs.Interval.{Qualify, moves, SlotWords}
+use Rattle.rules.specs.Interval.{Qualify, Greatest, moves, SlotWords}
 use Rattle.loads.specs.Loads.{digit}
 
--- Row 0's load is the greatest that any qualifying loads have, among those row 1's, and so on.
 pub record Moved (t : Table) (k : ℕ) (had now : ℕ → ℕ) (ws : List ℕ) : Type 0 where
   pub loads : ℕ → ℕ
-  pub qualify : Qualify t k had loads
-  pub greatest : (z : ℕ → ℕ) → Qualify t k had z → (i : ℕ) → i < t .rows → ((j : ℕ) → j < i → z j ≡ loads j) → z i ≤ loads i
+  pub greatest : Greatest (t .rows) (Qualify t k had) loads
   pub words : SlotWords (t .rows) (overlap t) (lineFirst t) loads (end t k - start t k) ws
   pub placed : (i : ℕ) → i < t .rows → count (end t k - start t k) (moves ws i) ≡ loads i
   pub moved : (i : ℕ) → i < t .rows → now i ≡ had i + loads i

@@ -87,7 +87,8 @@ module _ {t : Table} (A : Admissible t) where
         spare = λ i le lt. s .spare i le ∙ n .spare i le lt;
         steady =
             rw e
-            (steady-eq t (end t k) (λ i. p .totals i + s .loads i) (q .totals) (λ i r. sym (s .moved i r)) (steady-next (s .qualify)));
+            (steady-eq t (end t k) (λ i. p .totals i + s .loads i) (q .totals) (λ i r. sym (s .moved i r))
+            (steady-next (s .greatest .qualify)));
       }
 
   -- ---- standings

@@ -1,15 +1,16 @@
--- Loads: only one choice is the greatest, and a choice among parts of slots is one among whole loads. Arcs that are rows, and then sets.
+-- Loads: a choice among parts of slots is one among whole loads. Arcs that are rows, and then sets.
 use mathlib.Core.Path.{_≡_, refl, sym, ap, _∙_}
 use mathlib.Core.Bool.{Bool}
-use Prim.Native.Nat.{ℕ, zero, suc, _+_, _-_, _*_, _≤_, _<_}
-use native.Mathlib.Decide.{decLt, ℕ-discrete}
+use Prim.Native.Nat.{ℕ, _+_, _-_, _*_, _≤_, _<_}
+use native.Mathlib.Decide.{decLt}
 use native.Mathlib.Nat.{lt-of-mul-lt-mul-right}
 use native.Mathlib.Omega.{arith}
 use borrow.Author.Tests.{lt-ltb, le-ltb}
 use Rattle.numbers.specs.Finite.{sumIn}
 use Rattle.numbers.proofs.Finite.{sumIn-eq, sumIn-add, sumIn-scaled, sum-zero, only-zero}
 use Rattle.numbers.proofs.Rounding.{rounded-is, rounded-shift}
-use Rattle.loads.specs.Loads.{inSet, none, Qualified, Greatest}
+use Rattle.rules.specs.Interval.{Greatest}
+use Rattle.loads.specs.Loads.{inSet, none, Qualified}
 use Rattle.loads.specs.Line.{join}
 
 -- ---- arcs that are rows, and then sets
@@ -40,28 +41,6 @@ pub lag-sum : (n h : ℕ) (share had y : ℕ → ℕ) (D : ℕ → Bool) → ((i
 lag-sum n h share had y D e =
     sumIn-eq n D D share (λ i. y i + had i * h) (λ i l. refl) (λ i l t. e i l) ∙ sumIn-add n D y (λ i. had i * h)
     ∙ ap (λ (u : ℕ). sumIn n D y + u) (sumIn-scaled n D had h)
-
--- ---- what callers use
-
-module _ (n K : ℕ) (a b : ℕ → ℕ) (h : ℕ) (share had : ℕ → ℕ) where
-  -- below m they agree, m ≤ n
-  same-below : (x z : ℕ → ℕ) → Greatest n K a b h share had x → Greatest n K a b h share had z → (m : ℕ) → m ≤ n
-      → (j : ℕ) → j < m → z j ≡ x j
-  same-below x z p q zero l j g = absurd (omega arith)
-  same-below x z p q (suc m) l j g = go (same-below x z p q m (omega arith)) (ℕ-discrete j m)
-    where
-      go : ((i : ℕ) → i < m → z i ≡ x i) → Dec (j ≡ m) → z j ≡ x j
-      go d (yes t) =
-          omega (
-            arith,
-            p .greatest z (q .qualified) j (omega arith) (λ i k. d i (omega arith)),
-            q .greatest x (p .qualified) j (omega arith) (λ i k. sym (d i (omega arith))),
-          )
-      go d (no t) = d j (omega arith)
-
-  -- only one choice of loads is the greatest
-  pub choose-only : (x z : ℕ → ℕ) → Greatest n K a b h share had x → Greatest n K a b h share had z → (i : ℕ) → i < n → z i ≡ x i
-  choose-only x z p q = same-below x z p q n (omega arith)
 
 -- ---- from parts of slots to loads
 
@@ -100,15 +79,15 @@ module _ (n K : ℕ) (a b : ℕ → ℕ) (h : ℕ) (share had f w x z : ℕ → 
           (rw (lag-sum n h share w f D parts, sum-as D had u w v same) at (q .sets k l)));
     }
 
-  pub greatest-shift : Greatest n K a b h f none z → Greatest n K a b h share had x
+  pub greatest-shift : Greatest n (Qualified n K a b h f none) z → Greatest n (Qualified n K a b h share had) x
   greatest-shift g = record {
-    qualified = qualified-up x z all (g .qualified);
-    greatest = λ u q i l eq.
+    qualify = qualified-up x z all (g .qualify);
+    most = λ u q i l eq.
         let v : ℕ → ℕ = λ j. had j + u j - w j in
         let in-all : (j : ℕ) → j < n → had j + u j ≡ w j + v j = λ j m. omega (arith, above u q j m) in
         omega (
           arith,
-          g .greatest v (qualified-down u v in-all q) i l (λ j m. omega (arith, eq j m, all j (omega arith))),
+          g .most v (qualified-down u v in-all q) i l (λ j m. omega (arith, eq j m, all j (omega arith))),
           all i l,
           above u q i l,
         );

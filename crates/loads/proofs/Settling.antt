@@ -17,7 +17,8 @@ use Rattle.flow.specs.Network.{Circulation, Within}
 use Rattle.flow.specs.Raised.{Settled}
 use Rattle.flow.specs.Way.{Toggled, Takes}
 use Rattle.flow.proofs.Words.{bit-xor}
-use Rattle.loads.specs.Loads.{inSet, digit, none, Spans, Parts, Qualified, Greatest}
+use Rattle.rules.specs.Interval.{Greatest}
+use Rattle.loads.specs.Loads.{inSet, digit, none, Spans, Parts, Qualified}
 use Rattle.loads.specs.Line.{carried, line, Lines}
 use Rattle.loads.proofs.Line.{circ-of-sums, sums-of-circ}
 use Rattle.loads.proofs.Choice.{join-low, join-high, both, zero-plus, sum-none}
@@ -200,10 +201,10 @@ module _ (n K : ℕ) (a b : ℕ → ℕ) (h : ℕ) (f : ℕ → ℕ) (S : Spans 
         rw (sum-none n D, zero-plus (sumIn n D z)) (between-rounded (sumIn n D f) h (P .some) (sumIn n D z) (r .0) (r .1));
   }
 
-  pub settled-greatest : (z : ℕ → ℕ) → Settled n (line n K a b h f) (carried n a b z) → Greatest n K a b h f none z
+  pub settled-greatest : (z : ℕ → ℕ) → Settled n (line n K a b h f) (carried n a b z) → Greatest n (Qualified n K a b h f none) z
   settled-greatest z s = record {
-    qualified = within-qualified z (s .within);
-    greatest = λ y q i l same.
+    qualify = within-qualified z (s .within);
+    most = λ y q i l same.
         omega (
           arith,
           s .best i l (carried n a b y) (carried-circ y) (qualified-within y q)

@@ -10,7 +10,6 @@
 --   Parts n h f             h is one that a table can have, and f are parts of a slot, in units of 1 / h
 --   Summed n K a b f s      s are the sets' sums of f
 --   Qualified               x are loads that qualify: with the slots already had, every row's and every set's sum is its share rounded
---   Greatest                of all that qualify, x are the loads in which row 0's is greatest, among those row 1's, and so on
 use mathlib.Core.Path.{_≡_}
 use mathlib.Core.Bool.{Bool, _&&_}
 use mathlib.Core.List.{List}
@@ -60,8 +59,3 @@ Summed n K a b f s = (k : ℕ) → k < K → s k ≡ sumIn n (inSet a b k) f
 pub record Qualified (n K : ℕ) (a b : ℕ → ℕ) (h : ℕ) (share had x : ℕ → ℕ) : Type 0 where
   pub rows : (i : ℕ) → i < n → Rounded (had i + x i) (share i) h
   pub sets : (k : ℕ) → k < K → Rounded (sumIn n (inSet a b k) had + sumIn n (inSet a b k) x) (sumIn n (inSet a b k) share) h
-
--- Only one x fits, for the n rows (proofs/Choice).
-pub record Greatest (n K : ℕ) (a b : ℕ → ℕ) (h : ℕ) (share had x : ℕ → ℕ) : Type 0 where
-  pub qualified : Qualified n K a b h share had x
-  pub greatest : (z : ℕ → ℕ) → Qualified n K a b h share had z → (i : ℕ) → i < n → ((j : ℕ) → j < i → z j ≡ x j) → z i ≤ x i

@@ -21,8 +21,9 @@ ghost use Rattle.numbers.specs.Finite.{only};
 ghost use Rattle.numbers.specs.Lists.{at};
 ghost use Rattle.numbers.specs.Word.{bit};
 ghost use Rattle.rules.specs.Bounds.{max-elements, max-slots};
+ghost use Rattle.rules.specs.Interval.{Greatest};
 ghost use Rattle.flow.specs.Raised.{Raised};
-ghost use Rattle.loads.specs.Loads.{part-most, digit, last, none, Greatest};
+ghost use Rattle.loads.specs.Loads.{part-most, digit, last, none, Qualified};
 ghost use Rattle.loads.specs.Line.{line, carried};
 ghost use Rattle.loads.specs.State.{Compared, Asked, State, Mended, Turn};
 
@@ -196,7 +197,8 @@ pub fn raise_rows(
         → Asked (size .rows) (size .sets) (size .hyper) (now (tail .entry)) (now (head .entry)) (now (out .entry)) (now (into .entry))
         (now (words .entry)) (now (sum .entry)) f
         → Mended (size .rows) (size .sets) (size .hyper) (now (tail .entry)) (now (head .entry)) f start
-        → Greatest (size .rows) (size .sets) (at (now (tail .entry))) (last (now (head .entry))) (size .hyper) f none (digit r)) ⌝ }
+        → Greatest (size .rows)
+        (Qualified (size .rows) (size .sets) (at (now (tail .entry))) (last (now (head .entry))) (size .hyper) f none) (digit r)) ⌝ }
 {
     let mut s = start;
     let mut later = s.parted;

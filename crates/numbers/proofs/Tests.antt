@@ -132,10 +132,10 @@ module _ {X : Type 0} where
   each-test [] P p = record { test = true; is = λ h. h; of = λ h. h }
   each-test (x ∷ xs) P p = and-test (p x) (each-test xs P p)
 
-  -- what one element has, with what every element has
-  pub one-with : (xs : List X) {P Q R : X → Type 0} → ((x : X) → P x → Q x → R x) → EachOf xs P → OneOf xs Q → OneOf xs R
-  one-with [] f e o = o
-  one-with (x ∷ xs) f e o = ⊎-elim (λ q. inl (f x (e .0) q)) (λ r. inr (one-with xs f (e .1) r)) o
+  -- what follows from what one element has, with what every element has
+  pub one-out : (xs : List X) {P Q : X → Type 0} {C : Type 0} → ((x : X) → P x → Q x → C) → EachOf xs P → OneOf xs Q → C
+  one-out [] f e o = absurd o
+  one-out (x ∷ xs) f e o = ⊎-elim (λ q. f x (e .0) q) (λ r. one-out xs f (e .1) r) o
 
   pub one-map : (xs : List X) {P Q : X → Type 0} → ((x : X) → P x → Q x) → OneOf xs P → OneOf xs Q
   one-map [] f o = o

@@ -14,7 +14,7 @@ use Rattle.numbers.proofs.Lists.{zeros-at}
 use Rattle.rules.specs.Bounds.{max-rows}
 use Rattle.rules.specs.Bus.{Table}
 use Rattle.rules.specs.Loads.{end, intervals}
-use Rattle.rules.specs.Planner.{reached}
+use Rattle.rules.specs.Planner.{reached, Step}
 use Rattle.rules.specs.Refusals.{Answers, plan-checks, step-checks, standings-checks}
 use Rattle.rules.specs.Calls.{Ask}
 use Rattle.table.specs.declared.Answer.{Answer}
@@ -22,15 +22,15 @@ use Rattle.outline.proofs.Outlined.{answers-at}
 use Rattle.outline.specs.Time.{Begins}
 use Rattle.verdict.specs.declared.Analysis.{Analysis}
 use Rattle.verdict.specs.Analysed.{Accepted}
+use Rattle.interval.proofs.Moved.{step-of-moved}
 use Rattle.steady.specs.Step.{Stands}
 use Rattle.steady.proofs.Steady.{standings-are}
 use Rattle.planner.specs.declared.Stage.the-variants.{Due}
 use Rattle.planner.specs.declared.Planner.{Planner}
 use Rattle.planner.specs.State.{stageOf, plannerOf, stageAfter, unmovedOf, noStandings}
-use Rattle.planner.specs.Chosen.{Chosen, Course, Coursed}
+use Rattle.planner.specs.Course.{Course, Coursed}
 use Rattle.planner.specs.Answers.{StepAnswer, StandingsAnswer, PlanAnswer}
 use Rattle.planner.specs.Analysed.{admitted}
-use Rattle.planner.proofs.Chosen.{chosen-step, chosen-run}
 use Rattle.planner.proofs.Accepted.{hyper-is, shown, next-is}
 use Rattle.planner.proofs.Course.{course-one, course-run}
 
@@ -54,7 +54,6 @@ module _ (a : Ask) (r : Answer) (refuses : r .number ≢ 0) where
       → StepAnswer a p (unmovedOf p r) was was
   step-refusal p was size c = record {
     stepped = record { answers = c; done = λ z. absurd (refuses z); refused = λ h. (refl, refl) };
-    chosen = λ z. absurd (refuses z);
     same = λ h. refl;
     size = size;
   }
@@ -63,7 +62,6 @@ module _ (a : Ask) (r : Answer) (refuses : r .number ≢ 0) where
       → PlanAnswer a r was was
   plan-refusal was c = record {
     planned = record { answers = c; done = λ z. absurd (refuses z); refused = λ h. refl };
-    chosen = λ z. absurd (refuses z);
   }
 
 -- one of the call's own, where the table is admitted
@@ -102,23 +100,19 @@ module _ {t : Table} {a : Analysis} (A : Accepted t a) (r : Answer) (made : (r .
     abbrev moved-on : Planner
     moved-on = record { stage = stageAfter e (a .outline .time .hyper) (k + 1); totals = now }
 
-    chosen : Chosen t (plannerOf p) (plannerOf moved-on) (C .words)
-    chosen = record {
-      interval = k;
-      is-due = ap stageOf is-due;
-      moved = course-one (C .course) (add-one k);
-      after = next-is (A .admissible .sound) k e (a .outline .time .hyper) (B .in-range) ends (hyper-is A);
-    }
+    step : Step t (plannerOf p) (plannerOf moved-on) (C .words)
+    step =
+        step-of-moved (ap stageOf is-due) (next-is (A .admissible .sound) k e (a .outline .time .hyper) (B .in-range) ends (hyper-is A))
+        (course-one (C .course) (add-one k))
 
     pub step-answer : Answers (step-checks [] t (plannerOf p) (length was)) 0 0
         → StepAnswer (admitted t) p (record { planner = moved-on; answer = r }) was out
     step-answer c = record {
       stepped = record {
         answers = answers-at _ r 0 0 made c;
-        done = λ z. (C .words, chosen-step chosen, C .written);
+        done = λ z. (C .words, step, C .written);
         refused = λ h. absurd (h (made .0));
       };
-      chosen = λ z. (C .words, chosen, C .written);
       same = λ h. absurd (h (made .0));
       size = C .size;
     }
@@ -132,8 +126,7 @@ module _ {t : Table} {a : Analysis} (A : Accepted t a) (r : Answer) (made : (r .
       record {
         planned = record {
           answers = answers-at _ r 0 0 made c;
-          done = λ z. (C .words, (_, chosen-run run), C .written);
+          done = λ z. (C .words, (_, run), C .written);
           refused = λ h. absurd (h (made .0));
         };
-        chosen = λ z. (_, C .words, run, C .written);
       }

@@ -79,7 +79,7 @@ module _ (q : Ask) (N : Numbered (q .checks)) {a : Analysis} (A : Analysed (q .c
       go : Dec (number ≡ 0) → StepAnswer q p r was now
       go (yes z) =
           let S = O .done z (q .table) (A .found z) in
-          record { stepped = stepped-after q (none z) (S .stepped); chosen = S .chosen; same = S .same; size = S .size }
+          record { stepped = stepped-after q (none z) (S .stepped); same = S .same; size = S .size }
       go (no z) =
           let e = O .refused z in
           rw (e .0, e .1)
@@ -101,7 +101,7 @@ module _ (q : Ask) (N : Numbered (q .checks)) {a : Analysis} (A : Analysed (q .c
       go : Dec (number ≡ 0) → PlanAnswer q r was now
       go (yes z) =
           let S = O .done z (q .table) (A .found z) in
-          record { planned = planned-after q (none z) (S .planned); chosen = S .chosen }
+          record { planned = planned-after q (none z) (S .planned) }
       go (no z) =
           let e = O .refused z in
           rw (e .0, e .1) (plan-refusal q (a .outline .answer) z was (plan-before q (a .outline .answer) z (A .answers) (length was)))

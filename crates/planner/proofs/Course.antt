@@ -16,7 +16,7 @@ use Rattle.rules.specs.Bounds.{max-rows, max-slots}
 use Rattle.rules.specs.Bus.{Table}
 use Rattle.rules.specs.Calls.{lent}
 use Rattle.rules.specs.Loads.{start, end, intervals}
-use Rattle.rules.specs.Planner.{Stage, due, finished}
+use Rattle.rules.specs.Planner.{Stage, due, finished, Run, none, more}
 use Rattle.lags.specs.Lags.{Admissible, Steady}
 use Rattle.lags.proofs.Intervals.{shortest-positive, end-next, end-far, end-le, start-mono, start-below, start-same, intervals-positive}
 use Rattle.table.specs.Sound.{Sound}
@@ -24,8 +24,8 @@ use Rattle.outline.specs.Time.{Begins}
 use Rattle.verdict.specs.declared.Analysis.{Analysis}
 use Rattle.interval.specs.Interval.{Moved}
 use Rattle.interval.specs.Ready.{Due, Advanced}
-use Rattle.interval.proofs.Moved.{moved-steady}
-use Rattle.planner.specs.Chosen.{ChosenRun, none, more, Course, Coursed}
+use Rattle.interval.proofs.Moved.{step-of-moved, moved-steady}
+use Rattle.planner.specs.Course.{Course, Coursed}
 use Rattle.planner.specs.Plannable.{Plannable}
 
 -- ---- the loop over the intervals
@@ -151,10 +151,10 @@ module _ {t : Table} (A : Admissible t) where
   at-due m l = rw (is-false (eqb m (intervals t)) (λ h. omega (arith, eqb→eq m (intervals t) h)))
 
   pub course-run : {m : ℕ} {now : ℕ → ℕ} {ws : List ℕ} → Course t 0 (λ i. 0) m now ws → m ≤ intervals t
-      → ChosenRun t m (record { stage = stage-at t m; totals = now }) ws
+      → Run t m (record { stage = stage-at t m; totals = now }) ws
   course-run Course.start l =
-      subst (λ (s : Stage). ChosenRun t 0 (record { stage = s; totals = λ i. 0 }) [])
+      subst (λ (s : Stage). Run t 0 (record { stage = s; totals = λ i. 0 }) [])
       (sym (at-due 0 (intervals-positive (A .sound)))) none
   course-run (Course.on {m} c d) l =
       more (course-run c (omega arith))
-      (record { interval = m; is-due = at-due m (omega arith); moved = d; after = ap (stage-at t) (sym (add-one m)) })
+      (step-of-moved (at-due m (omega arith)) (ap (stage-at t) (sym (add-one m))) d)

@@ -1,4 +1,3 @@
-pub mod Chosen
 pub mod State
 pub mod Accepted
 pub mod Off

@@ -9,14 +9,13 @@ use lib.IntN.{pos}
 use lib.ListN.{length, getD}
 use lib.Seq.{ext-getD}
 use Rattle.numbers.proofs.Truth.{le-or-lt}
-use Rattle.rules.specs.Loads.{intervals}
 use Rattle.rules.specs.Calls.{lent}
 use Rattle.rules.specs.Refusals.{plan-checks, step-checks, standings-checks}
+use Rattle.rules.proofs.Plans as plans
 use Rattle.table.specs.declared.Answer.{Answer}
 use Rattle.outline.proofs.Outlined.{answer-only}
 use Rattle.planner.specs.State.{plannerOf}
 use Rattle.planner.specs.Promises.{One-step, One-plan, One-standings}
-use Rattle.planner.proofs.Chosen.{chosen-only, run-only}
 use Rattle.planner.proofs.State.{state-same}
 
 pub step-only : One-step
@@ -34,9 +33,9 @@ step-only a p r s was now then A B = go (ℕ-discrete (r .answer .number) 0)
 
     go : Dec (r .answer .number ≡ 0) → (r ≡ s) × (now ≡ then)
     go (yes z) =
-        let x = A .chosen z in
-        let y = B .chosen (sym number ∙ z) in
-        let e = chosen-only (x .1) (y .1) in
+        let x = A .stepped .done z in
+        let y = B .stepped .done (sym number ∙ z) in
+        let e = plans.step-only (x .1) (y .1) in
         with-planner (state-same (r .planner) (s .planner) (A .size ∙ sym (B .size)) (e .0))
         (x .2 ∙ ap (λ (ws : List ℕ). lent ws was) (e .1) ∙ sym (y .2))
     go (no z) =
@@ -54,9 +53,9 @@ plan-only a r s was now then A B = (same, go (ℕ-discrete (r .number) 0))
 
     go : Dec (r .number ≡ 0) → now ≡ then
     go (yes z) =
-        let x = A .chosen z in
-        let y = B .chosen (sym number ∙ z) in
-        x .3 ∙ ap (λ (ws : List ℕ). lent ws was) (run-only (intervals (a .table)) (x .2) (y .2) .1) ∙ sym (y .3)
+        let x = A .planned .done z in
+        let y = B .planned .done (sym number ∙ z) in
+        x .2 ∙ ap (λ (ws : List ℕ). lent ws was) (plans.plan-only (a .table) (x .0) (y .0) (x .1) (y .1)) ∙ sym (y .2)
     go (no z) = A .planned .refused z ∙ sym (B .planned .refused (λ e. z (number ∙ e)))
 
 pub standings-only : One-standings

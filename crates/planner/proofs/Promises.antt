@@ -5,20 +5,20 @@ use Prim.Native.Nat.{ℕ, zero, _-_, _≤_}
 use lib.ListN.{length, take}
 use lib.Seq.{take-at}
 use Rattle.rules.specs.Bus.{Table}
-use Rattle.rules.specs.Loads.{start, end, intervals}
+use Rattle.rules.specs.Loads.{hyperperiod, start, end}
 use Rattle.rules.specs.Planner as rules
 use Rattle.rules.specs.Planner.{due}
 use Rattle.rules.specs.Refusals.{Answers, plan-checks, step-room, step-checks}
 use Rattle.rules.specs.Calls.{lent, Ask}
 use Rattle.rules.proofs.Answers.{None, joined, none-of, answers-only}
+use Rattle.rules.proofs.Calls.{lent-take}
+use Rattle.rules.proofs.Plans as plans
 use Rattle.lags.specs.Lags.{Admissible, NotOff}
 use Rattle.lags.proofs.States.{not-off, not-off-fresh, not-off-next, standing-below, standing-above}
-use Rattle.promises.proofs.Demands.{plan-carries, plan-finished}
+use Rattle.promises.proofs.Demands.{plan-carries, plan-finished, plan-size}
 use Rattle.planner.specs.declared.Stage.the-variants.{Finished}
 use Rattle.planner.specs.declared.Planner.{Planner}
 use Rattle.planner.specs.State.{stageOf, plannerOf}
-use Rattle.planner.specs.Chosen.{Chosen, ChosenRun}
-use Rattle.planner.specs.Chosen as chosen
 use Rattle.planner.specs.Proper.{Proper, Admits}
 use Rattle.planner.specs.Promises.{
   Steps,
@@ -29,9 +29,9 @@ use Rattle.planner.specs.Promises.{
   Whole-is-steps,
   Standings-between,
   Carried,
+  Exactly-one-plan,
   Promises,
 }
-use Rattle.planner.proofs.Chosen.{chosen-step, chosen-run, run-only}
 use Rattle.planner.proofs.State.{fresh-is, stage-same}
 use Rattle.planner.proofs.Checks.{plan-done, step-done, plan-passed, standings-passed}
 use Rattle.planner.proofs.Only.{step-only, plan-only, standings-only}
@@ -69,33 +69,46 @@ never-refused a p r was now k P A d s o room =
     let room′ : end t k - start t k ≤ length was = rw s at room in
     let e = answers-only (step-checks (a .checks) t (plannerOf p) (length was)) _ 0 _ 0 (A .stepped .answers)
     (own-step a (plannerOf p) (length was) 0 0 (admitted-none a P d) (step-done t (plannerOf p) (length was) o k is-due room′)) in
-    (e .0, e .1, not-off .1 (not-off-next (admitted-table a P d) (not-off .0 o) (chosen-step (A .chosen (e .0) .1))))
+    (e .0, e .1, not-off .1 (not-off-next (admitted-table a P d) (not-off .0 o) (A .stepped .done (e .0) .1)))
 
 -- the words of a step are the front of what it was lent
-step-words : {t : Table} {p q : rules.Planner} (was now ws : List ℕ) → Chosen t p q ws → now ≡ lent ws was
+step-words : {t : Table} {p q : rules.Planner} (was now ws : List ℕ) → rules.Step t p q ws → now ≡ lent ws was
     → take (step-room t (p .stage)) now ≡ ws
 unfolding lent
-step-words {t} {p} was now ws c e =
-    let size : length ws ≡ step-room t (p .stage) = c .moved .words .size ∙ sym (ap (step-room t) (c .is-due)) in
+step-words {t} {p} was now ws s e =
+    let size : length ws ≡ step-room t (p .stage) = s .words .size ∙ sym (ap (step-room t) (s .is-due)) in
     ap (take (step-room t (p .stage))) e ∙ take-at ws _ _ size
 
--- a fresh planner's steps are those by the greatest loads
-pub steps-run : {a : Ask} {k : ℕ} {p : Planner} {ws : List ℕ} → Steps a k p ws → ChosenRun (a .table) k (plannerOf p) ws
-steps-run {a} none = subst (λ (q : rules.Planner). ChosenRun (a .table) zero q []) (sym fresh-is) chosen.none
+-- a fresh planner's steps are document 01's
+pub steps-run : {a : Ask} {k : ℕ} {p : Planner} {ws : List ℕ} → Steps a k p ws → rules.Run (a .table) k (plannerOf p) ws
+steps-run {a} none = subst (λ (q : rules.Planner). rules.Run (a .table) zero q []) (sym fresh-is) rules.none
 steps-run {a} (more {p = p} {r = r} {was = was} {now = now} s A z) =
-    let w = A .chosen z in
+    let w = A .stepped .done z in
     let e = step-words was now (w .0) (w .1) (w .2) in
-    chosen.more (steps-run s) (subst (Chosen (a .table) (plannerOf p) (plannerOf (r .planner))) (sym e) (w .1))
+    rules.more (steps-run s) (subst (rules.Step (a .table) (plannerOf p) (plannerOf (r .planner))) (sym e) (w .1))
 
 -- ---- the whole plan
 
 pub whole-is-steps : Whole-is-steps
 whole-is-steps a r was now p ws P A z s =
-    let w = A .chosen z in
-    let e = run-only (intervals (a .table)) (w .2) (steps-run s) in
+    let w = A .planned .done z in
+    let e = plans.plan-only (a .table) (w .0) ws (w .1) (plannerOf p, steps-run s) in
     let d = P .admissible (plan-passed (a .checks) (P .numbered) (a .table) (length was) (r .place) (rw z at (A .planned .answers))) in (
-      w .3 ∙ ap (λ (vs : List ℕ). lent vs was) (e .1),
-      stage-same (p .stage) Finished (plan-finished d (plannerOf p, chosen-run (steps-run s))),
+      w .2 ∙ ap (λ (vs : List ℕ). lent vs was) e,
+      stage-same (p .stage) Finished (plan-finished d (plannerOf p, steps-run s)),
+    )
+
+-- the front of what was lent is a whole plan, and there is one at most
+pub exactly-one-plan : Exactly-one-plan
+exactly-one-plan a r was now P A d room vs =
+    let t = a .table in
+    let e = answers-only (plan-checks (a .checks) t (length was)) _ 0 _ 0 (A .planned .answers)
+    (own-plan a (length was) 0 0 (admitted-none a P d) (plan-done t (length was) room)) in
+    let w = A .planned .done (e .0) in
+    let front : take (hyperperiod t) now ≡ w .0 =
+    ap (take (hyperperiod t)) (w .2) ∙ lent-take (w .0) was (hyperperiod t) (plan-size (admitted-table a P d) (w .1)) in (
+      (λ W. plans.plan-only t vs (w .0) W (w .1) ∙ sym front),
+      (λ q. subst (rules.WholePlan t) (sym (q ∙ front)) (w .1)),
     )
 
 pub carried : Carried
@@ -127,4 +140,5 @@ promises = record {
   whole-is-steps = whole-is-steps;
   standings-between = standings-between;
   carried = carried;
+  exactly-one-plan = exactly-one-plan;
 }

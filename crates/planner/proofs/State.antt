@@ -8,11 +8,11 @@ use lib.Seq.{ext-getD}
 use Rattle.numbers.proofs.Lists.{zeros-at}
 use Rattle.rules.specs.Bounds.{max-rows}
 use Rattle.rules.specs.Planner as rules
+use Rattle.rules.proofs.Plans.{planner-same}
 use Rattle.planner.specs.declared.Stage.{Stage}
 use Rattle.planner.specs.declared.Stage.the-variants.{Due, Finished}
 use Rattle.planner.specs.declared.Planner.{Planner}
 use Rattle.planner.specs.State.{stageOf, plannerOf, freshPlanner}
-use Rattle.planner.proofs.Chosen.{planner-same}
 
 pub fresh-is : plannerOf freshPlanner ≡ rules.fresh
 fresh-is = planner-same refl (zeros-at max-rows)

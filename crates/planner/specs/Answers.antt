@@ -4,8 +4,7 @@
 --   StandingsAnswer a p r      the standings of p answer r to ask a
 --   PlanAnswer a r was now     the whole plan answers r to ask a
 --
--- Each holds what document 01 says of the call, and beside it which of the steps that document 01 allows is taken. Only one answer fits
--- (proofs/Only).
+-- Each holds what document 01 says of the call. Only one answer fits (proofs/Only).
 use mathlib.Core.Path.{_≡_}
 use mathlib.Core.Logic.{_≢_}
 use mathlib.Core.List.{List}
@@ -13,20 +12,16 @@ use Prim.Native.Nat.{ℕ}
 use lib.IntN.{pos}
 use lib.ListN.{length, getD}
 use Rattle.rules.specs.Bounds.{max-rows}
-use Rattle.rules.specs.Loads.{intervals}
-use Rattle.rules.specs.Planner as rules
-use Rattle.rules.specs.Calls.{lent, Ask, Planned, Stepped, Stood}
+use Rattle.rules.specs.Calls.{Ask, Planned, Stepped, Stood}
 use Rattle.table.specs.declared.Answer.{Answer}
 use Rattle.planner.specs.declared.Planner.{Planner}
 use Rattle.planner.specs.declared.MovedOn.{MovedOn}
 use Rattle.planner.specs.declared.Standings.{Standings}
 use Rattle.planner.specs.State.{plannerOf}
-use Rattle.planner.specs.Chosen.{Chosen, ChosenRun}
 
 -- A refusal hands back the very planner it was given.
 pub record StepAnswer (a : Ask) (p : Planner) (r : MovedOn) (was now : List ℕ) : Type 0 where
   pub stepped : Stepped a (plannerOf p) (plannerOf (r .planner)) was now (r .answer .number) (r .answer .place)
-  pub chosen : r .answer .number ≡ 0 → (ws : List ℕ) × Chosen (a .table) (plannerOf p) (plannerOf (r .planner)) ws × (now ≡ lent ws was)
   pub same : r .answer .number ≢ 0 → r .planner ≡ p
   pub size : length (r .planner .totals) ≡ max-rows
 
@@ -36,5 +31,3 @@ pub record StandingsAnswer (a : Ask) (p : Planner) (r : Standings) : Type 0 wher
 
 pub record PlanAnswer (a : Ask) (r : Answer) (was now : List ℕ) : Type 0 where
   pub planned : Planned a was now (r .number) (r .place)
-  pub chosen : r .number ≡ 0
-      → (q : rules.Planner) × (ws : List ℕ) × ChosenRun (a .table) (intervals (a .table)) q ws × (now ≡ lent ws was)

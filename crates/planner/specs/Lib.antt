@@ -1,6 +1,6 @@
 pub mod State
 pub mod Plannable
-pub mod Chosen
+pub mod Course
 pub mod Answers
 pub mod Analysed
 pub mod Proper

@@ -6,13 +6,14 @@
 -- A call's contract is the relation between what it is given and what it answers (Answers.antt); a promise speaks of every answer that the
 -- contract allows, to any proper ask. The calls on a file are asks of its table, and proper (`file-proper`).
 use mathlib.Core.Path.{_≡_}
+use mathlib.Core.Logic.{_↔_}
 use mathlib.Core.List.{List, [], _++_}
 use Prim.Native.Nat.{ℕ, zero, suc, _≤_, _<_}
 use lib.IntN.{pos, negℤ}
 use lib.Signed.{_<ℤ_}
 use lib.ListN.{length, take, getD}
 use Rattle.rules.specs.Loads.{hyperperiod, intervals}
-use Rattle.rules.specs.Planner.{fresh, Off}
+use Rattle.rules.specs.Planner.{fresh, Off, WholePlan}
 use Rattle.rules.specs.Refusals.{step-room}
 use Rattle.rules.specs.Calls.{lent, Ask, fileAsk}
 use Rattle.table.specs.declared.Answer.{Answer}
@@ -82,6 +83,11 @@ abbrev pub Carried : Type 1
 Carried = (a : Ask) (r : Answer) (was now : List ℕ) → Proper a → PlanAnswer a r was now → Admits a → hyperperiod (a .table) ≤ length was
     → (r .number ≡ 0) × (r .place ≡ 0) × ((ws : List ℕ) × Carries (a .table) ws × (now ≡ lent ws was))
 
+-- Exactly one plan meets document 01 (#110): the words that every answer writes are a whole plan, and any whole plan is those words.
+abbrev pub Exactly-one-plan : Type 1
+Exactly-one-plan = (a : Ask) (r : Answer) (was now : List ℕ) → Proper a → PlanAnswer a r was now → Admits a
+    → hyperperiod (a .table) ≤ length was → (ws : List ℕ) → WholePlan (a .table) ws ↔ (ws ≡ take (hyperperiod (a .table)) now)
+
 pub record Promises : Type 1 where
   pub file-proper : File-proper
   pub one-step : One-step
@@ -93,3 +99,4 @@ pub record Promises : Type 1 where
   pub whole-is-steps : Whole-is-steps
   pub standings-between : Standings-between
   pub carried : Carried
+  pub exactly-one-plan : Exactly-one-plan

@@ -22,7 +22,7 @@ ghost use Rattle.outline.specs.Time.{Timed};
 ghost use Rattle.verdict.specs.Analysed.{Accepted};
 ghost use Rattle.planner.specs.State.{plannerOf, freshPlanner, slotOf, lateAt, stageAfter, unmovedOf, noStandings};
 ghost use Rattle.planner.specs.Plannable.{Plannable};
-ghost use Rattle.planner.specs.Chosen.{Coursed};
+ghost use Rattle.planner.specs.Course.{Coursed};
 ghost use Rattle.planner.specs.Answers.{StepAnswer, StandingsAnswer, PlanAnswer};
 ghost use Rattle.planner.specs.Analysed.{Usable, SteppedOn, StandingsOn, PlannedOn};
 

@@ -114,7 +114,7 @@ module _ {t : Table} (A : Admissible t) where
       here =
           rw (← ends)
           (steady-eq t (end t n) (λ i. p .totals i + s .loads i) (λ i. count (end t n) (moves (vs ++ ws) i))
-          (λ i h. sym (counted i h)) (steady-next (s .qualify)))
+          (λ i h. sym (counted i h)) (steady-next (s .greatest .qualify)))
 
       back : (m : ℕ) → m ≤ k → Steady t (start t m) (λ i. count (start t m) (moves (vs ++ ws) i))
       back m h =

@@ -32,7 +32,8 @@ module _ {t : Table} (A : Admissible t) where
     totals = λ i l.
         s .moved i l
         ∙ ap (λ (m : ℕ). p .totals i + m) (sym (s .placed i l) ∙ ap (λ (m : ℕ). count m (moves ws i)) (sym (s .words .size)));
-    shares = λ i l. rounded-share (A .sound) (q .totals i) i (end t (s .interval)) l .0 (rw (s .moved i l) (s .qualify .rows i l));
+    shares = λ i l.
+        rounded-share (A .sound) (q .totals i) i (end t (s .interval)) l .0 (rw (s .moved i l) (s .greatest .qualify .rows i l));
     reaches = ap (reached t) (s .after) ∙ next-reached (A .sound) (s .interval) in-range;
     not-off = not-off .1 (not-off-next A n s);
   }

@@ -7,18 +7,15 @@ use lib.Seq.{sets}
 use Rattle.rules.specs.Bus.{Table}
 use Rattle.rules.specs.TableFile.{fileTable}
 use Rattle.rules.specs.Line as line
-use Rattle.rules.specs.Loads.{hyperperiod, shortest, reported, intervals}
+use Rattle.rules.specs.Loads.{hyperperiod, shortest, reported}
 use Rattle.rules.specs.Refusals.{Answers, verdict-checks}
 use Rattle.rules.specs.Text.{Line, text}
 use Rattle.rules.specs.Program.{verdict, values, set-lines, slot-lines, max-input, Printed, refused, admitted}
 use Rattle.rules.proofs.Answers.{answers-only}
 use Rattle.rules.proofs.Sets.{sets-only}
-use Rattle.planner.proofs.Chosen.{run-only}
-use Rattle.report.specs.Rendered.{ChosenPlan, Rendered}
+use Rattle.rules.proofs.Plans.{plan-only}
+use Rattle.report.specs.Rendered.{Rendered}
 use Rattle.report.proofs.Printed.{carried}
-
-plan-only : (t : Table) (ws vs : List ℕ) → ChosenPlan t ws → ChosenPlan t vs → ws ≡ vs
-plan-only t ws vs A B = run-only (intervals t) (A .1) (B .1) .1
 
 abbrev admitted-lines : Table → List ℕ → List ℕ → List Line
 admitted-lines t ws vs =
@@ -31,7 +28,7 @@ module _ (input : List ℕ) where
   same : (m n p q : ℕ) → answers m p → answers n q → (m ≡ n) × (p ≡ q)
   same m n p q = answers-only (verdict-checks (take max-input input)) m n p q
 
-  lines-only : (ks ls : List Line) → Printed ChosenPlan input ks → Printed ChosenPlan input ls → ks ≡ ls
+  lines-only : (ks ls : List Line) → Printed input ks → Printed input ls → ks ≡ ls
   lines-only _ _ (refused m p a h) (refused n q b g) =
       let e = same m n p q a b in
       ap₂ (λ (x y : ℕ). verdict x y ∷ []) (e .0) (e .1)
@@ -45,7 +42,7 @@ module _ (input : List ℕ) where
 
   pub rendered-only : (was now then : List ℕ) (m n : ℕ) → Rendered input was now m → Rendered input was then n → (now ≡ then) × (m ≡ n)
   rendered-only was now then m n A B =
-      let e = lines-only (A .lines) (B .lines) (A .chosen) (B .chosen) in (
+      let e = lines-only (A .lines) (B .lines) (A .printed) (B .printed) in (
         A .puts .holds ∙ ap (λ (ls : List Line). sets was 0 (text ls)) e ∙ sym (B .puts .holds),
         A .puts .after ∙ ap (λ (ls : List Line). 0 + length (text ls)) e ∙ sym (B .puts .after),
       )

@@ -8,14 +8,13 @@ use lib.ListN.{length, take}
 use lib.Seq.{take-all}
 use Rattle.numbers.proofs.Truth.{le-or-lt}
 use Rattle.rules.specs.Bounds.{max-rows, max-slots}
-use Rattle.rules.specs.Bus.{Table}
 use Rattle.rules.specs.TableFile.{fileTable}
 use Rattle.rules.specs.Line.{Sets}
 use Rattle.rules.specs.Line as line
 use Rattle.rules.specs.Loads.{hyperperiod, reported}
 use Rattle.rules.specs.Planner.{WholePlan}
 use Rattle.rules.specs.Refusals.{Answers, given-checks, line-checks, bound-checks, verdict-checks, sets-checks, plan-checks}
-use Rattle.rules.specs.Calls.{lent, Listed, fileAsk}
+use Rattle.rules.specs.Calls.{Listed, fileAsk}
 use Rattle.rules.proofs.Answers.{None, none-of, none-join, none-left}
 use Rattle.rules.proofs.Calls.{lent-take, call-must}
 use Rattle.rules.proofs.Sets.{sets-only}
@@ -27,12 +26,11 @@ use Rattle.verdict.proofs.Bound.{verdict-numbered, admissible-of, sets-exist}
 use Rattle.promises.proofs.Demands.{plan-size}
 use Rattle.table.specs.declared.Answer.{Answer}
 use Rattle.planner.specs.Answers.{PlanAnswer}
-use Rattle.planner.proofs.Chosen.{chosen-run}
 use Rattle.rules.specs.Text.{textOf, text}
 use Rattle.decimal.specs.Puts.{Puts}
 use Rattle.decimal.proofs.Puts.{puts-more}
 use Rattle.rules.specs.Program.{verdict, values, set-lines, slot-lines, max-input, Printed, refused, admitted}
-use Rattle.report.specs.Rendered.{PutsLine, PutsLines, ChosenPlan, Rendered}
+use Rattle.report.specs.Rendered.{PutsLine, PutsLines, Rendered}
 use Rattle.report.proofs.Text.{text-first, text-join, text-one}
 
 -- ---- an admitted table's lists
@@ -69,22 +67,16 @@ module _ (f : List ℕ) (a : Answers (verdict-checks f) 0 0) where
       let e : take sets now ≡ D .0 = ap (take sets) (D .3) ∙ lent-take (D .0) was sets (sym (D .2)) in
       (rw e (D .1), rw e (sym (D .2)), omega (arith, D .2, list-few (D .0) (D .1)))
 
-  plan-front : (ws was now : List ℕ) {hyper : ℕ} → hyper ≡ hyperperiod (fileTable f) → WholePlan (fileTable f) ws → now ≡ lent ws was
-      → take hyper now ≡ ws
-  plan-front ws was now {hyper} h W e = ap (take hyper) e ∙ lent-take ws was hyper (plan-size carried W ∙ sym h)
-
   -- and so the plan
   pub planned : {r : Answer} {was now : List ℕ} {hyper : ℕ} → max-slots ≤ length was → hyper ≡ hyperperiod (fileTable f)
       → PlanAnswer (fileAsk f) r was now
-      → WholePlan (fileTable f) (take hyper now) × ChosenPlan (fileTable f) (take hyper now) × (length (take hyper now) ≡ hyper)
-      × (hyper ≤ max-slots)
+      → WholePlan (fileTable f) (take hyper now) × (length (take hyper now) ≡ hyper) × (hyper ≤ max-slots)
   planned {r} {was} {now} {hyper} l h A =
       let M = call-must (plan-passed (length was) l) (A .planned) in
       let W = M .2 in
-      let C = A .chosen (M .0) in
-      let w = plan-front (W .0) was now h (W .1) (W .2) in
-      let c = plan-front (C .1) was now h (C .0, chosen-run (C .2)) (C .3) in
-      (rw w (W .1), rw c (C .0, C .2), ap length w ∙ plan-size carried (W .1) ∙ sym h, omega (arith, carried .short))
+      let w : take hyper now ≡ W .0 =
+      ap (take hyper) (W .2) ∙ lent-take (W .0) was hyper (plan-size carried (W .1) ∙ sym h) in
+      (rw w (W .1), ap length w ∙ plan-size carried (W .1) ∙ sym h, omega (arith, carried .short))
 
 -- ---- the report
 
@@ -118,16 +110,16 @@ module _ (f : List ℕ) (r : Verdict) (J : IsVerdict f r) where
     hyper-is = admission .done refl .hyper-is
 
   module _ (input : List ℕ) (i : f ≡ take max-input input) (n p : ℕ) (en : n ≡ numberOf r) (ep : p ≡ placeOf r) where
-    printed-refused : (Plan : Table → List ℕ → Type 0) (m q : ℕ) → r ≡ Refused m q → Printed Plan input (verdict n p ∷ [])
-    printed-refused Plan m q e =
+    printed-refused : (m q : ℕ) → r ≡ Refused m q → Printed input (verdict n p ∷ [])
+    printed-refused m q e =
         let z : n ≡ m = en ∙ ap numberOf e in
         let y : p ≡ q = ep ∙ ap placeOf e in
         rw (z, y) (refused m q (rw i at (refusal m q e .answers)) (refuses m q e))
 
-    printed-admitted : (Plan : Table → List ℕ → Type 0) (c l h x s : ℕ) → r ≡ Admitted c l h x s → (ws plan : List ℕ)
-        → Sets (fileTable f) ws → Plan (fileTable f) plan
-        → Printed Plan input (verdict n p ∷ (values c l h x ++ (set-lines ws ++ slot-lines plan)))
-    printed-admitted Plan c l h x s e ws plan S W =
+    printed-admitted : (c l h x s : ℕ) → r ≡ Admitted c l h x s → (ws plan : List ℕ)
+        → Sets (fileTable f) ws → WholePlan (fileTable f) plan
+        → Printed input (verdict n p ∷ (values c l h x ++ (set-lines ws ++ slot-lines plan)))
+    printed-admitted c l h x s e ws plan S W =
         let A = admission c l h x s e .done refl in
         let a = admits c l h x s e in
         let z : n ≡ 0 = en ∙ ap numberOf e in
@@ -140,8 +132,7 @@ module _ (f : List ℕ) (r : Verdict) (J : IsVerdict f r) where
       pub rendered-refused : (m q : ℕ) → r ≡ Refused m q → Rendered input was one a
       rendered-refused m q e = record {
         lines = verdict n p ∷ [];
-        printed = printed-refused WholePlan m q e;
-        chosen = printed-refused ChosenPlan m q e;
+        printed = printed-refused m q e;
         puts = rw (text-one (verdict n p)) (F .0);
         fits = omega (arith, F .1);
       }
@@ -149,8 +140,7 @@ module _ (f : List ℕ) (r : Verdict) (J : IsVerdict f r) where
       module _ (c l h x s : ℕ) (e : r ≡ Admitted c l h x s) {two three now : List ℕ} {b d size : ℕ} where
         pub rendered-admitted : PutsLines (values c l h x) 4 one a two b
             → ((ws : List ℕ) × Sets (fileTable f) ws × PutsLines (set-lines ws) max-rows two b three d)
-            → ((ws : List ℕ) × WholePlan (fileTable f) ws × ChosenPlan (fileTable f) ws
-            × PutsLines (slot-lines ws) max-slots three d now size)
+            → ((ws : List ℕ) × WholePlan (fileTable f) ws × PutsLines (slot-lines ws) max-slots three d now size)
             → Rendered input was now size
         rendered-admitted A S P =
             let joined = text-first (verdict n p) (values c l h x ++ (set-lines (S .0) ++ slot-lines (P .0)))
@@ -158,9 +148,8 @@ module _ (f : List ℕ) (r : Verdict) (J : IsVerdict f r) where
             ∙ ap (λ (t : List ℕ). text (values c l h x) ++ t) (text-join (set-lines (S .0)) (slot-lines (P .0)))) in
             record {
               lines = verdict n p ∷ (values c l h x ++ (set-lines (S .0) ++ slot-lines (P .0)));
-              printed = printed-admitted WholePlan c l h x s e (S .0) (P .0) (S .1) (P .1);
-              chosen = printed-admitted ChosenPlan c l h x s e (S .0) (P .0) (S .1) (P .2);
+              printed = printed-admitted c l h x s e (S .0) (P .0) (S .1) (P .1);
               puts = subst (λ (t : List ℕ). Puts t was 0 now size) (sym joined)
-                  (puts-more (F .0) (puts-more (A .0) (puts-more (S .2 .0) (P .3 .0))));
-              fits = omega (arith, F .1, A .1, S .2 .1, P .3 .1);
+                  (puts-more (F .0) (puts-more (A .0) (puts-more (S .2 .0) (P .2 .0))));
+              fits = omega (arith, F .1, A .1, S .2 .1, P .2 .1);
             }

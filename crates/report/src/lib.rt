@@ -16,7 +16,7 @@ ghost use Rattle.rules.specs.Planner.{WholePlan};
 ghost use Rattle.rules.specs.Refusals.{Answers, verdict-checks};
 ghost use Rattle.decimal.specs.Puts.{limit, lineOf};
 ghost use Rattle.rules.specs.Program.{verdict, values, set, slot, set-lines, slot-lines};
-ghost use Rattle.report.specs.Rendered.{max-line, PutsLine, PutsLines, ChosenPlan, Rendered};
+ghost use Rattle.report.specs.Rendered.{max-line, PutsLine, PutsLines, Rendered};
 
 // The program's input: one byte more than the longest table file has, so that a longer one is refused for its length.
 pub const INPUT: usize = 392;
@@ -106,7 +106,7 @@ fn put_list(file: &[u8], out: &mut [u8], at: usize) -> usize
 fn put_plan(file: &[u8], hyper: u32, out: &mut [u8], at: usize) -> usize
     requires { ⌜ Answers (verdict-checks (now file)) 0 0 × (hyper ≡ hyperperiod (fileTable (now file)))
         × (at + max-line * max-slots ≤ limit) ⌝ }
-    ensures { λ r. ⌜ ((ws : List ℕ) × WholePlan (fileTable (now (file .entry))) ws × ChosenPlan (fileTable (now (file .entry))) ws
+    ensures { λ r. ⌜ ((ws : List ℕ) × WholePlan (fileTable (now (file .entry))) ws
         × PutsLines (slot-lines ws) max-slots (now (out .entry)) at (now (out .exit)) r) ⌝ }
 {
     let mut plan = [0u64; Table::SLOTS];

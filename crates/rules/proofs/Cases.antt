@@ -1,7 +1,7 @@
 -- Document 01's cases P1 to P10, proved. The definitions compute on the tables' numerals: numbers go by `refl`, relations by the tests of
 -- Sets, Verdict and Steps, which `tt` shows to hold.
 use mathlib.Core.Path.{_≡_, refl, sym, ap, ap₂, _∙_, subst}
-use mathlib.Core.Logic.{_⊎_, _↔_, inl, inr, ⊎-elim}
+use mathlib.Core.Logic.{_↔_}
 use mathlib.Core.List.{List, [], _∷_, _++_}
 use mathlib.Core.Bool.{Bool}
 use Prim.Native.Nat.{ℕ, _≤_, _<_}
@@ -25,8 +25,9 @@ use Rattle.rules.specs.Refusals.{line-checks, bound-checks, verdict-chec
 use Rattle.rules.specs.Cases.{case-A, case-B, case-B-with, equal-with, pasted-with, round, thirds, halves, none-had, B-at, Cases}
 use Rattle.rules.proofs.Sets.{set-in, sets-only, sets-by}
 use Rattle.rules.proofs.Verdict.{verdict-by}
-use Rattle.rules.proofs.Steps.{Outcome, Outcomes, rounded-test, qualify-test, moved-on, outcomes-by}
-use Rattle.rules.proofs.Steps.{step-is, step-of, run-more, run-first, standing-at}
+use Rattle.rules.proofs.Steps.{Outcome, Outcomes, Best, rounded-test, qualify-test, moved-on, outcomes-by, best-test}
+use Rattle.rules.proofs.Steps.{step-is, step-of, run-first, standing-at}
+use Rattle.rules.proofs.Plans.{run-more}
 
 -- All that computes below: an `unfolding` line that names it opens all that its own line names.
 computing : Unit {0}
@@ -79,13 +80,23 @@ step-B : Outcomes case-B 0 none-had (one ∷ two ∷ [])
 unfolding computing
 step-B = outcomes-by case-B (3 ∷ []) (sets-B 3) 0 none-had (one ∷ two ∷ []) tt
 
-after-one : Outcomes case-B 1 (moved-on none-had (one .0)) (two ∷ [])
-unfolding computing
-after-one = outcomes-by case-B (3 ∷ []) (sets-B 3) 1 (moved-on none-had (one .0)) (two ∷ []) tt
-
 after-two : Outcomes case-B 1 (moved-on none-had (two .0)) (one ∷ [])
 unfolding computing
 after-two = outcomes-by case-B (3 ∷ []) (sets-B 3) 1 (moved-on none-had (two .0)) (one ∷ []) tt
+
+-- the greatest of them: row 0 has one slot in either, so row 1 decides
+
+best-A : Best case-A 0 none-had (whole ∷ []) whole
+unfolding computing
+best-A = best-test case-A (3 ∷ 6 ∷ []) sets-A 0 none-had (whole ∷ []) whole .is tt
+
+best-B : Best case-B 0 none-had (one ∷ two ∷ []) two
+unfolding computing
+best-B = best-test case-B (3 ∷ []) (sets-B 3) 0 none-had (one ∷ two ∷ []) two .is tt
+
+best-after : Best case-B 1 (moved-on none-had (two .0)) (one ∷ []) one
+unfolding computing
+best-after = best-test case-B (3 ∷ []) (sets-B 3) 1 (moved-on none-had (two .0)) (one ∷ []) one .is tt
 
 -- ---- states of B
 
@@ -121,23 +132,18 @@ B-not-off s totals number few h = go
 plan-A : (ws : List ℕ) → WholePlan case-A ws ↔ (ws ≡ 5 ∷ 5 ∷ 2 ∷ 0 ∷ [])
 unfolding computing
 plan-A ws = (
-  (λ w. ⊎-elim (λ a. a .0) absurd (run-first step-A (w .1))),
-  (λ e. subst (WholePlan case-A) (sym e) (_, more none (step-of (step-A .each .0)))),
+  (λ w. run-first step-A best-A (w .1) .0),
+  (λ e. subst (WholePlan case-A) (sym e) (_, more none (step-of step-A best-A))),
 )
 
-plans-B : (ws : List ℕ) → WholePlan case-B ws
-    ↔ ((ws ≡ 1 ∷ 2 ∷ 0 ∷ 0 ∷ 1 ∷ 2 ∷ 2 ∷ 0 ∷ []) ⊎ (ws ≡ 1 ∷ 2 ∷ 2 ∷ 0 ∷ 1 ∷ 2 ∷ 0 ∷ 0 ∷ []))
+plans-B : (ws : List ℕ) → WholePlan case-B ws ↔ (ws ≡ 1 ∷ 2 ∷ 2 ∷ 0 ∷ 1 ∷ 2 ∷ 0 ∷ 0 ∷ [])
 unfolding computing
 plans-B ws = (
   (λ w. let m = run-more (w .1) in
-      ⊎-elim
-      (λ a. ⊎-elim (λ b. inl (m .5 ∙ ap₂ _++_ (a .0) (b .0))) absurd (step-is after-one (a .1) (m .4)))
-      (λ r. ⊎-elim (λ a. ⊎-elim (λ b. inr (m .5 ∙ ap₂ _++_ (a .0) (b .0))) absurd (step-is after-two (a .1) (m .4))) absurd r)
-      (run-first step-B (m .3))),
-  (λ e. ⊎-elim
-      (λ q. subst (WholePlan case-B) (sym q) (_, more (more none (step-of (step-B .each .0))) (step-of (after-one .each .0))))
-      (λ q. subst (WholePlan case-B) (sym q) (_, more (more none (step-of (step-B .each .1 .0))) (step-of (after-two .each .0))))
-      e),
+      let a = run-first step-B best-B (m .3) in
+      let b = step-is after-two best-after (a .1) (m .4) in
+      m .5 ∙ ap₂ _++_ (a .0) (b .0)),
+  (λ e. subst (WholePlan case-B) (sym e) (_, more (more none (step-of step-B best-B)) (step-of after-two best-after))),
 )
 
 pub cases : Cases
@@ -153,12 +159,10 @@ cases = record {
   p2-sets = λ ws. listed case-B ws (3 ∷ []) (lit< tt) (sets-B 3);
   p2-load = refl;
   p2-plans = plans-B;
-  p3 = λ ws q s. ⊎-elim
-      (λ a. inl (a .0, standing-at case-B (a .1) 1 (lit< tt)))
-      (λ r. ⊎-elim (λ a. inr (a .0, standing-at case-B (a .1) 1 (lit< tt))) absurd r)
-      (step-is step-B (refl, λ i l. refl) s);
-  p3-behind = (_, step-of (step-B .each .0));
-  p3-ahead = (_, step-of (step-B .each .1 .0));
+  p3 = λ ws q s.
+      let a = step-is step-B best-B (refl, λ i l. refl) s in
+      (a .0, standing-at case-B (a .1) 1 (lit< tt));
+  p3-ahead = (_, step-of step-B best-B);
   p4-sets = λ ws. listed (case-B-with 4) ws (3 ∷ []) (lit< tt) (sets-B 4);
   p4-load = refl;
   p4 = verdict-by (bytes (case-B-with 4)) (3 ∷ []) 0 0 tt tt refl;
@@ -178,6 +182,8 @@ cases = record {
   late = Off.late 2 refl (lit≤ tt);
   all-done = B-not-off finished (2 ∷ 3 ∷ []) (λ k e. let z : _≡_ {A = ℕ} 0 1 = cc in omega arith) (lit≤ tt) tt;
   on-time = B-not-off (due 1) (1 ∷ 2 ∷ []) (λ k e. let z : 1 ≡ k = cc in omega arith) (lit≤ tt) tt;
+  other-loads = step-B .each .0 .qualify;
+  other-state = B-not-off (due 1) (1 ∷ 1 ∷ []) (λ k e. let z : 1 ≡ k = cc in omega arith) (lit≤ tt) tt;
   ahead = Off.row 0 (lit< tt) (rounded-test 2 (share case-B 0 4) (hyperperiod case-B) .of);
   spare = Off.spare 2 (lit≤ tt) (lit< tt) (λ e. let z : _≡_ {A = ℕ} 1 0 = e in omega arith);
 }

@@ -6,5 +6,6 @@ pub mod Lags
 pub mod Sets
 pub mod Ties
 pub mod Verdict
+pub mod Plans
 pub mod Steps
 pub mod Cases

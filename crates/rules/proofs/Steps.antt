@@ -5,13 +5,14 @@
 --   Summed t k had x D    the sum of the loads x over a set D is as it has to be
 --   chosen t k had c i     row i's load for interval k: up to its share rounded up where c has bit i, else rounded down
 --   Outcome                loads, and words
---   Outcomes t k had outs  outs are what a step can choose and write in interval k, for rows that have had `had` slots already
+--   Outcomes t k had outs  outs are the loads that qualify in interval k, with their words, for rows that have had `had` slots already
+--   Best t k had outs o    o is one of these outcomes, and no other is greater
 --   At n q s had           the planner q is at stage s and its n rows have had `had` slots
 use mathlib.Core.Path.{_≡_, refl, sym, ap, ap₂, _∙_, subst}
 use mathlib.Core.Logic.{_⊎_, inl, inr}
-use mathlib.Core.List.{List, [], _++_}
+use mathlib.Core.List.{List, _++_}
 use mathlib.Core.Bool.{Bool, true, false, cond, _&&_}
-use Prim.Native.Nat.{ℕ, zero, suc, _+_, _-_, _*_, _^_, _≤_, _<_}
+use Prim.Native.Nat.{ℕ, _+_, _-_, _*_, _^_, _≤_, _<_}
 use native.Mathlib.Omega.{arith}
 use lib.Dec.{T, ltb, eqb, eqb→eq, lt→ltb}
 use lib.IntN.{pos, _-ℤ_}
@@ -26,8 +27,8 @@ use Rattle.numbers.proofs.Word.{word, bit-word, word-lt, bit-lt, lt-of-bits}
 use Rattle.rules.specs.Bus.{Table, overlap}
 use Rattle.rules.specs.Line.{OverlapSet, Sets, lineFirst}
 use Rattle.rules.specs.Loads.{hyperperiod, start, end, share}
-use Rattle.rules.specs.Interval.{Qualify, free, moves, SlotWords}
-use Rattle.rules.specs.Planner.{Stage, due, Planner, fresh, reached, standing, next, Step, Run, none, more}
+use Rattle.rules.specs.Interval.{Qualify, Greatest, free, moves, SlotWords}
+use Rattle.rules.specs.Planner.{Stage, due, Planner, reached, standing, next, Step, Run}
 use Rattle.numbers.proofs.Tests.{
   Test,
   lt-test,
@@ -44,11 +45,12 @@ use Rattle.numbers.proofs.Tests.{
   each-test,
   OneOf,
   EachOf,
-  one-with,
+  one-out,
   one-map,
 }
 use Rattle.rules.proofs.Sets.{set-in}
 use Rattle.rules.proofs.Interval.{moves-lt, words-only}
+use Rattle.rules.proofs.Plans.{greatest-only, run-none, run-more}
 
 abbrev pub Same : ℕ → (ℕ → ℕ) → (ℕ → ℕ) → Type 0
 Same n x y = (i : ℕ) → i < n → x i ≡ y i
@@ -196,6 +198,30 @@ module _ (t : Table) (ws : List ℕ) (A : Sets t ws) (k : ℕ) (had : ℕ → �
         each = r .1;
       }
 
+-- ---- the greatest of them
+
+-- at the first row where another outcome differs it has less
+pub record Best (t : Table) (k : ℕ) (had : ℕ → ℕ) (outs : List Outcome) (b : Outcome) : Type 0 where
+  pub fits : Fits t k had b
+  pub beats : EachOf outs (λ o. (i : ℕ) → i < t .rows → ((j : ℕ) → j < i → at (o .0) j ≡ at (b .0) j) → at (o .0) i ≤ at (b .0) i)
+
+abbrev pub best-test : (t : Table) (ws : List ℕ) → Sets t ws → (k : ℕ) (had : ℕ → ℕ) (outs : List Outcome) (b : Outcome)
+    → Test (Best t k had outs b)
+best-test t ws A k had outs b =
+    as-test (and-test (fits-test t ws A k had outs b)
+    (each-test outs _ (λ o. every-test (t .rows) (λ i.
+    if-test (every-test i (λ j. eq-test (at (o .0) j) (at (b .0) j))) (le-test (at (o .0) i) (at (b .0) i))))))
+    (λ h. record { fits = h .0; beats = h .1 })
+    (λ B. (B .fits, B .beats))
+
+module _ {t : Table} {k : ℕ} {had : ℕ → ℕ} {outs : List Outcome} {b : Outcome} (O : Outcomes t k had outs) (B : Best t k had outs b) where
+  pub best-greatest : Greatest (t .rows) (Qualify t k had) (at (b .0))
+  best-greatest = record {
+    qualify = B .fits .qualify;
+    most = λ z Q i l same.
+        one-out outs (λ o f e. omega (arith, e i l, f i l (λ j m. sym (e j (omega arith)) ∙ same j m))) (B .beats) (O .only z Q);
+  }
+
 -- ---- steps and runs
 
 abbrev pub At : ℕ → Planner → Stage → (ℕ → ℕ) → Type 0
@@ -212,50 +238,48 @@ After t k had q ws o = (ws ≡ o .1) × At (t .rows) q (next t k) (moved-on had 
 due-same : (j k : ℕ) → due j ≡ due k → j ≡ k
 due-same j k e = cc
 
-module _ {t : Table} {k : ℕ} {had : ℕ → ℕ} where
-  pub step-is : {outs : List Outcome} {p q : Planner} {ws : List ℕ} → Outcomes t k had outs → At (t .rows) p (due k) had → Step t p q ws
-      → OneOf outs (After t k had q ws)
-  step-is {outs} {p} {q} {ws} O a s =
-      let e : s .interval ≡ k = due-same (s .interval) k (sym (s .is-due) ∙ a .0) in
-      one-with outs (λ o F x. (
-        words-only (t .rows) (overlap t) (lineFirst t) (s .loads) (at (o .0)) (end t k - start t k) x ws (o .1)
-            (subst (λ (j : ℕ). SlotWords (t .rows) (overlap t) (lineFirst t) (s .loads) (end t j - start t j) ws) e (s .words)) (F .words),
-        (s .after ∙ ap (next t) e, λ i l. s .moved i l ∙ ap₂ _+_ (a .1 i l) (x i l)),
-      ))
-      (O .each)
-      (O .only (s .loads) (qualify-same t k (p .totals) had (s .loads) (s .loads) (a .1) (λ i l. refl)
-      (subst (λ (j : ℕ). Qualify t j (p .totals) (s .loads)) e (s .qualify))))
+-- only what the rows have had counts
+greatest-as : {t : Table} {k : ℕ} {had had′ x : ℕ → ℕ} → Same (t .rows) had had′ → Greatest (t .rows) (Qualify t k had) x
+    → Greatest (t .rows) (Qualify t k had′) x
+greatest-as {t} {k} {had} {had′} {x} d G = record {
+  qualify = qualify-same t k had had′ x x d (λ i l. refl) (G .qualify);
+  most = λ z Q. G .most z (qualify-same t k had′ had z z (λ i l. sym (d i l)) (λ i l. refl) Q);
+}
 
-  pub step-of : {o : Outcome} → Fits t k had o
-      → Step t (record { stage = due k; totals = had }) (record { stage = next t k; totals = moved-on had (o .0) }) (o .1)
-  step-of {o} F = record {
+module _ {t : Table} {k : ℕ} {had : ℕ → ℕ} {outs : List Outcome} {o : Outcome} (O : Outcomes t k had outs) (B : Best t k had outs o) where
+  pub step-is : {p q : Planner} {ws : List ℕ} → At (t .rows) p (due k) had → Step t p q ws → After t k had q ws o
+  step-is {p} {q} {ws} a s =
+      let e : s .interval ≡ k = due-same (s .interval) k (sym (s .is-due) ∙ a .0) in
+      let G : Greatest (t .rows) (Qualify t k (p .totals)) (s .loads) =
+      subst (λ (j : ℕ). Greatest (t .rows) (Qualify t j (p .totals)) (s .loads)) e (s .greatest) in
+      let x = greatest-only (greatest-as (a .1) G) (best-greatest O B) in (
+        words-only (t .rows) (overlap t) (lineFirst t) (s .loads) (at (o .0)) (end t k - start t k) x ws (o .1)
+            (subst (λ (j : ℕ). SlotWords (t .rows) (overlap t) (lineFirst t) (s .loads) (end t j - start t j) ws) e (s .words))
+            (B .fits .words),
+        (s .after ∙ ap (next t) e, λ i l. s .moved i l ∙ ap₂ _+_ (a .1 i l) (x i l)),
+      )
+
+  pub step-of : Step t (record { stage = due k; totals = had }) (record { stage = next t k; totals = moved-on had (o .0) }) (o .1)
+  step-of = record {
     interval = k;
     is-due = refl;
     loads = at (o .0);
-    qualify = F .qualify;
-    words = F .words;
-    placed = F .placed;
+    greatest = best-greatest O B;
+    words = B .fits .words;
+    placed = B .fits .placed;
     moved = λ i l. refl;
-    spare = λ i l. let h : length (o .0) ≤ i = omega (arith, F .rows) in omega (arith, List·getD-eq-default (o .0) 0 h);
+    spare = λ i l. let h : length (o .0) ≤ i = omega (arith, B .fits .rows) in omega (arith, List·getD-eq-default (o .0) 0 h);
     after = refl;
   }
 
-module _ {t : Table} where
-  pub run-none : {q : Planner} {ws : List ℕ} → Run t zero q ws → (q ≡ fresh) × (ws ≡ [])
-  run-none none = (refl, refl)
-
-  pub run-more : {k : ℕ} {q : Planner} {ws : List ℕ} → Run t (suc k) q ws
-      → (p : Planner) × (vs : List ℕ) × (us : List ℕ) × Run t k p vs × Step t p q us × (ws ≡ vs ++ us)
-  run-more (more {p = p} {vs = vs} {ws = us} r s) = (p, vs, us, r, s, refl)
-
-  -- the first step of a fresh planner
-  pub run-first : {outs : List Outcome} {q : Planner} {ws : List ℕ} → Outcomes t 0 (λ i. 0) outs → Run t 1 q ws
-      → OneOf outs (After t 0 (λ i. 0) q ws)
-  run-first {outs} {q} {ws} O r =
-      let m = run-more r in
-      let z = run-none (m .3) in
-      one-map outs (λ o a. (m .5 ∙ ap₂ _++_ (z .1) (a .0), a .1))
-      (step-is O (refl, λ i l. refl) (subst (λ (p : Planner). Step t p q (m .2)) (z .0) (m .4)))
+-- the first step of a fresh planner
+pub run-first : {t : Table} {outs : List Outcome} {o : Outcome} {q : Planner} {ws : List ℕ} → Outcomes t 0 (λ i. 0) outs
+    → Best t 0 (λ i. 0) outs o → Run t 1 q ws → After t 0 (λ i. 0) q ws o
+run-first {t} {q = q} O B r =
+    let m = run-more r in
+    let z = run-none (m .3) in
+    let a = step-is O B (refl, λ i l. refl) (subst (λ (p : Planner). Step t p q (m .2)) (z .0) (m .4)) in
+    (m .5 ∙ ap₂ _++_ (z .1) (a .0), a .1)
 
 -- a planner's standings are known by its stage and totals
 pub standing-at : (t : Table) {q : Planner} {s : Stage} {had : ℕ → ℕ} → At (t .rows) q s had → (i : ℕ) → i < t .rows

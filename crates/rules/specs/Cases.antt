@@ -1,7 +1,7 @@
 -- Document 01, "On either side of each limit": the cases marked P, collected under a single statement about the definitions.
 -- It holds statements only; `proofs/Cases.antt` proves `Cases`.
 use mathlib.Core.Path.{_≡_}
-use mathlib.Core.Logic.{_⊎_, _↔_}
+use mathlib.Core.Logic.{_↔_}
 use mathlib.Core.List.{List, [], _∷_}
 use Prim.Native.Nat.{ℕ, _*_}
 use lib.IntN.{pos, negℤ}
@@ -72,18 +72,14 @@ pub record Cases : Type 0 where
   pub p1-end : lineSecond case-A 2 ≡ 5
   pub p1-sets : (ws : List ℕ) → Sets case-A ws ↔ (ws ≡ 3 ∷ 6 ∷ [])
   pub p1-words : (ws : List ℕ) → WholePlan case-A ws ↔ (ws ≡ 5 ∷ 5 ∷ 2 ∷ 0 ∷ [])
-  -- P2: case B: L 4, h 8, load 625, and exactly two plans qualify
+  -- P2: case B: L 4, h 8, load 625, and of the two plans that qualify only the second is left (#110)
   pub p2-interval : shortest case-B ≡ 4
   pub p2-hyper : hyperperiod case-B ≡ 8
   pub p2-sets : (ws : List ℕ) → Sets case-B ws ↔ (ws ≡ 3 ∷ [])
   pub p2-load : reported case-B (3 ∷ []) ≡ 625
-  pub p2-plans : (ws : List ℕ) → WholePlan case-B ws
-      ↔ ((ws ≡ 1 ∷ 2 ∷ 0 ∷ 0 ∷ 1 ∷ 2 ∷ 2 ∷ 0 ∷ []) ⊎ (ws ≡ 1 ∷ 2 ∷ 2 ∷ 0 ∷ 1 ∷ 2 ∷ 0 ∷ 0 ∷ []))
-  -- P3: in B, after interval 0, row 1 stands at −4 or 4: at −4 after the first plan's words, at 4 after the second's, and there are both
-  pub p3 : (ws : List ℕ) (q : Planner) → Step case-B fresh q ws
-      → ((ws ≡ 1 ∷ 2 ∷ 0 ∷ 0 ∷ []) × (standing case-B q 1 ≡ negℤ (pos 4)))
-      ⊎ ((ws ≡ 1 ∷ 2 ∷ 2 ∷ 0 ∷ []) × (standing case-B q 1 ≡ pos 4))
-  pub p3-behind : (q : Planner) × Step case-B fresh q (1 ∷ 2 ∷ 0 ∷ 0 ∷ [])
+  pub p2-plans : (ws : List ℕ) → WholePlan case-B ws ↔ (ws ≡ 1 ∷ 2 ∷ 2 ∷ 0 ∷ 1 ∷ 2 ∷ 0 ∷ 0 ∷ [])
+  -- P3: in B, after interval 0, row 1 stands at 4; and there is such a step
+  pub p3 : (ws : List ℕ) (q : Planner) → Step case-B fresh q ws → (ws ≡ 1 ∷ 2 ∷ 2 ∷ 0 ∷ []) × (standing case-B q 1 ≡ pos 4)
   pub p3-ahead : (q : Planner) × Step case-B fresh q (1 ∷ 2 ∷ 2 ∷ 0 ∷ [])
   -- P4: B with the second cost 4: exactly at 3/4, admitted
   pub p4-sets : (ws : List ℕ) → Sets (case-B-with 4) ws ↔ (ws ≡ 3 ∷ [])
@@ -117,5 +113,8 @@ pub record Cases : Type 0 where
   pub all-done : ¬ Off case-B (B-at finished (2 ∷ 3 ∷ []))
   -- or if a total is not the share rounded down or up, here 1 and 1 1/2, or one past the last row is not 0
   pub on-time : ¬ Off case-B (B-at (due 1) (1 ∷ 2 ∷ []))
+  -- B's other loads, 1 and 1, qualify too; since #110 no step takes them, but a state that they left is not off
+  pub other-loads : Qualify case-B 0 none-had (at (1 ∷ 1 ∷ []))
+  pub other-state : ¬ Off case-B (B-at (due 1) (1 ∷ 1 ∷ []))
   pub ahead : Off case-B (B-at (due 1) (2 ∷ 1 ∷ []))
   pub spare : Off case-B (B-at (due 1) (1 ∷ 2 ∷ 1 ∷ []))

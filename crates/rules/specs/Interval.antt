@@ -3,6 +3,7 @@
 --   lag t k had i        row i's lag for interval k, where it has had `had i` slots already, in units of 1 / h; it can be below zero
 --   ByLags t k had x     x are loads that qualify for interval k, said of lags
 --   Qualify t k had x    x are loads that qualify for interval k, said of slots had and shares
+--   Greatest n Q x       of all loads of n rows that meet Q, x are those in which row 0's is greatest, among those row 1's, and so on
 --   before f j i         row j is taken before row i: by ascending first end on the line, equal ones by row number
 --   hinders o f j i      row j is taken before row i and overlaps it
 --   free n o f P i s     slot s is free for row i: no earlier row that overlaps it has s
@@ -51,6 +52,12 @@ pub record Qualify (t : Table) (k : ℕ) (had x : ℕ → ℕ) : Type 0 where
 -- Both are the same (proofs/Lags.antt).
 abbrev pub Qualify-by-lags : Type 0
 Qualify-by-lags = (t : Table) (k : ℕ) (had x : ℕ → ℕ) → 0 < hyperperiod t → Qualify t k had x ↔ ByLags t k had x
+
+-- Document 02, #110: of all load sets that qualify, the one in which row 0's load is greatest, among those row 1's, and so on. Only one x
+-- fits, on the n rows (proofs/Plans.antt).
+pub record Greatest (n : ℕ) (Q : (ℕ → ℕ) → Type 0) (x : ℕ → ℕ) : Type 0 where
+  pub qualify : Q x
+  pub most : (z : ℕ → ℕ) → Q z → (i : ℕ) → i < n → ((j : ℕ) → j < i → z j ≡ x j) → z i ≤ x i
 
 unfoldable pub before : (first : ℕ → ℕ) → ℕ → ℕ → Bool
 before first j i = ltb (first j) (first i) || (eqb (first j) (first i) && ltb j i)

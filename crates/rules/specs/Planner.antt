@@ -6,7 +6,7 @@
 --   reached t s        the first slot of the interval due, or h when finished
 --   Off t p            the planner's state is off
 --   standing t p i     row i's standing
---   Step t p q ws      a step from p writes ws and hands back q
+--   Step t p q ws      a step from p writes ws and hands back q, by the greatest loads that qualify (#110)
 --   Run t k q ws       k steps from fresh write ws, joined in order, and hand back q
 --   WholePlan t ws     ws is what a fresh planner's steps write
 use mathlib.Core.Path.{_≡_}
@@ -22,7 +22,7 @@ use Rattle.rules.specs.Bounds.{max-rows}
 use Rattle.rules.specs.Bus.{Table, overlap}
 use Rattle.rules.specs.Line.{OverlapSet, lineFirst}
 use Rattle.rules.specs.Loads.{hyperperiod, start, end, intervals, share}
-use Rattle.rules.specs.Interval.{Qualify, moves, SlotWords}
+use Rattle.rules.specs.Interval.{Qualify, Greatest, moves, SlotWords}
 
 pub data Stage : Type 0 where
   due : ℕ → Stage
@@ -58,7 +58,7 @@ pub record Step (t : Table) (p q : Planner) (ws : List ℕ) : Type 0 where
   pub interval : ℕ
   pub is-due : p .stage ≡ due interval
   pub loads : ℕ → ℕ
-  pub qualify : Qualify t interval (p .totals) loads
+  pub greatest : Greatest (t .rows) (Qualify t interval (p .totals)) loads
   pub words : SlotWords (t .rows) (overlap t) (lineFirst t) loads (end t interval - start t interval) ws
   -- Every load is placed whole, so totals are slots really moved in.
   pub placed : (i : ℕ) → i < t .rows → count (end t interval - start t interval) (moves ws i) ≡ loads i

@@ -5,8 +5,7 @@
 --   set-lines ws       the lines of the overlap sets whose words are ws
 --   slot-lines ws      the lines of the slots whose words are ws
 --   max-input          it reads at most so many bytes
---   Printed Plan input ls   the program prints the lines ls for what stands on its standard input, with a plan that `Plan` allows:
---                      document 01 allows any `WholePlan`
+--   Printed input ls   the program prints the lines ls for what stands on its standard input
 use mathlib.Core.Path.{_≡_}
 use mathlib.Core.Logic.{_≢_}
 use mathlib.Core.List.{List, [], _∷_, _++_}
@@ -18,6 +17,7 @@ use Rattle.rules.specs.TableFile.{fileTable}
 use Rattle.rules.specs.Line.{Sets}
 use Rattle.rules.specs.Line as line
 use Rattle.rules.specs.Loads.{hyperperiod, shortest, reported}
+use Rattle.rules.specs.Planner.{WholePlan}
 use Rattle.rules.specs.Refusals.{Answers, verdict-checks}
 use Rattle.rules.specs.Text.{Line, says}
 
@@ -60,10 +60,10 @@ abbrev pub max-input : ℕ
 max-input = 392
 
 -- On a refusal it prints its first line only.
-pub data Printed (Plan : Table → List ℕ → Type 0) (input : List ℕ) : List Line → Type 0 where
+pub data Printed (input : List ℕ) : List Line → Type 0 where
   refused : (number place : ℕ) → Answers (verdict-checks (take max-input input)) number place → number ≢ 0
-      → Printed Plan input (verdict number place ∷ [])
+      → Printed input (verdict number place ∷ [])
   admitted : (t : Table) (sets plan : List ℕ) → t ≡ fileTable (take max-input input) → Answers (verdict-checks (take max-input input)) 0 0
-      → Sets t sets → Plan t plan
-      → Printed Plan input
+      → Sets t sets → WholePlan t plan
+      → Printed input
       (verdict 0 0 ∷ (values (line.cut t) (shortest t) (hyperperiod t) (reported t sets) ++ (set-lines sets ++ slot-lines plan)))

@@ -8,7 +8,6 @@ use lib.ListN.{length, take, length-take}
 use Rattle.rules.specs.Bounds.{max-slots}
 use Rattle.rules.specs.TableFile.{fileTable}
 use Rattle.rules.specs.Planner.{WholePlan}
-use Rattle.report.specs.Rendered.{ChosenPlan}
 use Rattle.report.proofs.Printed.{planned}
 use Rattle.report.proofs.put_plan.Statement.{statement}
 use Rattle.report.proofs.put_plan.Tie as tie
@@ -25,8 +24,7 @@ hyper z = entry z .args .hyper
 abbrev plan : tie.After-whole-plan → List ℕ
 plan z = take (hyper z) (z .whole-plan .last .1 .0)
 
-found : (z : tie.After-whole-plan) → WholePlan (fileTable (file z)) (plan z) × ChosenPlan (fileTable (file z)) (plan z)
-    × (length (plan z) ≡ hyper z) × (hyper z ≤ max-slots)
+found : (z : tie.After-whole-plan) → WholePlan (fileTable (file z)) (plan z) × (length (plan z) ≡ hyper z) × (hyper z ≤ max-slots)
 found z = planned (file z) (entry z .pre .0) (omega arith) (entry z .pre .1) (z .whole-plan .ensures)
 
 slice-aggregate-whole-plan : tie.Need-slice-aggregate-whole-plan
@@ -38,15 +36,15 @@ whole-plan-requires c κs = search needs
 array-share-prefix-plan : tie.Need-array-share-prefix-plan
 array-share-prefix-plan c =
     let z = c .before in
-    omega (arith, length-take (hyper z) (z .whole-plan .last .1 .0), found z .2)
+    omega (arith, length-take (hyper z) (z .whole-plan .last .1 .0), found z .1)
 
 slice-aggregate-put-slots : tie.Need-slice-aggregate-put-slots
-slice-aggregate-put-slots c = sym (found (c .before .before) .2)
+slice-aggregate-put-slots c = sym (found (c .before .before) .1)
 
 put-slots-requires : tie.Need-put-slots-requires
 put-slots-requires c κs =
     let z = c .before .before .before in
-    omega (arith, found z .2, found z .3)
+    omega (arith, found z .1, found z .2)
 
 same-length : tie.Need-same-length
 same-length c = search needs
@@ -55,7 +53,7 @@ returns : tie.Need-returns
 returns c =
     let z = c .before .before .before .before .before .before in
     let P = c .before .before .put-slots .ensures in
-    (plan z, found z .0, found z .1, (P .0, omega (arith, P .1, found z .2, found z .3)))
+    (plan z, found z .0, (P .0, omega (arith, P .1, found z .1, found z .2)))
 
 pub put-plan-spec : {M : Type 1} → statement M
 put-plan-spec =
