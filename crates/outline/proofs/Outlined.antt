@@ -22,7 +22,6 @@ use Rattle.rules.proofs.Answers.{
   passed,
   stopped,
   joined,
-  answered,
   none-of,
   none-left,
   none-right,
@@ -30,7 +29,7 @@ use Rattle.rules.proofs.Answers.{
   answers-only,
 }
 use Rattle.rules.proofs.Sets.{sets-only}
-use Rattle.table.specs.Sound.{Sound, Passed}
+use Rattle.table.specs.Sound.{Passed}
 use Rattle.ring.proofs.Cut.{cut-high, cut-none}
 use Rattle.sets.specs.Sets.{OnLine, Listed}
 use Rattle.sets.proofs.Listed.{listed-only}

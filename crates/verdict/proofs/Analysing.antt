@@ -41,7 +41,8 @@ module _ (t : Table) where
       pub analysed-next : w .answer .number ≢ 0 → Analysed (table-checks t) t (blank (w .answer))
       analysed-next h =
           analysed-refused (w .answer) h
-          (joined (line-checks t) (bound-checks t) (w .answer .number) (w .answer .place) (outlined-none (line-numbered t) O z) (W .answers))
+          (joined (line-checks t) (bound-checks t) (w .answer .number) (w .answer .place) (outlined-none (line-numbered t) O z)
+          (W .answers))
 
       -- none
       pub analysed-done : w .answer .number ≡ 0 → {xs : List ℕ} → ByRow (t .rows) (rate t) xs

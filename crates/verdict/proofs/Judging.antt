@@ -84,8 +84,8 @@ module _ {t : Table} {l : Layout} (A : LaidOut t l) where
           )
 
 -- past the checks of a table as it is given its verdict is the file's
-pub judged-past : (f : List ℕ) (p : ℕ) → Answers (given-checks f) 0 p → (r : Verdict) → JudgedBy (table-checks (fileTable f)) (fileTable f) r
-    → IsVerdict f r
+pub judged-past : (f : List ℕ) (p : ℕ) → Answers (given-checks f) 0 p
+    → (r : Verdict) → JudgedBy (table-checks (fileTable f)) (fileTable f) r → IsVerdict f r
 judged-past f p a r J = record { answers = given-passes f p a (numberOf r) (placeOf r) (J .answers); done = J .done; refused = J .refused }
 
 -- ---- only one verdict fits

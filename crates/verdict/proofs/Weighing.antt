@@ -2,7 +2,7 @@
 use mathlib.Core.Path.{_≡_, sym, ap, _∙_}
 use mathlib.Core.Bool.{Bool}
 use mathlib.Core.List.{List}
-use Prim.Native.Nat.{ℕ, _+_, _*_, _/_, _≤_, _<_}
+use Prim.Native.Nat.{ℕ, _+_, _*_, _≤_, _<_}
 use native.Mathlib.Omega.{arith}
 use lib.Dec.{T, eqb}
 use lib.ListN.{length, take, length-take}
@@ -114,7 +114,8 @@ module _ {t : Table} {c : Time} {first second xs : List ℕ} (A : Weighable t c 
           record {
             answers =
                 answers-at (bound-checks t) (w .answer) (over-bound t a .number) a e
-                (over-refused t (sound .rows-low) (take k ws) list none-light a (omega (arith, count)) (omega (arith, count, L .few)) (u .0) (u .1));
+                (over-refused t (sound .rows-low) (take k ws) list none-light a (omega (arith, count)) (omega (arith, count, L .few))
+                (u .0) (u .1));
             done = λ z. absurd (omega (arith, e .0, z));
           }
 

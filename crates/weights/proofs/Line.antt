@@ -2,13 +2,13 @@
 --
 --   Passing n first second xs e t h l began k a b x
 --                        the walk, when it has come to element e: k sets are passed and weighed, and rows of load x use the segment to e
-use mathlib.Core.Path.{_≡_, refl, sym, ap, ap₂, _∙_}
+use mathlib.Core.Path.{_≡_, refl, sym, ap, _∙_}
 use mathlib.Core.Logic.{⊎-elim, _≢_}
 use mathlib.Core.Bool.{Bool, true, false, not, _&&_, _||_, cond}
 use mathlib.Core.List.{List}
 use Prim.Native.Nat.{ℕ, _+_, _*_, _≤_, _<_, max}
 use native.Mathlib.Omega.{arith}
-use lib.Dec.{T, eqb, ltb, leb, eqb→eq}
+use lib.Dec.{T, eqb, eqb→eq}
 use lib.ListN.{length, set, replicate, length-replicate, length-set}
 use lib.Seq.{getD-set-same, getD-set-other}
 use Rattle.numbers.specs.Finite.{only, sum, sumIn}
@@ -23,7 +23,8 @@ use Rattle.sets.specs.Walk.{line-size, across, endsAt}
 use Rattle.sets.specs.Sets.{OnLine, Listed}
 use Rattle.sets.proofs.Overlap.{across-is, across-of}
 use Rattle.sets.proofs.List.{acrossWord, bit-across}
-use Rattle.sets.proofs.Loops.{Here, here, Walked, walked-start, walked-room, ended-put, ended-none, ended-still, walked-starts, walked-on, walked-end}
+use Rattle.sets.proofs.Loops.{Here, here, Walked, walked-start, walked-room, walked-starts, walked-on, walked-end}
+use Rattle.sets.proofs.Loops.{ended-put, ended-none, ended-still}
 use Rattle.weights.specs.Weights.{Rates, weight, past, nextLowest, SumsAt, Weighed}
 use Rattle.weights.proofs.Weighing.{weight-small, weighed-start, weighed-next, weighed-more}
 
@@ -222,7 +223,8 @@ module _ {n : ℕ} {first second : ℕ → ℕ} {xs : List ℕ} {top e : ℕ} {t
       words = cond (began && d) (set (P .words) k (acrossWord n first second e)) (P .words);
       walked = walk began s d (P .walked) (rw (p, q) at-e) (omega (arith, O .few, length-replicate {A = ℕ} max-rows 0));
       weighed = weigh (acrossWord n first second e) (began && d) (P .weighed)
-          (λ c. omega (arith, passing-room d q c, P .walked .filled .same, length-replicate {A = ℕ} max-rows 0, O .few)) (P .load) passing-small;
+          (λ c. omega (arith, passing-room d q c, P .walked .filled .same, length-replicate {A = ℕ} max-rows 0, O .few))
+          (P .load) passing-small;
       load = omega (arith, z, passing-load .1);
     }
 

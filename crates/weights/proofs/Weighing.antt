@@ -9,7 +9,7 @@ use native.Mathlib.Nat.{le-of-dvd, eq-or-lt-of-le, mul-le-mul, mul-le-mul-right,
 use native.Mathlib.Omega.{arith}
 use lib.Dec.{T, ltb, eqb, eqb→eq, lt→ltb}
 use borrow.Author.Count.{below-more}
-use Rattle.numbers.specs.Finite.{every, lowest, sumIn, largest}
+use Rattle.numbers.specs.Finite.{every, lowest, largest}
 use Rattle.numbers.specs.Word.{bit}
 use Rattle.numbers.specs.Lists.{at}
 use Rattle.numbers.proofs.Truth.{both, fst, snd, decide, is-true, is-false, of-true, eqb-of, le-or-lt, refutes}

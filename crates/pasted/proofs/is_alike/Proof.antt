@@ -1,7 +1,6 @@
 -- is_alike: the second ends differ, or the periods decide.
 use mathlib.Core.Path.{sym, ap, ap₂, _∙_}
 use mathlib.Core.Bool.{Bool, _&&_}
-use native.Mathlib.Omega.{arith}
 use borrow.Author.Needs.{needs}
 use lib.Dec.{eqb, eqb→eq}
 use Rattle.numbers.specs.Lists.{at}
@@ -35,7 +34,8 @@ returns-2 c =
     let d = e .before in
     let z = d .before .before .args in
     sym (ap₂ _&&_
-    (is-true (eqb (at (z .second .now) (z .j)) (at (z .second .now) (z .i))) (eqb-of _ _ (sym (d .before .end-at .ensures) ∙ e .if1 .left ∙ d .end-at2 .ensures)))
+    (is-true (eqb (at (z .second .now) (z .j)) (at (z .second .now) (z .i)))
+    (eqb-of _ _ (sym (d .before .end-at .ensures) ∙ e .if1 .left ∙ d .end-at2 .ensures)))
     (ap₂ eqb (sym (c .before .slots-at .ensures)) (sym (c .slots-at2 .ensures))))
 
 pub is-alike-spec : {M : Type 1} → statement M

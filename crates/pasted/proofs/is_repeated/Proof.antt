@@ -18,7 +18,8 @@ use Rattle.pasted.proofs.is_repeated.Tie as tie
 
 abbrev Inv-loop : tie.InvT-loop
 Inv-loop rows period second i left₀ left =
-    any max-rows (λ j. bit left j && alike (at period) (at second) i j) ≡ any max-rows (λ j. bit rows j && alike (at period) (at second) i j)
+    any max-rows (λ j. bit left j && alike (at period) (at second) i j)
+    ≡ any max-rows (λ j. bit rows j && alike (at period) (at second) i j)
 
 abbrev μ-loop : tie.MeasureT-loop
 μ-loop rows period second i left₀ left = count 64 (bit left)

@@ -61,7 +61,8 @@ loop-again c =
     let hyper = u .before .args .hyper in (
       omega arith,
       by-row-put _ (u .loop .inv .1) (omega arith)
-          (ap₂ (λ (x y : ℕ). x * y) (j .jobs-in .ensures ∙ ap (λ (p : ℕ). hyper / p) (j .before .slots-at .ensures)) (c .slots-at2 .ensures)),
+          (ap₂ (λ (x y : ℕ). x * y) (j .jobs-in .ensures ∙ ap (λ (p : ℕ). hyper / p) (j .before .slots-at .ensures))
+          (c .slots-at2 .ensures)),
       j .jobs-in .ensures,
     )
 

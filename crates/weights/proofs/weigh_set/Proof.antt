@@ -1,7 +1,5 @@
 -- weigh_set: a set that closes is one more, else nothing changes.
 use mathlib.Core.Path.{refl, ap, _∙_}
-use Prim.Native.Nat.{ℕ}
-use mathlib.Core.Bool.{Bool}
 use native.Mathlib.Omega.{arith}
 use borrow.Author.Needs.{needs}
 use Rattle.weights.specs.Weights.{nextLowest}
