@@ -49,7 +49,7 @@ use Rattle.rules.proofs.Verdict.{
   bound-tests,
 }
 use Rattle.table.specs.Sound.{Sound}
-use Rattle.outline.proofs.AsGiven.{given-numbered, given-passed}
+use Rattle.pasted.proofs.AsGiven.{given-numbered, given-passed}
 use Rattle.ring.proofs.Cut.{cut-high, cut-none}
 use Rattle.verdict.proofs.Bound.{verdict-numbered, verdict-split, sets-exist, admissible-of}
 use Rattle.demands.specs.Demands.{Answered}

@@ -1,5 +1,5 @@
 pub mod Periods
 pub mod Sets
-pub mod AsGiven
 pub mod Outlined
+pub mod Laying
 pub mod Listed

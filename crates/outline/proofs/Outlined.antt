@@ -22,7 +22,6 @@ use Rattle.rules.proofs.Answers.{
   passed,
   stopped,
   joined,
-  answered,
   none-of,
   none-left,
   none-right,
@@ -30,7 +29,7 @@ use Rattle.rules.proofs.Answers.{
   answers-only,
 }
 use Rattle.rules.proofs.Sets.{sets-only}
-use Rattle.table.specs.Sound.{Sound, Passed}
+use Rattle.table.specs.Sound.{Passed}
 use Rattle.ring.proofs.Cut.{cut-high, cut-none}
 use Rattle.sets.specs.Sets.{OnLine, Listed}
 use Rattle.sets.proofs.Listed.{listed-only}
@@ -40,7 +39,7 @@ use Rattle.outline.specs.declared.time.Time.{Time}
 use Rattle.outline.specs.declared.Outline.{Outline}
 use Rattle.outline.specs.Time.{Timed}
 use Rattle.outline.specs.Outlined.{Found, blank, outline-checks, Outlined}
-use Rattle.outline.proofs.AsGiven.{given-numbered, given-passed}
+use Rattle.pasted.proofs.AsGiven.{given-numbered, given-passed}
 use Rattle.outline.proofs.Sets.{Ends, own-ends, ends-on-line, line-list}
 
 -- ---- one shape for number and place
@@ -111,13 +110,6 @@ module _ (f : List ℕ) where
 pub outlined-refused : {cs : List Check} {t : Table} (r : Answer) → r .number ≢ 0 → Answers cs (r .number) (r .place)
     → Outlined cs t (blank r)
 outlined-refused r h a = record { answers = a; found = λ e. absurd (h e); refused = λ e. refl }
-
-pub outlined-found : (t : Table) (o : Outline) → (o .answer .number ≡ 0) × (o .answer .place ≡ 0) → Found t o → Outlined (line-checks t) t o
-outlined-found t o d F = record {
-  answers = rw (d .0, d .1) (answered (line-checks t) (line-none t (F .clear) (F .timed .short)));
-  found = λ e. F;
-  refused = λ e. absurd (e (d .0));
-}
 
 module _ (f : List ℕ) where
   pub outlined-given : (r : Answer) → r .number ≢ 0 → Answers (given-checks f) (r .number) (r .place)

@@ -1,3 +1,4 @@
 pub mod Time
+pub mod Layout
 pub mod Outlined
 pub mod Ties

@@ -1,7 +1,5 @@
 -- A table on the line, as the code's outline shows it.
 --
---   tableWith g M n period first second
---                      the table of M elements and n rows that has the costs g, and periods and ends from arrays
 --   Found t o          o is the outline of the table t, which has none of the faults 4 to 11
 --   blank r            the outline of a refusal: 0 for all but the answer
 --   outline-checks f   1 to 9, 18, 10 and 11, in this order
@@ -11,7 +9,7 @@
 use mathlib.Core.Path.{_≡_}
 use mathlib.Core.Logic.{_≢_}
 use mathlib.Core.List.{List, _++_}
-use Prim.Native.Nat.{ℕ, _≤_, _<_}
+use Prim.Native.Nat.{ℕ, _≤_}
 use lib.ListN.{length, take, replicate}
 use Rattle.numbers.specs.Lists.{at}
 use Rattle.rules.specs.Bounds.{max-rows}
@@ -22,11 +20,7 @@ use Rattle.rules.specs.Refusals.{Check, Answers, given-checks, line-checks}
 use Rattle.table.specs.Columns.{ByRow}
 use Rattle.table.specs.declared.Answer.{Answer}
 use Rattle.outline.specs.declared.Outline.{Outline}
-use Rattle.outline.specs.Time.{Timed}
-
-abbrev pub tableWith : (ℕ → ℕ) → ℕ → ℕ → (period first second : List ℕ) → Table
-tableWith cost elements rows period first second =
-    record { elements = elements; rows = rows; cost = cost; period = at period; first = at first; second = at second }
+use Rattle.outline.specs.Time.{Timed, noTime}
 
 pub record Found (t : Table) (o : Outline) : Type 0 where
   pub timed : Timed t (o .time)
@@ -47,7 +41,7 @@ blank answer = record {
   elements = 0;
   rows = 0;
   cut = 0;
-  time = record { hyper = 0; interval = 0 };
+  time = noTime;
   first = replicate max-rows 0;
   second = replicate max-rows 0;
   sets = 0;

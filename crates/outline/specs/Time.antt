@@ -3,6 +3,7 @@
 --   Periods n p        the periods p of n rows are as a bus allows them
 --   Capped h r         r is h, or 0 where h is above the 4096 slots that a plan may have
 --   Timed t c          c are h and L of the sound table t, which has a short hyperperiod
+--   noTime             the time of no table: what stands beside a refusal
 --   Begins t k s       interval k of table t begins at slot s
 use mathlib.Core.Path.{_≡_}
 use Prim.Native.Nat.{ℕ, _≤_, _<_}
@@ -27,6 +28,9 @@ pub record Timed (t : Table) (c : Time) : Type 0 where
   pub short : hyperperiod t ≤ max-slots
   pub hyper : c .hyper ≡ hyperperiod t
   pub interval : c .interval ≡ shortest t
+
+abbrev pub noTime : Time
+noTime = record { hyper = 0; interval = 0 }
 
 pub record Begins (t : Table) (k s : ℕ) : Type 0 where
   pub in-range : k < intervals t

@@ -1,8 +1,7 @@
 // What a table is on the line: its cut, its rows' ends, its overlap sets, hyperperiod and interval, or a refusal of 1 to 11 and 18.
-mod pasted;
 mod time;
 
-pub use pasted::given;
+use ring::Line;
 use table::Answer;
 use table::Table;
 pub use time::Time;
@@ -16,7 +15,66 @@ ghost use Rattle.rules.specs.TableFile.{fileTable};
 ghost use Rattle.rules.specs.Refusals.{line-checks};
 ghost use Rattle.rules.specs.Calls.{lent, Listed};
 ghost use Rattle.table.specs.Sound.{Sound};
-ghost use Rattle.outline.specs.Outlined.{tableWith, blank, outline-checks, Outlined};
+ghost use Rattle.outline.specs.Layout.{tableWith, noLayout, LaidOut};
+ghost use Rattle.outline.specs.Outlined.{blank, outline-checks, Outlined};
+
+// Where a table's line begins, its time, and its rows' ends on the line. All is 0 but the answer where it is refused.
+pub struct Layout {
+    pub answer: Answer,
+    pub cut: usize,
+    pub time: Time,
+    pub line: Line,
+}
+
+impl Layout {
+    fn refused(answer: Answer) -> Layout
+        ensures { λ r. ⌜ r ≡ noLayout answer ⌝ }
+    {
+        Layout {
+            answer: answer,
+            cut: 0,
+            time: Time {
+                hyper: 0,
+                interval: 0,
+            },
+            line: Line {
+                first: [0; Table::ROWS],
+                second: [0; Table::ROWS],
+            },
+        }
+    }
+}
+
+// A table laid on its line, or the first refusal of 10 and 11. Its costs say nothing of that.
+pub fn layout_of<'a>(
+    elements: usize,
+    rows: usize,
+    period: &'a [u16; Table::ROWS],
+    first: &'a [u8; Table::ROWS],
+    second: &'a [u8; Table::ROWS],
+) -> Layout
+    requires { ⌜ ((cost : ℕ → ℕ) × Sound (tableWith cost elements rows (now period) (now first) (now second))) ⌝ }
+    ensures { λ r. ⌜ ((cost : ℕ → ℕ) → Sound (tableWith cost elements rows (now (period .entry)) (now (first .entry)) (now (second .entry)))
+        → LaidOut (tableWith cost elements rows (now (period .entry)) (now (first .entry)) (now (second .entry))) r) ⌝ }
+{
+    let cut = ring::find_cut(elements, rows, first, second);
+    if cut > elements {
+        return Layout::refused(Answer::at(Answer::NO_CUT, 0));
+    }
+    let hyper = hyperperiod_of(rows, period);
+    if hyper == 0 {
+        return Layout::refused(Answer::at(Answer::LONG_HYPERPERIOD, 0));
+    }
+    Layout {
+        answer: Answer::done(),
+        cut: cut,
+        time: Time {
+            hyper: hyper,
+            interval: shortest_of(rows, period),
+        },
+        line: ring::lay(elements, rows, first, second, cut),
+    }
+}
 
 // A table on the line and in time. All is 0 but the answer where it is refused.
 pub struct Outline {
@@ -52,7 +110,7 @@ impl Outline {
     }
 }
 
-// What a table is on the line and in time, or the first refusal of 10 and 11. Its costs say nothing of that.
+// What a table is on the line and in time, or the first refusal of 10 and 11.
 pub fn outline_of<'a>(
     elements: usize,
     rows: usize,
@@ -65,28 +123,22 @@ pub fn outline_of<'a>(
         → Outlined (line-checks (tableWith cost elements rows (now (period .entry)) (now (first .entry)) (now (second .entry))))
         (tableWith cost elements rows (now (period .entry)) (now (first .entry)) (now (second .entry))) r) ⌝ }
 {
-    let cut = ring::find_cut(elements, rows, first, second);
-    if cut > elements {
-        return Outline::refused(Answer::at(Answer::NO_CUT, 0));
+    let laid = layout_of(elements, rows, period, first, second);
+    let answer = laid.answer;
+    if answer.number != Answer::DONE {
+        return Outline::refused(answer);
     }
-    let hyper = hyperperiod_of(rows, period);
-    if hyper == 0 {
-        return Outline::refused(Answer::at(Answer::LONG_HYPERPERIOD, 0));
-    }
-    let line = ring::lay(elements, rows, first, second, cut);
-    let line_first = line.first;
-    let line_second = line.second;
+    let line_first = laid.line.first;
+    let line_second = laid.line.second;
     let list = sets::list_sets(&line_first, &line_second, rows, elements + 1);
     let words = list.words;
+    let time = laid.time;
     Outline {
-        answer: Answer::done(),
+        answer: answer,
         elements: elements,
         rows: rows,
-        cut: cut,
-        time: Time {
-            hyper: hyper,
-            interval: shortest_of(rows, period),
-        },
+        cut: laid.cut,
+        time: time,
         first: line_first,
         second: line_second,
         sets: list.count,
@@ -98,7 +150,7 @@ pub fn outline_of<'a>(
 fn outline_file(file: &[u8]) -> Outline
     ensures { λ r. ⌜ Outlined (outline-checks (now (file .entry))) (fileTable (now (file .entry))) r ⌝ }
 {
-    let found = given(file);
+    let found = pasted::given(file);
     let answer = found.answer;
     if answer.number != Answer::DONE {
         return Outline::refused(answer);

@@ -47,7 +47,7 @@ module _ (w i : ℕ) (small : i < 64) where
   kept true = refl
   kept false = refl
 
-  other : (j : ℕ) → j ≢ i → bit (without w i) j ≡ bit w j
+  pub other : (j : ℕ) → j ≢ i → bit (without w i) j ≡ bit w j
   other j d =
       toggled j
       ∙ ap (λ (b : Bool). cond (bit w j) (not b) b) (is-false (eqb j i) (λ t. d (eqb→eq j i t))) ∙ kept (bit w j)

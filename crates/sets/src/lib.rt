@@ -11,7 +11,6 @@ ghost use Rattle.numbers.specs.Finite.{sumIn};
 ghost use Rattle.numbers.specs.Word.{bit};
 ghost use Rattle.numbers.specs.Lists.{at};
 ghost use Rattle.rules.specs.Bounds.{max-rows, max-slots};
-ghost use Rattle.sets.specs.Walk.{line-size, RowsAt};
 ghost use Rattle.sets.specs.Sets.{OnLine, Listed};
 
 // The words of the overlap sets, by ascending least second end; those from `count` on are 0.
@@ -25,25 +24,10 @@ impl Sets {
     pub const LINE: usize = Table::ELEMENTS + 2;
 }
 
-// For each element of the line the word of the rows that have this end there.
-pub fn rows_at(ends: &[u8; Table::ROWS], rows: usize) -> [u64; Sets::LINE]
-    requires { ⌜ (rows ≤ max-rows) × ((i : ℕ) → i < rows → at (now ends) i < line-size) ⌝ }
-    ensures { λ r. ⌜ RowsAt rows (at (now (ends .entry))) r ⌝ }
-{
-    let mut words = [0u64; Sets::LINE];
-    let mut i: usize = 0;
-    while i < rows {
-        let e = table::end_at(ends, i);
-        words[e] = words[e] | (1u64 << i);
-        i += 1;
-    }
-    words
-}
-
 // The overlap sets of the first `rows` rows, which run from first to second on a line whose last element is `top`.
-pub fn list_sets(
-    first: &[u8; Table::ROWS],
-    second: &[u8; Table::ROWS],
+pub fn list_sets<'a>(
+    first: &'a [u8; Table::ROWS],
+    second: &'a [u8; Table::ROWS],
     rows: usize,
     top: usize,
 ) -> Sets
@@ -86,7 +70,7 @@ pub fn list_sets(
 }
 
 // A row of a set that has one: the lowest.
-fn lowest_row(word: u64) -> usize
+pub fn lowest_row(word: u64) -> usize
     requires { ⌜ word ≢ 0 ⌝ }
     ensures { λ r. ⌜ (r < 64) × (bit word r ≡ true) ⌝ }
 {

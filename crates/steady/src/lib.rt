@@ -61,8 +61,10 @@ fn sets_keep_step(
     words: &[u64; Table::ROWS],
     totals: &[u64; Table::ROWS],
 ) -> bool
-    requires { ⌜ Bounded rows hyper slot (at (now rate)) × (sets ≤ max-rows) × RowsKeep rows hyper slot (at (now rate)) (at (now totals)) ⌝ }
-    ensures { λ r. ⌜ Decides (SetsKeep rows hyper slot (at (now (rate .entry))) sets (at (now (words .entry))) (at (now (totals .entry)))) r ⌝ }
+    requires { ⌜ Bounded rows hyper slot (at (now rate)) × (sets ≤ max-rows)
+        × RowsKeep rows hyper slot (at (now rate)) (at (now totals)) ⌝ }
+    ensures { λ r. ⌜ Decides
+        (SetsKeep rows hyper slot (at (now (rate .entry))) sets (at (now (words .entry))) (at (now (totals .entry)))) r ⌝ }
 {
     let mut k: usize = 0;
     while k < sets {
@@ -86,7 +88,8 @@ pub fn keeps_step<'a>(
     totals: &'a [u64; Table::ROWS],
 ) -> bool
     requires { ⌜ Bounded rows hyper slot (at (now rate)) × (sets ≤ max-rows) ⌝ }
-    ensures { λ r. ⌜ Decides (KeepsStep rows hyper slot (at (now (rate .entry))) sets (at (now (words .entry))) (at (now (totals .entry)))) r ⌝ }
+    ensures { λ r. ⌜ Decides
+        (KeepsStep rows hyper slot (at (now (rate .entry))) sets (at (now (words .entry))) (at (now (totals .entry)))) r ⌝ }
 {
     if !rows_keep_step(rows, hyper, slot, rate, totals) {
         return false;

@@ -2,6 +2,7 @@
 --
 --   NoneLight t        no row of the table is light
 use mathlib.Core.Path.{_≡_, refl, sym, subst}
+use mathlib.Core.Logic.{_≢_}
 use mathlib.Core.Bool.{Bool}
 use mathlib.Core.List.{List, [], _∷_, _++_, append-assoc}
 use Prim.Native.Nat.{ℕ, _+_, _≤_, _<_}
@@ -18,10 +19,11 @@ use Rattle.rules.specs.Line.{cut, OverlapSet, Sets, lineFirst, lineSecond}
 use Rattle.rules.specs.Loads.{light, over}
 use Rattle.rules.specs.Refusals.{Check, Answers, light-row, over-bound}
 use Rattle.rules.specs.Refusals.{given-checks, line-checks, bound-checks, verdict-checks}
-use Rattle.rules.proofs.Answers.{None, Numbered, stopped, joined, none-join, none-left, none-right, numbered-join}
+use Rattle.rules.proofs.Answers.{None, Numbered, stopped, joined, none-of, none-join, none-left, none-right, numbered-join}
 use Rattle.rules.proofs.Sets.{sets-only, set-in}
 use Rattle.table.specs.Sound.{Sound}
-use Rattle.outline.proofs.AsGiven.{given-passed}
+use Rattle.table.specs.declared.Answer.{Answer}
+use Rattle.pasted.proofs.AsGiven.{given-numbered, given-passed}
 use Rattle.ring.proofs.OnLine.{line-ordered}
 use Rattle.sets.proofs.List.{setsTo, setsTo-few, sets-are}
 use Rattle.outline.proofs.Sets.{ring-list}
@@ -122,10 +124,25 @@ table-admissible t s a =
       bounded = bounded t (s .rows-low) (e .0) (e .1) (none-within t (s .rows-low) (e .0) (e .1) n (e .2));
     }
 
+-- none of 10 and 11 applies, and 13 and 14 give no refusal
+pub table-none : (t : Table) → None (line-checks t) → (r : Answer) → r .number ≡ 0 → Answers (bound-checks t) (r .number) (r .place)
+    → None (table-checks t)
+table-none t n r z a = none-join (line-checks t) (bound-checks t) n (none-of (bound-checks t) (r .place) (bound-numbered t) (rw z at a))
+
 -- the verdict's checks are those of the table as it is given, then those of its line and bound
 pub verdict-split : (f : List ℕ) → verdict-checks f ≡ given-checks f ++ table-checks (fileTable f)
 unfolding verdict-checks
 verdict-split f = append-assoc (given-checks f) (line-checks (fileTable f)) (bound-checks (fileTable f))
+
+-- an answer of the first stands, and past them the second's does
+pub given-stops : (f : List ℕ) (n p : ℕ) → n ≢ 0 → Answers (given-checks f) n p → Answers (verdict-checks f) n p
+given-stops f n p h a = rw (verdict-split f) (stopped (given-checks f) (table-checks (fileTable f)) n p h a)
+
+pub given-passes : (f : List ℕ) (q : ℕ) → Answers (given-checks f) 0 q → (n p : ℕ) → Answers (table-checks (fileTable f)) n p
+    → Answers (verdict-checks f) n p
+given-passes f q g n p a =
+    rw (verdict-split f)
+    (joined (given-checks f) (table-checks (fileTable f)) n p (none-of (given-checks f) q (given-numbered f) g) a)
 
 pub admissible-of : (f : List ℕ) → None (verdict-checks f) → Admissible (fileTable f)
 admissible-of f a =

@@ -1,58 +1,92 @@
--- The verdict on a file: what it is of each analysis, that only one fits, and demand 2.
+-- The verdict of each outcome, that only one fits a file, and demand 2.
 use mathlib.Core.Path.{_≡_, refl, sym, ap, ap₂, _∙_}
 use mathlib.Core.Logic.{_≢_}
 use mathlib.Core.List.{List}
-use Prim.Native.Nat.{ℕ}
+use Prim.Native.Nat.{ℕ, _≤_}
 use native.Mathlib.Omega.{arith}
-use lib.ListN.{length, take, length-take}
+use lib.ListN.{length}
+use Rattle.rules.specs.Bounds.{max-rows}
+use Rattle.rules.specs.Bus.{Table}
 use Rattle.rules.specs.TableFile.{fileTable}
 use Rattle.rules.specs.Loads.{reported}
-use Rattle.rules.specs.Refusals.{verdict-checks}
-use Rattle.rules.specs.Calls as calls
-use Rattle.rules.proofs.Answers.{none-of, answered, answers-only}
+use Rattle.rules.specs.Refusals.{Check, Answers, given-checks, line-checks, bound-checks, verdict-checks}
+use Rattle.rules.proofs.Answers.{None, none-of, stopped, joined, answered, answers-only, none-position, position-none}
 use Rattle.rules.proofs.Sets.{sets-only}
 use Rattle.ring.proofs.Cut.{cut-low}
-use Rattle.verdict.specs.declared.Analysis.{Analysis}
+use Rattle.table.specs.declared.Answer.{Answer}
+use Rattle.outline.specs.declared.Layout.{Layout}
+use Rattle.outline.specs.Layout.{LaidOut}
+use Rattle.outline.proofs.Outlined.{line-numbered}
+use Rattle.verdict.specs.declared.Loaded.{Loaded}
 use Rattle.verdict.specs.declared.Verdict.{Verdict}
 use Rattle.verdict.specs.declared.Verdict.the-variants.{Admitted, Refused}
-use Rattle.table.specs.declared.Answer.{Answer}
-use Rattle.verdict.specs.Analysed.{blank, Analysed}
-use Rattle.verdict.specs.Verdict.{numberOf, Tells, IsVerdict}
+use Rattle.verdict.specs.Weighing.{Weighs}
+use Rattle.verdict.specs.Analysed.{table-checks}
+use Rattle.verdict.specs.Verdict.{numberOf, placeOf, JudgedBy, IsVerdict}
 use Rattle.verdict.specs.Demand.{Demand-2}
-use Rattle.rules.proofs.Answers.{none-position, position-none}
-use Rattle.verdict.proofs.Bound.{verdict-numbered, admissible-of}
+use Rattle.verdict.proofs.Bound.{verdict-numbered, sets-exist, table-none, table-admissible, given-passes, admissible-of}
+use Rattle.verdict.proofs.Weighing.{reported-small}
 
--- ---- the verdict of an analysis
+-- ---- the verdict of each outcome
 
-pub judged : (f : List ℕ) {a : Analysis} {r : Verdict} → Analysed (verdict-checks f) (fileTable f) a → Tells a r → IsVerdict f r
-judged f {a} {r} A K = record {
-  answers = rw (K .number, K .place) (A .answers);
-  done = λ e.
-      let F = A .found (sym (K .number) ∙ e) in
-      let O = F .outline in
-      let sound = O .timed .sound in
-      record {
-        list = take (a .outline .sets) (a .outline .words);
-        listed = O .list;
-        cut-is = K .cut ∙ O .cut;
-        interval-is = K .interval ∙ O .timed .interval;
-        hyper-is = K .hyper ∙ O .timed .hyper;
-        load-is = K .load ∙ F .load;
-        sets-is = omega (arith, K .sets, length-take (a .outline .sets) (a .outline .words), O .few, O .size);
-      };
-  refused = λ h.
-      let b = A .refused (λ q. h (K .number ∙ q)) in (
-        K .cut ∙ ap (λ (x : Analysis). x .outline .cut) b,
-        K .interval ∙ ap (λ (x : Analysis). x .outline .time .interval) b,
-        K .hyper ∙ ap (λ (x : Analysis). x .outline .time .hyper) b,
-        K .load ∙ ap (λ (x : Analysis). x .load) b,
-        K .sets ∙ ap (λ (x : Analysis). x .outline .sets) b,
-      );
-}
+pub judged-refused : {cs : List Check} {t : Table} (r : Answer) → r .number ≢ 0 → Answers cs (r .number) (r .place)
+    → JudgedBy cs t (Refused (r .number) (r .place))
+judged-refused r h a = record { answers = a; done = λ e. absurd (h e); refused = λ e. (refl, refl, refl, refl, refl) }
 
-pub tells-refused : (a : Answer) → Tells (blank a) (Refused (a .number) (a .place))
-tells-refused a =
-    record { number = refl; place = refl; cut = refl; interval = refl; hyper = refl; load = refl; sets = refl }
+module _ {t : Table} {l : Layout} (A : LaidOut t l) where
+  -- 10 or 11
+  pub judged-first : l .answer .number ≢ 0 → JudgedBy (table-checks t) t (Refused (l .answer .number) (l .answer .place))
+  judged-first h =
+      judged-refused (l .answer) h
+      (stopped (line-checks t) (bound-checks t) (l .answer .number) (l .answer .place) h (A .answers))
+
+  module _ (z : l .answer .number ≡ 0) (w : Loaded) (W : Weighs t w) where
+    none-line : None (line-checks t)
+    none-line = none-of (line-checks t) (l .answer .place) (line-numbered t) (rw z at (A .answers))
+
+    -- 13 or 14
+    pub judged-next : w .answer .number ≢ 0 → JudgedBy (table-checks t) t (Refused (w .answer .number) (w .answer .place))
+    judged-next h =
+        judged-refused (w .answer) h
+        (joined (line-checks t) (bound-checks t) (w .answer .number) (w .answer .place) none-line (W .answers))
+
+    module _ (y : w .answer .number ≡ 0) where
+      none : None (table-checks t)
+      none = table-none t none-line (w .answer) y (W .answers)
+
+      -- none
+      pub judged-admitted : JudgedBy (table-checks t) t (Admitted (l .cut) (l .time .interval) (l .time .hyper) (w .load) (w .sets))
+      judged-admitted =
+          let L = A .found z in
+          let v = W .done y in
+          record {
+            answers = answered (table-checks t) none;
+            done = λ e. record {
+              list = v .0;
+              listed = v .1;
+              cut-is = L .cut;
+              interval-is = L .timed .interval;
+              hyper-is = L .timed .hyper;
+              load-is = v .3;
+              sets-is = v .2;
+            };
+            refused = λ h. absurd (h refl);
+          }
+
+      -- the values fit
+      pub values-small : (w .load ≤ 1000) × (w .sets ≤ max-rows)
+      values-small =
+          let s = A .found z .timed .sound in
+          let v = W .done y in
+          let few = sets-exist t s (A .found z .clear) in (
+            omega (arith, v .3, reported-small (table-admissible t s none) (v .0) (v .1)),
+            omega (arith, v .2, ap length (sets-only (s .rows-low) (v .1) (few .1)), few .2),
+          )
+
+-- past the checks of a table as it is given its verdict is the file's
+pub judged-past : (f : List ℕ) (p : ℕ) → Answers (given-checks f) 0 p
+    → (r : Verdict) → JudgedBy (table-checks (fileTable f)) (fileTable f) r → IsVerdict f r
+judged-past f p a r J = record { answers = given-passes f p a (numberOf r) (placeOf r) (J .answers); done = J .done; refused = J .refused }
 
 -- ---- only one verdict fits
 

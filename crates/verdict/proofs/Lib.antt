@@ -1,4 +1,4 @@
-pub mod Weighing
 pub mod Bound
+pub mod Weighing
 pub mod Analysing
 pub mod Judging

@@ -3,18 +3,12 @@
 --   Accepted t a       a is the analysis of the table t, which is admitted
 --   blank r            the analysis of a refusal: 0 for all but the answer
 --   table-checks t     10 to 14, in their order
---   Ready t o          o is the outline of table t, which none of 10 to 12 refuses
---   noWeights r        the weights of a refusal: 0 for all but the answer
---   withWeights o w    the analysis that the outline o and the weights w make up: that of a refusal where w has one
 --   Analysed cs t a    a answers the checks cs, and is what is found of table t where none of them applies
 --
 -- Only one analysis fits a table and its checks (proofs/Analysing, `analysed-only`).
 use mathlib.Core.Path.{_≡_}
 use mathlib.Core.Logic.{_≢_}
 use mathlib.Core.List.{List, _++_}
-use mathlib.Core.Bool.{cond}
-use Prim.Native.Nat.{ℕ}
-use lib.Dec.{eqb}
 use lib.ListN.{take, replicate}
 use Rattle.rules.specs.Bounds.{max-rows}
 use Rattle.rules.specs.Bus.{Table}
@@ -22,11 +16,9 @@ use Rattle.rules.specs.Loads as loads
 use Rattle.rules.specs.Refusals.{Check, Answers, line-checks, bound-checks}
 use Rattle.table.specs.Columns.{ByRow}
 use Rattle.table.specs.declared.Answer.{Answer}
-use Rattle.outline.specs.Outlined.{Found, Outlined}
-use Rattle.outline.specs.declared.Outline.{Outline}
+use Rattle.outline.specs.Outlined.{Found}
 use Rattle.outline.specs.Outlined as outline
 use Rattle.lags.specs.Lags.{Admissible}
-use Rattle.verdict.specs.declared.Loaded.{Loaded}
 use Rattle.verdict.specs.declared.Analysis.{Analysis}
 
 pub record Accepted (t : Table) (a : Analysis) : Type 0 where
@@ -40,16 +32,6 @@ blank answer = record { outline = outline.blank answer; load = 0; rate = replica
 
 abbrev pub table-checks : Table → List Check
 table-checks t = line-checks t ++ bound-checks t
-
-pub record Ready (t : Table) (o : Outline) : Type 0 where
-  pub outlined : Outlined (line-checks t) t o
-  pub done : o .answer .number ≡ 0
-
-abbrev pub noWeights : Answer → Loaded
-noWeights answer = record { answer = answer; load = 0; rate = replicate max-rows 0 }
-
-abbrev pub withWeights : Outline → Loaded → Analysis
-withWeights o w = cond (eqb (w .answer .number) 0) (record { outline = o; load = w .load; rate = w .rate }) (blank (w .answer))
 
 pub record Analysed (cs : List Check) (t : Table) (a : Analysis) : Type 0 where
   pub answers : Answers cs (a .outline .answer .number) (a .outline .answer .place)

@@ -1,4 +1,4 @@
-pub mod Weights
+pub mod Weighing
 pub mod Analysed
 pub mod Verdict
 pub mod Demand

@@ -2,13 +2,16 @@
 --
 --   numberOf, placeOf                             the refusal's number and place, 0 and 0 where admitted
 --   cutOf, intervalOf, hyperOf, loadOf, setsOf    cut, L, h, reported load and number of sets; 0 on a refusal
---   Tells a r                                     r has the answer and the values of the analysis a
+--   JudgedBy cs t r                               r is the verdict on table t by the checks cs
 --   IsVerdict f r                                 r is the verdict on file f
 use mathlib.Core.Path.{_≡_}
 use mathlib.Core.List.{List}
 use Prim.Native.Nat.{ℕ}
-use Rattle.rules.specs.Calls.{Judged}
-use Rattle.verdict.specs.declared.Analysis.{Analysis}
+use Rattle.rules.specs.Bus.{Table}
+use Rattle.rules.specs.TableFile.{fileTable}
+use Rattle.rules.specs.Refusals.{Check, verdict-checks}
+use Rattle.rules.specs.Calls as calls
+use Rattle.rules.specs.Calls.{Call}
 use Rattle.verdict.specs.declared.Verdict.{Verdict}
 use Rattle.verdict.specs.declared.Verdict.the-variants.{Admitted, Refused}
 
@@ -40,14 +43,10 @@ abbrev pub setsOf : Verdict → ℕ
 setsOf (Admitted cut interval hyper load sets) = sets
 setsOf (Refused number place) = 0
 
-pub record Tells (a : Analysis) (r : Verdict) : Type 0 where
-  pub number : numberOf r ≡ a .outline .answer .number
-  pub place : placeOf r ≡ a .outline .answer .place
-  pub cut : cutOf r ≡ a .outline .cut
-  pub interval : intervalOf r ≡ a .outline .time .interval
-  pub hyper : hyperOf r ≡ a .outline .time .hyper
-  pub load : loadOf r ≡ a .load
-  pub sets : setsOf r ≡ a .outline .sets
+abbrev pub JudgedBy : List Check → Table → Verdict → Type 0
+JudgedBy cs t r =
+    Call cs (numberOf r) (placeOf r) (calls.Admitted t (cutOf r) (intervalOf r) (hyperOf r) (loadOf r) (setsOf r))
+    ((cutOf r ≡ 0) × (intervalOf r ≡ 0) × (hyperOf r ≡ 0) × (loadOf r ≡ 0) × (setsOf r ≡ 0))
 
 abbrev pub IsVerdict : List ℕ → Verdict → Type 0
-IsVerdict f r = Judged f (numberOf r) (placeOf r) (cutOf r) (intervalOf r) (hyperOf r) (loadOf r) (setsOf r)
+IsVerdict f r = JudgedBy (verdict-checks f) (fileTable f) r

@@ -8,7 +8,7 @@ use Rattle.rules.specs.TableFile.{fileTable}
 use Rattle.rules.specs.Refusals.{Answers, given-checks}
 use Rattle.table.specs.Sound.{Sound}
 use Rattle.table.specs.Columns.{tableOf}
-use Rattle.outline.proofs.AsGiven.{given-of}
+use Rattle.pasted.proofs.AsGiven.{given-of}
 use Rattle.outline.proofs.Outlined.{answers-zero, outlined-given, outlined-past}
 use Rattle.outline.proofs.outline_file.Statement.{statement}
 use Rattle.outline.proofs.outline_file.Tie as tie

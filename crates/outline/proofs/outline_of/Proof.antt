@@ -1,155 +1,59 @@
--- outline_of: each refusal stands as its check gives it, and what is left is found.
-use mathlib.Core.Path.{_≡_, refl, ap, _∙_}
-use Prim.Native.Nat.{ℕ, _≤_}
+-- outline_of: a layout, and the list of its sets.
+use Prim.Native.Nat.{ℕ}
 use native.Mathlib.Omega.{arith}
 use borrow.Author.Needs.{needs}
-use lib.ListN.{take}
-use Rattle.numbers.specs.Lists.{at}
 use Rattle.rules.specs.Bus.{Table}
-use Rattle.rules.specs.Line.{cut}
-use Rattle.ring.proofs.Rows.{sound-routes, ring-cut, laid-first, laid-second}
-use Rattle.ring.proofs.Cut.{cut-low}
-use Rattle.lags.proofs.Intervals.{hyperperiod-positive, shortest-is}
-use Rattle.outline.specs.Outlined.{tableWith}
-use Rattle.outline.proofs.Periods.{periods-of, capped-hyper, capped-some, capped-none}
-use Rattle.outline.proofs.Sets.{Ends, ends-on-line, ring-list}
-use Rattle.outline.proofs.Outlined.{cut-refused, long-refused, outlined-refused, outlined-found, answers-at}
+use Rattle.outline.specs.Layout.{tableWith}
+use Rattle.outline.proofs.Laying.{outlined-unlaid, lies-on-line, outlined-laid}
 use Rattle.outline.proofs.outline_of.Statement.{statement}
 use Rattle.outline.proofs.outline_of.Tie as tie
 
--- the table, whatever its costs, and its cut
-abbrev table : tie.Start → (ℕ → ℕ) → Table
-table z cost =
-    tableWith cost (z .args .elements) (z .args .rows) (z .args .period .now) (z .args .first .now) (z .args .second .now)
+-- the table, whatever its costs
+abbrev table : tie.After-layout-of → (ℕ → ℕ) → Table
+table d cost =
+    let a = d .before .args in
+    tableWith cost (a .elements) (a .rows) (a .period .now) (a .first .now) (a .second .now)
 
-is-cut : (d : tie.After-find-cut) (cost : ℕ → ℕ) → d .find-cut .result ≡ cut (table (d .before) cost)
-is-cut d cost = d .find-cut .ensures ∙ ring-cut (table (d .before) cost)
-
-find-cut-requires : tie.Need-find-cut-requires
-find-cut-requires c κs = sound-routes (c .pre .1)
-
-at-requires : tie.Need-at-requires
-at-requires c κs = search needs
+layout-of-requires : tie.Need-layout-of-requires
+layout-of-requires c κs = c .pre
 
 refused-requires : tie.Need-refused-requires
 refused-requires c κs = search needs
 
+abbrev taken : tie.Else1 → tie.After-layout-of
+taken e = e .before .before .before
+
 returns : tie.Need-returns
 returns c cost s =
-    let d = c .before .before .before in
-    let t = table (d .before) cost in
-    rw (c .refused .ensures)
-    (outlined-refused _ (λ q. omega (arith, c .before .at .ensures .0))
-    (answers-at _ _ _ _ (c .before .at .ensures) (cut-refused t (omega (arith, is-cut d cost, c .before .before .if1 .taken)))))
+    let d = c .before .before .before .before in
+    rw (c .refused .ensures) (outlined-unlaid (d .layout-of .ensures cost s) (c .before .if1 .taken))
 
-hyperperiod-of-requires : tie.Need-hyperperiod-of-requires
-hyperperiod-of-requires c κs = periods-of (c .before .before .pre .1)
-
-at-requires-2 : tie.Need-at-requires-2
-at-requires-2 c κs = search needs
-
-refused-requires-2 : tie.Need-refused-requires-2
-refused-requires-2 c κs = search needs
-
-returns-2 : tie.Need-returns-2
-returns-2 c cost s =
-    let h = c .before .before .before in
-    let d = h .before .before in
-    let t = table (d .before) cost in
-    let long = capped-none (capped-hyper t (h .hyperperiod-of .ensures)) (c .before .before .if2 .taken) (hyperperiod-positive s) in
-    rw (c .refused2 .ensures)
-    (outlined-refused _ (λ q. omega (arith, c .before .at2 .ensures .0))
-    (answers-at _ _ _ _ (c .before .at2 .ensures) (long-refused t (omega (arith, is-cut d cost, h .before .if1 .left)) long)))
-
--- ---- past both tests all is found
-
-abbrev at-cut : tie.Else2 → tie.After-find-cut
-at-cut e = e .before .before .before
-
-abbrev entry : tie.Else2 → tie.Start
-entry e = at-cut e .before
-
-module _ (e : tie.Else2) (cost : ℕ → ℕ) where
-  clear : cut (table (entry e) cost) ≤ table (entry e) cost .elements
-  clear = omega (arith, is-cut (at-cut e) cost, e .before .before .if1 .left)
-
-lay-requires : tie.Need-lay-requires
-lay-requires c κs =
-    let p = entry c .pre in
-    (sound-routes (p .1), omega (arith, is-cut (at-cut c) (p .0), clear c (p .0), cut-low (table (entry c) (p .0))))
-
-abbrev laid : tie.After-line-second2 → tie.After-lay
-laid c = c .before .before .before .before
+abbrev unrefused : tie.After-line-second2 → tie.Else1
+unrefused c = c .before .before .before .before
 
 add-list-sets : tie.Need-add-list-sets
-add-list-sets c = let s = entry (laid c .before) .pre .1 in omega arith
-
--- the ends that are laid are the table's
-ends : (d : tie.After-lay) (cost : ℕ → ℕ) → Ends (table (entry (d .before)) cost) (at (d .lay .result .first)) (at (d .lay .result .second))
-ends d cost i l =
-    let e = d .before in
-    let t = table (entry e) cost in
-    let q = is-cut (at-cut e) cost in
-    (laid-first t q (d .lay .ensures) .row i l, laid-second t q (d .lay .ensures) .row i l)
+add-list-sets c = let s = taken (unrefused c) .before .pre .1 in omega arith
 
 list-sets-requires : tie.Need-list-sets-requires
 list-sets-requires c κs =
-    let d = laid c in
-    let e = d .before in
-    let p = entry e .pre in
-    ends-on-line (table (entry e) (p .0)) (p .1) (clear e (p .0)) _ _ (ends d (p .0))
+    let e = unrefused c in
+    let d = taken e in
+    let p = d .before .pre in
+    lies-on-line (d .layout-of .ensures (p .0) (p .1)) (e .if1 .left)
 
-done-requires : tie.Need-done-requires
-done-requires c κs = search needs
-
-shortest-of-requires : tie.Need-shortest-of-requires
-shortest-of-requires c κs = periods-of (entry (laid (c .before .before .before) .before) .pre .1)
-
-returns-3 : tie.Need-returns-3
-returns-3 c cost z =
-    let L = c .before .before .before in
-    let d = laid (L .before) in
-    let e = d .before in
-    let t = table (entry e) cost in
-    let q = is-cut (at-cut e) cost in
-    let h = capped-some (capped-hyper t (e .before .hyperperiod-of .ensures)) (e .if2 .left) in
-    let s = L .list-sets .result in
-    let S = L .list-sets .ensures in
-    outlined-found t _ (c .before .done .ensures)
-    (record {
-      timed = record {
-        sound = z;
-        short = omega (arith, h);
-        hyper = h .0;
-        interval = shortest-is z (c .shortest-of .ensures);
-      };
-      clear = clear e cost;
-      elements = refl;
-      rows = refl;
-      cut = q;
-      first = laid-first t q (d .lay .ensures);
-      second = laid-second t q (d .lay .ensures);
-      few = S .few;
-      list = ring-list t z (clear e cost) _ _ (ends d cost) (take (s .count) (s .words)) (S .sets);
-      size = S .size;
-      rest = S .rest;
-    })
+returns-2 : tie.Need-returns-2
+returns-2 c cost s =
+    let L = c .before .before in
+    let e = unrefused (L .before) in
+    outlined-laid (taken e .layout-of .ensures cost s) (e .if1 .left) _ _ (L .list-sets .ensures)
 
 pub outline-of-spec : {M : Type 1} → statement M
 outline-of-spec =
     tie.close
     (tie.spec
-    find-cut-requires
-    at-requires
+    layout-of-requires
     refused-requires
     returns
-    hyperperiod-of-requires
-    at-requires-2
-    refused-requires-2
-    returns-2
-    lay-requires
     add-list-sets
     list-sets-requires
-    done-requires
-    shortest-of-requires
-    returns-3)
+    returns-2)

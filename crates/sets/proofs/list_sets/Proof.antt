@@ -155,7 +155,8 @@ mul-ending c = omega (arith, on-line c)
 array-read-ending : tie.Need-array-read-ending Inv-loop μ-loop Inv-loop2 μ-loop2
 array-read-ending c = omega (arith, on-line c, ends c .size)
 
-has-room : (c : tie.Then2 Inv-loop μ-loop Inv-loop2 μ-loop2) → c .before .before .before .loop2 .count < c .before .before .before .before .before .before .args .rows
+has-room : (c : tie.Then2 Inv-loop μ-loop Inv-loop2 μ-loop2)
+    → c .before .before .before .loop2 .count < c .before .before .before .before .before .before .args .rows
 has-room c =
     let d = c .before .before in
     walked-room (d .before .loop2 .inv .1) (at-e d) (some-there (ends d) _ (on-line d) (c .before .if1 .taken)) (c .if2 .taken)

@@ -60,7 +60,8 @@ loop-again c =
     let e = d .lowest-row .ensures in
     ⊎-elim
     (λ w.
-    omega (arith, w, z .loop .inv, sum-without (z .loop .left) (d .lowest-row .result) (e .0) (at (a .xs .now)) (a .rows) (w .0 .taken) (e .1)))
+    let s = sum-without (z .loop .left) (d .lowest-row .result) (e .0) (at (a .xs .now)) (a .rows) (w .0 .taken) (e .1) in
+    omega (arith, w, z .loop .inv, s))
     (λ w. omega (arith, w, z .loop .inv, sum-past (z .loop .left) (d .lowest-row .result) (e .0) (at (a .xs .now)) (a .rows) (omega arith)))
     (c .if1 .came)
 

@@ -7,7 +7,7 @@ use Rattle.rules.specs.TableFile.{fileTable}
 use Rattle.rules.specs.Refusals.{Answers, given-checks}
 use Rattle.table.specs.Sound.{Sound}
 use Rattle.table.specs.Columns.{tableOf}
-use Rattle.outline.proofs.AsGiven.{given-of}
+use Rattle.pasted.proofs.AsGiven.{given-of}
 use Rattle.outline.proofs.Outlined.{answers-zero}
 use Rattle.verdict.proofs.Analysing.{analysed-given, analysed-past}
 use Rattle.verdict.proofs.analyse.Statement.{statement}

@@ -7,10 +7,10 @@ use Rattle.rules.specs.TableFile.{fileTable}
 use Rattle.rules.specs.Refusals.{Answers, given-checks}
 use Rattle.table.specs.Sound.{Sound}
 use Rattle.table.specs.Columns.{tableOf}
-use Rattle.outline.proofs.AsGiven.{given-of}
+use Rattle.pasted.proofs.AsGiven.{given-of}
 use Rattle.outline.proofs.Outlined.{answers-zero}
-use Rattle.verdict.proofs.Analysing.{analysed-given, analysed-past}
-use Rattle.verdict.proofs.Judging.{judged, tells-refused}
+use Rattle.verdict.proofs.Bound.{given-stops}
+use Rattle.verdict.proofs.Judging.{judged-refused, judged-past}
 use Rattle.verdict.proofs.judge.Statement.{statement}
 use Rattle.verdict.proofs.judge.Tie as tie
 
@@ -35,7 +35,7 @@ given-requires c κs = search needs
 returns : tie.Need-returns
 returns c =
     let a = c .before .before .before .given in
-    judged _ (analysed-given _ (a .result .answer) (c .if1 .taken) (a .ensures .answers)) (tells-refused _)
+    judged-refused (a .result .answer) (c .if1 .taken) (given-stops _ _ _ (c .if1 .taken) (a .ensures .answers))
 
 judge-table-requires : tie.Need-judge-table-requires
 judge-table-requires c κs = sound (c .before .before .before .before .before)
@@ -43,8 +43,7 @@ judge-table-requires c κs = sound (c .before .before .before .before .before)
 returns-2 : tie.Need-returns-2
 returns-2 c =
     let e = c .before .before .before .before .before .before in
-    let v = c .judge-table .ensures in
-    judged (bytes e) (analysed-past (bytes e) _ (checked e) (rw (held e) at (v .1))) (v .2)
+    judged-past (bytes e) _ (checked e) (c .judge-table .result) (rw (held e) at (c .judge-table .ensures))
 
 pub judge-spec : {M : Type 1} → statement M
 judge-spec = tie.close (tie.spec given-requires returns judge-table-requires returns-2)

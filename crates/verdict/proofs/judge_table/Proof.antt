@@ -1,129 +1,134 @@
--- judge_table: the verdict tells what the analysis of each outcome has; the values of a table that is admitted fit.
-use mathlib.Core.Path.{refl, sym}
+-- judge_table: the verdict of each outcome; the values of a table that is admitted fit.
+use Prim.Native.Nat.{_≤_}
 use native.Mathlib.Omega.{arith}
 use Rattle.numbers.specs.Lists.{at}
+use Rattle.rules.specs.Bounds.{max-rows}
 use Rattle.rules.specs.Bus.{Table}
-use Rattle.rules.specs.Refusals.{line-checks}
 use Rattle.table.specs.Columns.{columnTable}
-use Rattle.outline.specs.Outlined.{Outlined}
+use Rattle.outline.specs.Layout.{Lies, LaidOut}
 use Rattle.lags.proofs.Intervals.{shortest-le}
-use Rattle.verdict.specs.declared.Analysis.{Analysis}
-use Rattle.verdict.specs.Analysed.{table-checks, Accepted, Ready, withWeights, Analysed}
-use Rattle.verdict.proofs.Analysing.{still, analysed-first, analysed-as, with-refused, with-done, load-small}
-use Rattle.verdict.proofs.Judging.{tells-refused}
+use Rattle.weights.proofs.Weighing.{times-of, rates-are}
+use Rattle.verdict.specs.Weighing.{Weighable, Weighs}
+use Rattle.verdict.proofs.Judging.{judged-first, judged-next, judged-admitted, values-small}
 use Rattle.verdict.proofs.judge_table.Statement.{statement}
 use Rattle.verdict.proofs.judge_table.Tie as tie
 
-abbrev table : tie.After-outline-of → Table
+abbrev table : tie.After-layout-of → Table
 table d =
     let a = d .before .args in
     columnTable (a .elements) (a .rows) (a .cost .now) (a .period .now) (a .first .now) (a .second .now)
 
-outlined : (d : tie.After-outline-of) → Outlined (line-checks (table d)) (table d) (d .outline-of .result)
-outlined d = d .outline-of .ensures (at (d .before .args .cost .now)) (d .before .pre)
+laid : (d : tie.After-layout-of) → LaidOut (table d) (d .layout-of .result)
+laid d = d .layout-of .ensures (at (d .before .args .cost .now)) (d .before .pre)
 
--- past the first refusal the outline is ready
-abbrev asked : tie.Else1 → tie.After-outline-of
-asked z = z .before .before .before
-
-ready : (z : tie.Else1) → Ready (table (asked z)) (asked z .outline-of .result)
-ready z = record { outlined = outlined (asked z); done = z .if1 .left }
-
-weighed : (w : tie.After-weigh)
-    → let d = asked (w .before) in
-    Analysed (table-checks (table d)) (table d) (withWeights (d .outline-of .result) (w .weigh .result))
-weighed w =
-    let a = asked (w .before) .before .args in
-    w .weigh .ensures (a .elements) (a .rows) (a .first .now) (a .second .now) (ready (w .before))
-
--- past the second it is admitted
-abbrev passed : tie.Else2 → tie.After-weigh
-passed e = e .before .before .before
-
-abbrev whole : tie.Else2 → Analysis
-whole e =
-    let w = passed e in
-    record { outline = asked (w .before) .outline-of .result; load = w .weigh .result .load; rate = w .weigh .result .rate }
-
-admitted : (e : tie.Else2)
-    → let d = asked (passed e .before) in Analysed (table-checks (table d)) (table d) (whole e)
-admitted e = analysed-as (with-done _ _ (e .if2 .left)) (weighed (passed e))
-
-accepted : (e : tie.Else2) → Accepted (table (asked (passed e .before))) (whole e)
-accepted e = admitted e .found (passed e .before .if1 .left)
-
-outline-of-requires : tie.Need-outline-of-requires
-outline-of-requires c κs = (at (c .args .cost .now), c .pre)
+layout-of-requires : tie.Need-layout-of-requires
+layout-of-requires c κs = (at (c .args .cost .now), c .pre)
 
 returns : tie.Need-returns
 returns c =
     let d = c .before .before .before in
-    (_, analysed-first (table d) _ (outlined d) (c .if1 .taken), tells-refused _)
+    judged-first (laid d) (c .if1 .taken)
+
+-- the way back from the rates to the first refusal, and from the weights to the rates
+abbrev asked : tie.Else1 → tie.After-layout-of
+asked e = e .before .before .before
+
+abbrev unrefused : tie.After-rates → tie.Else1
+unrefused d = d .before .before
+
+abbrev rated : tie.After-weigh → tie.After-rates
+rated w = w .before .before .before .before .before
+
+ready : (d : tie.After-rates)
+    → let a = asked (unrefused d) in
+    let r = a .layout-of .result in
+    Weighable (table a) (r .time) (r .line .first) (r .line .second) (d .rates .result)
+ready d =
+    let e = unrefused d in
+    let F = laid (asked e) .found (e .if1 .left) in
+    record {
+      timed = F .timed;
+      clear = F .clear;
+      first = F .first;
+      second = F .second;
+      rate = rates-are (table (asked e)) (F .timed .hyper) (d .rates .ensures);
+    }
+
+weighed : (w : tie.After-weigh) → Weighs (table (asked (unrefused (rated w)))) (w .weigh .result)
+weighed w =
+    let a = asked (unrefused (rated w)) .before .args in
+    w .weigh .ensures (a .first .now) (a .second .now) (ready (rated w))
+
+rates-requires : tie.Need-rates-requires
+rates-requires c κs =
+    let e = c .before in
+    let T = laid (asked e) .found (e .if1 .left) .timed in
+    (times-of (T .sound), omega (arith, T .hyper, T .short))
 
 weigh-requires : tie.Need-weigh-requires
 weigh-requires c κs =
-    let a = asked c .before .args in
-    (a .elements, a .rows, a .first .now, a .second .now, ready c)
+    let d = c .before .before .before .before in
+    let a = asked (unrefused d) .before .args in
+    (a .first .now, a .second .now, ready d)
 
 returns-2 : tie.Need-returns-2
 returns-2 c =
     let w = c .before .before .before in
-    (_, analysed-as (with-refused _ _ (c .if2 .taken)) (weighed w), tells-refused _)
+    let e = unrefused (rated w) in
+    judged-next (laid (asked e)) (e .if1 .left) _ (weighed w) (c .if2 .taken)
 
-cast-t13 : tie.Need-cast-t13
-cast-t13 c =
-    let F = accepted (c .before .before) .outline in
-    let s = F .timed .sound in
-    omega (arith, F .cut, F .clear)
+-- past the second refusal it is admitted
+abbrev passed : tie.Else2 → tie.After-weigh
+passed e = e .before .before .before
 
-cast-t14 : tie.Need-cast-t14
-cast-t14 c =
-    let T = accepted (c .before .before .before) .outline .timed in
+lies : (e : tie.Else2) → let a = asked (unrefused (rated (passed e))) in Lies (table a) (a .layout-of .result)
+lies e = let u = unrefused (rated (passed e)) in laid (asked u) .found (u .if1 .left)
+
+small : (e : tie.Else2) → let r = passed e .weigh .result in (r .load ≤ 1000) × (r .sets ≤ max-rows)
+small e =
+    let u = unrefused (rated (passed e)) in
+    values-small (laid (asked u)) (u .if1 .left) _ (weighed (passed e)) (e .if2 .left)
+
+cast-t20 : tie.Need-cast-t20
+cast-t20 c =
+    let L = lies c in
+    let s = L .timed .sound in
+    omega (arith, L .cut, L .clear)
+
+cast-t21 : tie.Need-cast-t21
+cast-t21 c =
+    let T = lies (c .before) .timed in
     omega (arith, T .interval, shortest-le (T .sound))
 
-cast-t15 : tie.Need-cast-t15
-cast-t15 c =
-    let T = accepted (c .before .before .before .before) .outline .timed in
+cast-t22 : tie.Need-cast-t22
+cast-t22 c =
+    let T = lies (c .before .before) .timed in
     omega (arith, T .hyper, T .short)
 
-cast-t16 : tie.Need-cast-t16
-cast-t16 c = omega (arith, load-small (accepted (c .before .before .before .before .before)))
+cast-t23 : tie.Need-cast-t23
+cast-t23 c = omega (arith, small (c .before .before .before) .0)
 
-cast-t17 : tie.Need-cast-t17
-cast-t17 c =
-    let F = accepted (c .before .before .before .before .before .before) .outline in
-    let s = F .timed .sound in
-    omega (arith, F .few)
+cast-t24 : tie.Need-cast-t24
+cast-t24 c = omega (arith, small (c .before .before .before .before) .1)
 
 returns-3 : tie.Need-returns-3
 returns-3 c =
-    let e = c .before .before .before .before .before .before in
-    let d = asked (passed e .before) in
-    let z = passed e .before .if1 .left in (
-      whole e,
-      admitted e,
-      record {
-        number = omega (arith, z);
-        place = sym (still (table d) _ (outlined d) z);
-        cut = refl;
-        interval = refl;
-        hyper = refl;
-        load = refl;
-        sets = refl;
-      },
-    )
+    let e = c .before .before .before .before in
+    let u = unrefused (rated (passed e)) in
+    judged-admitted (laid (asked u)) (u .if1 .left) _ (weighed (passed e)) (e .if2 .left)
 
 pub judge-table-spec : {M : Type 1} → statement M
 judge-table-spec =
     tie.close
     (tie.spec
-    outline-of-requires
+    layout-of-requires
     returns
+    rates-requires
     weigh-requires
     returns-2
-    cast-t13
-    cast-t14
-    cast-t15
-    cast-t16
-    cast-t17
+    cast-t20
+    cast-t21
+    cast-t22
+    cast-t23
+    cast-t24
     returns-3)

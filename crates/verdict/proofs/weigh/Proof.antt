@@ -1,5 +1,5 @@
--- weigh: each return is the analysis of its outcome.
-use mathlib.Core.Path.{_≡_, sym, ap, _∙_}
+-- weigh: each return answers 13 and 14, and the last has what is found of the sets.
+use mathlib.Core.Path.{_≡_, refl, ap, _∙_}
 use mathlib.Core.List.{List}
 use Prim.Native.Nat.{ℕ}
 use native.Mathlib.Omega.{arith}
@@ -7,114 +7,85 @@ use borrow.Author.Needs.{needs}
 use Rattle.numbers.specs.Finite.{lowest}
 use Rattle.rules.specs.Bus.{Table}
 use Rattle.rules.specs.Loads as loads
-use Rattle.table.specs.Columns.{ByRow, columnTable}
-use Rattle.outline.specs.Outlined.{Found}
-use Rattle.outline.specs.declared.Outline.{Outline}
+use Rattle.table.specs.Columns.{columnTable}
+use Rattle.table.specs.declared.Answer.{Answer}
 use Rattle.lags.proofs.Intervals.{hyperperiod-positive, shortest-positive, shortest-le}
-use Rattle.verdict.specs.declared.Loaded.{Loaded}
-use Rattle.verdict.specs.Analysed.{Ready}
-use Rattle.verdict.proofs.Weighing.{rates-small}
-use Rattle.verdict.proofs.Analysing.{analysed-light, analysed-over, analysed-done, analysed-as, with-refused, with-done}
-use Rattle.verdict.proofs.Analysing.{found-equal, found-light, found-times, found-rates}
+use Rattle.weights.proofs.Weighing.{times-of, rates-small}
+use Rattle.verdict.specs.Weighing.{Weighable}
+use Rattle.verdict.proofs.Weighing.{weighable-light, weighable-on-line, weighs-light, weighs-over, weighs-done}
 use Rattle.verdict.proofs.weigh.Statement.{statement}
 use Rattle.verdict.proofs.weigh.Tie as tie
 
-abbrev outline : tie.Start → Outline
-outline z = z .args .t1
+abbrev table : tie.Start → List ℕ → List ℕ → Table
+table z first second = columnTable (z .args .elements) (z .args .rows) (z .args .cost .now) (z .args .period .now) first second
 
-abbrev table : tie.Start → ℕ → ℕ → List ℕ → List ℕ → Table
-table z M n first second = columnTable M n (z .args .cost .now) (z .args .period .now) first second
+abbrev Given : tie.Start → List ℕ → List ℕ → Type 0
+Given z first second =
+    Weighable (table z first second) (z .args .time) (z .args .starts .now) (z .args .ends .now) (z .args .rate .now)
 
--- the table that it is called with
-found : (z : tie.Start) → Found (table z (z .pre .0) (z .pre .1) (z .pre .2) (z .pre .3)) (outline z)
-found z = z .pre .4 .outlined .found (z .pre .4 .done)
-
--- the way back to the start from the lowest light row, and from the rates and the weights to it
 abbrev entry : tie.After-lowest-light → tie.Start
-entry d = d .before .before .before
+entry d = d .before .before
 
-abbrev at-light : tie.After-rates → tie.After-lowest-light
-at-light d = d .before .before
-
-abbrev rating : tie.After-weigh-sets → tie.After-rates
-rating w = w .before .before .before .before
-
-low : (d : tie.After-lowest-light) (M n : ℕ) (first second : List ℕ)
-    → Ready (table (entry d) M n first second) (outline (entry d))
-    → d .lowest-light .result ≡ lowest (outline (entry d) .rows) (loads.light (table (entry d) M n first second))
-low d M n first second R =
-    d .lowest-light .ensures ∙ ap (lowest (outline (entry d) .rows)) (found-light (R .outlined .found (R .done)))
-
-rated : (d : tie.After-rates) (M n : ℕ) (first second : List ℕ)
-    → Ready (table (entry (at-light d)) M n first second) (outline (entry (at-light d)))
-    → ByRow n (loads.rate (table (entry (at-light d)) M n first second)) (d .rates .result)
-rated d M n first second R = found-rates (R .outlined .found (R .done)) (d .rates .ensures)
+low : (d : tie.After-lowest-light) (first second : List ℕ) → Given (entry d) first second
+    → d .lowest-light .result ≡ lowest (entry d .args .rows) (loads.light (table (entry d) first second))
+low d first second A = d .lowest-light .ensures ∙ ap (lowest (entry d .args .rows)) (weighable-light A)
 
 lowest-light-requires : tie.Need-lowest-light-requires
 lowest-light-requires c κs =
-    let F = found (c .before .before) in
-    (found-times F, omega (arith, F .timed .interval, shortest-le (F .timed .sound)))
+    let T = c .before .pre .2 .timed in
+    (times-of (T .sound), omega (arith, T .interval, shortest-le (T .sound)))
 
 at-requires : tie.Need-at-requires
 at-requires c κs =
-    let F = found (entry (c .before)) in
-    let s = F .timed .sound in
-    omega (arith, F .rows, c .if1 .taken)
+    let s = entry (c .before) .pre .2 .timed .sound in
+    omega (arith, c .if1 .taken)
 
 unweighed-requires : tie.Need-unweighed-requires
 unweighed-requires c κs = search needs
 
 returns : tie.Need-returns
-returns c M n first second R =
+returns c first second A =
     let d = c .before .before .before in
-    let z = entry d in
-    let w = c .unweighed .result in
-    let e = ap (λ (w : Loaded). w .answer .number) (c .unweighed .ensures) in
-    analysed-as (sym (with-refused (outline z) w (λ q. omega (arith, q, e, c .before .at .ensures .0))))
-    (rw (c .unweighed .ensures)
-    (analysed-light (table z M n first second) _ (R .outlined) (R .done) _ (low d M n first second R) (c .before .before .if1 .taken) _
-    (c .before .at .ensures)))
+    let e = c .unweighed .ensures in
+    weighs-light A _ (low d first second A) (c .before .before .if1 .taken) _
+    (ap (λ (r : Answer). r .number) e ∙ c .before .at .ensures .0, ap (λ (r : Answer). r .place) e ∙ c .before .at .ensures .1)
 
-rates-requires : tie.Need-rates-requires
-rates-requires c κs =
-    let F = found (entry (c .before)) in
-    (found-times F, omega (arith, F .timed .hyper, F .timed .short))
+add-weigh-line : tie.Need-add-weigh-line
+add-weigh-line c =
+    let s = entry (c .before) .pre .2 .timed .sound in
+    omega arith
 
-weigh-sets-requires : tie.Need-weigh-sets-requires
-weigh-sets-requires c κs =
-    let d = c .before .before .before in
-    let z = entry (at-light d) in
-    let F = found z in
-    let T = F .timed in
+weigh-line-requires : tie.Need-weigh-line-requires
+weigh-line-requires c κs =
+    let A = entry (c .before) .pre .2 in
+    let T = A .timed in
     let s = T .sound in (
-      rw (F .rows) (rates-small s (T .short) (rated d (z .pre .0) (z .pre .1) (z .pre .2) (z .pre .3) (z .pre .4))),
-      omega (arith, F .few),
+      weighable-on-line A,
+      rates-small s (T .short) (A .rate),
       omega (arith, T .hyper, T .short),
       omega (arith, T .interval, shortest-positive s),
       omega (arith, T .interval, shortest-le s),
     )
 
+abbrev at-light : tie.After-weigh-line → tie.After-lowest-light
+at-light w = w .before .before
+
 at-requires-2 : tie.Need-at-requires-2
 at-requires-2 c κs =
-    let F = found (entry (at-light (rating (c .before .before)))) in
-    let s = F .timed .sound in
-    omega (arith, F .few, c .if2 .taken)
+    let w = c .before .before in
+    let s = entry (at-light w) .pre .2 .timed .sound in
+    omega (arith, c .if2 .taken, w .weigh-line .ensures .1 .few)
 
 unweighed-requires-2 : tie.Need-unweighed-requires-2
 unweighed-requires-2 c κs = search needs
 
 returns-2 : tie.Need-returns-2
-returns-2 c M n first second R =
+returns-2 c first second A =
     let w = c .before .before .before .before in
-    let d = rating w in
-    let z = entry (at-light d) in
-    let r = c .unweighed2 .result in
-    let e = ap (λ (w : Loaded). w .answer .number) (c .unweighed2 .ensures) in
-    analysed-as (sym (with-refused (outline z) r (λ q. omega (arith, q, e, c .before .at2 .ensures .0))))
-    (rw (c .unweighed2 .ensures)
-    (analysed-over (table z M n first second) _ (R .outlined) (R .done) _ (low (at-light d) M n first second R)
-    (d .before .if1 .left) _ (found-equal (R .outlined .found (R .done))) _ (rated d M n first second R) _ _ (w .weigh-sets .ensures)
-    (c .before .before .if2 .taken) _ (c .before .at2 .ensures)))
+    let e = c .unweighed2 .ensures in
+    let v = w .weigh-line .ensures in
+    weighs-over A _ (low (at-light w) first second A) (w .before .if1 .left) (v .1) (v .2) (c .before .before .if2 .taken) _
+    (ap (λ (r : Answer). r .number) e ∙ c .before .at2 .ensures .0, ap (λ (r : Answer). r .place) e ∙ c .before .at2 .ensures .1)
 
 done-requires : tie.Need-done-requires
 done-requires c κs = search needs
@@ -122,18 +93,15 @@ done-requires c κs = search needs
 thousandths-requires : tie.Need-thousandths-requires
 thousandths-requires c κs =
     let w = c .before .before .before in
-    let T = found (entry (at-light (rating w))) .timed in
-    (w .weigh-sets .ensures .small, omega (arith, T .hyper, hyperperiod-positive (T .sound)), omega (arith, T .hyper, T .short))
+    let T = entry (at-light w) .pre .2 .timed in
+    (w .weigh-line .ensures .2 .small, omega (arith, T .hyper, hyperperiod-positive (T .sound)), omega (arith, T .hyper, T .short))
 
 returns-3 : tie.Need-returns-3
-returns-3 c M n first second R =
+returns-3 c first second A =
     let w = c .before .before .before .before in
-    let d = rating w in
-    let z = entry (at-light d) in
-    analysed-as (sym (with-done (outline z) _ (c .before .done .ensures .0)))
-    (analysed-done (table z M n first second) _ (R .outlined) (R .done) _ (low (at-light d) M n first second R)
-    (d .before .if1 .left) _ (found-equal (R .outlined .found (R .done))) _ (rated d M n first second R) _ _ (w .weigh-sets .ensures)
-    (c .before .before .if2 .left) _ (c .thousandths .ensures))
+    let v = w .weigh-line .ensures in
+    weighs-done A _ (low (at-light w) first second A) (w .before .if1 .left) (v .1) (v .2) (c .before .before .if2 .left) _
+    (c .before .done .ensures) refl (c .thousandths .ensures)
 
 pub weigh-spec : {M : Type 1} → statement M
 weigh-spec =
@@ -143,8 +111,8 @@ weigh-spec =
     at-requires
     unweighed-requires
     returns
-    rates-requires
-    weigh-sets-requires
+    add-weigh-line
+    weigh-line-requires
     at-requires-2
     unweighed-requires-2
     returns-2

@@ -1,0 +1,156 @@
+-- A table as it is given: 1 to 9, then 18.
+use mathlib.Core.Path.{_≡_, refl, sym, ap, _∙_, subst}
+use mathlib.Core.Logic.{_≢_, ⊎-elim}
+use mathlib.Core.Bool.{Bool, false, _&&_, and-false}
+use mathlib.Core.List.{List}
+use Prim.Native.Nat.{ℕ, _≤_, _<_}
+use native.Mathlib.Omega.{arith}
+use lib.Dec.{T, eqb, ltb, eqb→eq, ltb→lt, lt→ltb}
+use Rattle.numbers.specs.Finite.{any, lowest}
+use Rattle.numbers.specs.Word.{bit}
+use Rattle.numbers.specs.Lists.{at}
+use Rattle.numbers.proofs.Truth.{both, fst, snd, decide, along, same, eqb-of}
+use Rattle.numbers.proofs.Finite.{any-of, any-eq, least, lowest-has, lowest-below}
+use Rattle.numbers.proofs.Word.{word, bit-word}
+use Rattle.rules.specs.Bounds.{max-rows}
+use Rattle.rules.specs.Bus.{Table, pasted}
+use Rattle.rules.specs.TableFile.{fileTable}
+use Rattle.rules.specs.Refusals.{Answers, pasted-row, file-checks, pasted-checks, given-checks}
+use Rattle.rules.proofs.Answers.{None, Numbered, stopped, joined, answered, none-of, none-left, none-join, numbered-join, answers-only}
+use Rattle.rules.proofs.Answers.{single-none, single-numbered, single-stopped}
+use Rattle.table.specs.Sound.{Sound, Passed}
+use Rattle.table.specs.Columns.{tableOf}
+use Rattle.decoding.specs.Decoded.{refusal, Decodes}
+use Rattle.table.specs.declared.Answer.{Answer}
+use Rattle.decoding.specs.declared.Decoded.{Decoded}
+use Rattle.table.proofs.Faults.{file-numbered, passed-none}
+use Rattle.sets.specs.Walk.{line-size}
+use Rattle.sets.proofs.Sums.{without, other}
+use Rattle.pasted.specs.Alike.{alike}
+
+-- ---- pasted rows
+
+-- a row of the word that does not have p can be left out
+pub left-out : (w j : ℕ) (p : ℕ → Bool) → j < 64 → p j ≡ false
+    → any max-rows (λ k. bit (without w j) k && p k) ≡ any max-rows (λ k. bit w k && p k)
+left-out w j p l e =
+    any-eq max-rows (λ k. bit (without w j) k && p k) (λ k. bit w k && p k)
+    (λ k m.
+    ⊎-elim
+    (λ (t : T (eqb k j)).
+    let q : p k ≡ false = ap p (eqb→eq k j t) ∙ e in
+    ap (_&&_ (bit (without w j) k)) q ∙ and-false (bit (without w j) k) ∙ sym (ap (_&&_ (bit w k)) q ∙ and-false (bit w k)))
+    (λ f. ap (λ (b : Bool). b && p k) (other w j l k (λ z. f (eqb-of k j z))))
+    (decide (eqb k j)))
+
+-- of the earlier rows with row i's first end one has its second end and its period, or none
+pub earlier-pasted : (t : Table) (w i : ℕ) → i ≤ max-rows → w ≡ word i (λ j. eqb (t .first j) (t .first i))
+    → any max-rows (λ j. bit w j && alike (t .period) (t .second) i j) ≡ pasted t i
+unfolding pasted
+earlier-pasted t w i few e =
+    same _ _
+    (λ h.
+    let r = least max-rows (λ j. bit w j && alike (t .period) (t .second) i j) h in
+    let j = r .0 in
+    let c = along (bits j) (fst (bit w j) (alike (t .period) (t .second) i j) (r .2)) in
+    let a = snd (bit w j) (alike (t .period) (t .second) i j) (r .2) in
+    any-of i _ j (ltb→lt j i (fst (ltb j i) (F j) c))
+    (both (F j && S j) (P j) (both (F j) (S j) (snd (ltb j i) (F j) c) (fst (S j) (P j) a)) (snd (S j) (P j) a)))
+    (λ h.
+    let r = least i (λ j. (F j && S j) && P j) h in
+    let j = r .0 in
+    let l : j < i = r .1 in
+    let f = fst (F j && S j) (P j) (r .2) in
+    any-of max-rows _ j (omega arith)
+    (both (bit w j) (alike (t .period) (t .second) i j)
+    (along (sym (bits j)) (both (ltb j i) (F j) (lt→ltb j i l) (fst (F j) (S j) f)))
+    (both (S j) (P j) (snd (F j) (S j) f) (snd (F j && S j) (P j) (r .2)))))
+  where
+    F : ℕ → Bool
+    F j = eqb (t .first j) (t .first i)
+
+    S : ℕ → Bool
+    S j = eqb (t .second j) (t .second i)
+
+    P : ℕ → Bool
+    P j = eqb (t .period j) (t .period i)
+
+    bits : (j : ℕ) → bit w j ≡ (ltb j i && F j)
+    bits j = ap (λ (v : ℕ). bit v j) e ∙ bit-word i (λ j. eqb (t .first j) (t .first i)) j
+
+-- ---- 18
+
+module _ (f : List ℕ) where
+  abbrev t : Table
+  t = fileTable f
+
+  pub given-numbered : Numbered (given-checks f)
+  unfolding given-checks pasted-checks
+  given-numbered =
+      numbered-join (file-checks f) (pasted-checks t) (file-numbered f) (single-numbered (pasted-row t) (t .rows) (λ i. omega arith))
+
+  pub given-passed : None (given-checks f) → Passed f
+  unfolding given-checks
+  given-passed a = passed-none f (none-left (file-checks f) (pasted-checks t) a)
+
+  pub given-of : (p : ℕ) → Answers (given-checks f) 0 p → Passed f
+  given-of p a = given-passed (none-of (given-checks f) p given-numbered a)
+
+  module _ (r : Decoded) (D : Decodes (file-checks f) t r) where
+    -- 1 to 9 refuse
+    pub given-refused : r .answer .number ≢ 0 → Decodes (given-checks f) t r
+    unfolding given-checks
+    given-refused h = record {
+      answers = stopped (file-checks f) (pasted-checks t) (r .answer .number) (r .answer .place) h (D .answers);
+      passed = D .passed;
+      refused = D .refused;
+    }
+
+    module _ (z : r .answer .number ≡ 0) where
+      none : None (file-checks f)
+      none = none-of (file-checks f) (r .answer .place) (file-numbered f) (rw z at (D .answers))
+
+      held : tableOf (r .columns) ≡ t
+      held = D .passed z .table
+
+      -- the ends are on the ring, whose elements are no more than the line's
+      pub given-ends : (r .columns .rows ≤ max-rows) × ((i : ℕ) → i < r .columns .rows → at (r .columns .first) i < line-size)
+      given-ends =
+          let s : Sound (tableOf (r .columns)) = rw held (passed-none f none .sound) in
+          (s .rows-high, λ i l. let row = s .row i l in omega arith)
+
+      module _ (i : ℕ) (e : i ≡ lowest (r .columns .rows) (pasted (tableOf (r .columns)))) where
+        is-lowest : i ≡ lowest (t .rows) (pasted t)
+        is-lowest = subst (λ (u : Table). i ≡ lowest (u .rows) (pasted u)) held e
+
+        rows-are : r .columns .rows ≡ t .rows
+        rows-are = ap (λ (u : Table). u .rows) held
+
+        -- 18 refuses
+        pub given-pasted : i < r .columns .rows → (a : Answer) → (a .number ≡ 18) × (a .place ≡ i) → Decodes (given-checks f) t (refusal a)
+        unfolding given-checks pasted-checks
+        given-pasted l a q =
+            let m : lowest (t .rows) (pasted t) < t .rows = omega (arith, is-lowest, rows-are) in
+            record {
+              answers =
+                  rw (q .0, q .1) (joined (file-checks f) (pasted-checks t) 18 i none
+                  (single-stopped (pasted-row t) (t .rows) i (omega (arith, rows-are)) (omega arith)
+                  (λ j h. lowest-below (t .rows) (pasted t) j (omega (arith, is-lowest)))
+                  (rw is-lowest (lowest-has (t .rows) (pasted t) m))));
+              passed = λ k. absurd (omega (arith, q .0));
+              refused = λ k. refl;
+            }
+
+        -- nothing does
+        pub given-whole : r .columns .rows ≤ i → Decodes (given-checks f) t r
+        unfolding given-checks pasted-checks
+        given-whole l =
+            let all : None (given-checks f) =
+            none-join (file-checks f) (pasted-checks t) none
+            (single-none (pasted-row t) (t .rows) (λ j h. lowest-below (t .rows) (pasted t) j (omega (arith, is-lowest, rows-are)))) in
+            let still = answers-only (file-checks f) _ 0 _ 0 (D .answers) (answered (file-checks f) none) in
+            record {
+              answers = rw (still .0, still .1) (answered (given-checks f) all);
+              passed = D .passed;
+              refused = D .refused;
+            }

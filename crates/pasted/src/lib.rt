@@ -1,0 +1,104 @@
+// A table as it is given: what is refused of it before anything is looked for on its ring.
+use decoding::Decoded;
+use sets::Sets;
+use table::Answer;
+use table::Table;
+ghost use mathlib.Core.Path.{_≡_};
+ghost use mathlib.Core.List.{List};
+ghost use mathlib.Core.Bool.{_&&_};
+ghost use Prim.Native.Nat.{ℕ, _≤_, _<_};
+ghost use Rattle.numbers.specs.Finite.{any, lowest};
+ghost use Rattle.numbers.specs.Lists.{at};
+ghost use Rattle.numbers.specs.Word.{bit};
+ghost use Rattle.rules.specs.Bounds.{max-rows};
+ghost use Rattle.rules.specs.Bus.{pasted};
+ghost use Rattle.rules.specs.TableFile.{fileTable};
+ghost use Rattle.rules.specs.Refusals.{given-checks};
+ghost use Rattle.sets.specs.Walk.{line-size};
+ghost use Rattle.table.specs.Columns.{columnTable};
+ghost use Rattle.decoding.specs.Decoded.{Decodes};
+ghost use Rattle.pasted.specs.Alike.{alike};
+
+// Rows `j` and `i` have the same second end and the same period.
+fn is_alike<'a>(
+    period: &'a [u16; Table::ROWS],
+    second: &'a [u8; Table::ROWS],
+    j: usize,
+    i: usize,
+) -> bool
+    requires { ⌜ (j < max-rows) × (i < max-rows) ⌝ }
+    ensures { λ r. ⌜ r ≡ alike (at (now (period .entry))) (at (now (second .entry))) i j ⌝ }
+{
+    if table::end_at(second, j) != table::end_at(second, i) {
+        return false;
+    }
+    table::slots_at(period, j) == table::slots_at(period, i)
+}
+
+// Some row of the word `rows` has row `i`'s second end and period. Only these are gone through: most rows share their first end with few.
+fn is_repeated<'a>(
+    rows: u64,
+    period: &'a [u16; Table::ROWS],
+    second: &'a [u8; Table::ROWS],
+    i: usize,
+) -> bool
+    requires { ⌜ i < max-rows ⌝ }
+    ensures { λ r. ⌜ r ≡ any max-rows (λ j. bit rows j && alike (at (now (period .entry))) (at (now (second .entry))) i j) ⌝ }
+{
+    let mut left = rows;
+    while left != 0 {
+        let j = sets::lowest_row(left);
+        if is_alike(period, second, j, i) {
+            return true;
+        }
+        left = left ^ (1u64 << j);
+    }
+    false
+}
+
+// The lowest row that has the ends and the period of an earlier one; the row count where there is none.
+fn lowest_pasted<'a>(
+    rows: usize,
+    period: &'a [u16; Table::ROWS],
+    first: &'a [u8; Table::ROWS],
+    second: &'a [u8; Table::ROWS],
+) -> usize
+    requires { ⌜ (rows ≤ max-rows) × ((i : ℕ) → i < rows → at (now first) i < line-size) ⌝ }
+    ensures { λ r. ⌜ ((elements : ℕ) (cost : List ℕ)
+        → r ≡ lowest rows (pasted (columnTable elements rows cost (now (period .entry)) (now (first .entry)) (now (second .entry))))) ⌝ }
+{
+    // for each element the word of the rows so far that start there
+    let mut starts = [0u64; Sets::LINE];
+    let mut i: usize = 0;
+    while i < rows {
+        let from = table::end_at(first, i);
+        let earlier = starts[from];
+        if is_repeated(earlier, period, second, i) {
+            return i;
+        }
+        starts[from] = earlier | (1u64 << i);
+        i += 1;
+    }
+    i
+}
+
+// The table of a file, or the first refusal of 1 to 9 and 18.
+pub fn given(file: &[u8]) -> Decoded
+    ensures { λ r. ⌜ Decodes (given-checks (now (file .entry))) (fileTable (now (file .entry))) r ⌝ }
+{
+    let found = decoding::decode(file);
+    let answer = found.answer;
+    if answer.number != Answer::DONE {
+        return found;
+    }
+    let row = lowest_pasted(
+        found.columns.rows,
+        &found.columns.period,
+        &found.columns.first,
+        &found.columns.second,
+    );
+    if row < found.columns.rows {
+        return Decoded::refused(Answer::at(Answer::PASTED_ROW, row));
+    }
+    found
+}

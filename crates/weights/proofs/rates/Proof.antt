@@ -1,0 +1,90 @@
+-- rates: row after row's rate is put in its place; the jobs are those of the period before.
+use mathlib.Core.Path.{_≡_, sym, ap, ap₂, _∙_}
+use Prim.Native.Nat.{ℕ, _-_, _*_, _/_, _≤_}
+use native.Mathlib.Nat.{div-one, div-le-self, mul-le-mul}
+use native.Mathlib.Omega.{arith}
+use Rattle.numbers.specs.Lists.{at}
+use Rattle.rules.specs.Bounds.{max-slots}
+use Rattle.table.specs.Columns.{ByRow}
+use Rattle.table.proofs.ByRow.{by-row-start, by-row-put}
+use Rattle.weights.proofs.rates.Statement.{statement}
+use Rattle.weights.proofs.rates.Tie as tie
+
+abbrev Inv-loop : tie.InvT-loop
+Inv-loop rows hyper cost period rate₀ last₀ jobs₀ i₀ rate last jobs i =
+    (i ≤ rows) × ByRow i (λ k. hyper / at period k * at cost k) rate × (jobs ≡ hyper / last)
+
+abbrev μ-loop : tie.MeasureT-loop
+μ-loop rows hyper cost period rate₀ last₀ jobs₀ i₀ rate last jobs i = rows - i
+
+loop-holds : tie.Need-loop-holds Inv-loop μ-loop
+loop-holds c = (omega arith, by-row-start _, sym (div-one (c .args .hyper)))
+
+slots-at-requires : tie.Need-slots-at-requires Inv-loop μ-loop
+slots-at-requires c κs = omega arith
+
+jobs-in-requires : tie.Need-jobs-in-requires Inv-loop μ-loop
+jobs-in-requires c κs =
+    let u = c .before .before in
+    (omega (arith, c .slots-at .ensures, u .before .pre .0 .period-low (u .loop .i) (omega arith)), u .loop .inv .2)
+
+slots-at-requires-2 : tie.Need-slots-at-requires-2 Inv-loop μ-loop
+slots-at-requires-2 c κs = omega arith
+
+mul-rate : tie.Need-mul-rate Inv-loop μ-loop
+mul-rate c =
+    let j = c .before in
+    let s = j .before in
+    let u = s .before .before in
+    let a = u .before .args in
+    let few : j .jobs-in .result ≤ max-slots = omega (arith, j .jobs-in .ensures, div-le-self (a .hyper) (s .slots-at .result)) in
+    let high : c .slots-at2 .result ≤ max-slots =
+    omega (arith, c .slots-at2 .ensures, u .before .pre .0 .cost-high (u .loop .i) (omega arith)) in
+    omega (arith, mul-le-mul few high)
+
+mul-rate-2 : tie.Need-mul-rate-2 Inv-loop μ-loop
+mul-rate-2 c = omega arith
+
+array-write-rate : tie.Need-array-write-rate Inv-loop μ-loop
+array-write-rate c = omega arith
+
+add-i : tie.Need-add-i Inv-loop μ-loop
+add-i c = omega arith
+
+loop-less : tie.Need-loop-less Inv-loop μ-loop
+loop-less c = omega arith
+
+loop-again : tie.Need-loop-again Inv-loop μ-loop
+loop-again c =
+    let j = c .before in
+    let u = j .before .before .before in
+    let hyper = u .before .args .hyper in (
+      omega arith,
+      by-row-put _ (u .loop .inv .1) (omega arith)
+          (ap₂ (λ (x y : ℕ). x * y) (j .jobs-in .ensures ∙ ap (λ (p : ℕ). hyper / p) (j .before .slots-at .ensures))
+          (c .slots-at2 .ensures)),
+      j .jobs-in .ensures,
+    )
+
+returns : tie.Need-returns Inv-loop μ-loop
+returns c =
+    let e : c .before .loop .i ≡ c .before .before .args .rows = omega arith in
+    rw e at (c .before .loop .inv .1)
+
+pub rates-spec : {M : Type 1} → statement M
+rates-spec =
+    tie.close
+    (tie.spec
+    Inv-loop
+    μ-loop
+    loop-holds
+    slots-at-requires
+    jobs-in-requires
+    slots-at-requires-2
+    mul-rate
+    mul-rate-2
+    array-write-rate
+    add-i
+    loop-less
+    loop-again
+    returns)

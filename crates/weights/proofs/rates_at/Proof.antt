@@ -1,0 +1,92 @@
+-- rates_at: row after row is added to the sum at its end.
+use mathlib.Core.Path.{refl}
+use Prim.Native.Nat.{_-_, _≤_, _<_}
+use native.Mathlib.Omega.{arith}
+use Rattle.numbers.specs.Lists.{at}
+use Rattle.sets.specs.Walk.{line-size}
+use Rattle.weights.specs.Weights.{SumsAt}
+use Rattle.weights.proofs.Line.{sums-start, sums-next, sums-end, sums-small}
+use Rattle.weights.proofs.rates_at.Statement.{statement}
+use Rattle.weights.proofs.rates_at.Tie as tie
+
+abbrev Inv-loop : tie.InvT-loop
+Inv-loop ends rows rate sums₀ i₀ sums i = (i ≤ rows) × SumsAt i (at ends) (at rate) sums
+
+abbrev μ-loop : tie.MeasureT-loop
+μ-loop ends rows rate sums₀ i₀ sums i = rows - i
+
+-- the row's end is on the line
+on-line : (c : tie.After-end-at Inv-loop μ-loop) → c .end-at .result < line-size
+on-line c =
+    let u = c .before .before in
+    omega (arith, c .end-at .ensures, u .before .pre .1 (u .loop .i) (omega arith))
+
+loop-holds : tie.Need-loop-holds Inv-loop μ-loop
+loop-holds c = (omega arith, sums-start _ _)
+
+end-at-requires : tie.Need-end-at-requires Inv-loop μ-loop
+end-at-requires c κs = omega (arith, c .before .before .pre .0 .few)
+
+mul-sums : tie.Need-mul-sums Inv-loop μ-loop
+mul-sums c = omega (arith, on-line c)
+
+array-read-sums : tie.Need-array-read-sums Inv-loop μ-loop
+array-read-sums c = omega (arith, on-line c, c .before .before .loop .inv .1 .size)
+
+mul-sums-2 : tie.Need-mul-sums-2 Inv-loop μ-loop
+mul-sums-2 c = omega (arith, c .before .before .before .pre .0 .few)
+
+element-copy-out-sums : tie.Need-element-copy-out-sums Inv-loop μ-loop
+element-copy-out-sums c = omega (arith, c .before .before .before .pre .0 .few)
+
+add-sums : tie.Need-add-sums Inv-loop μ-loop
+add-sums c =
+    let d = c .before in
+    let u = d .before .before in
+    let R = u .before .pre .0 in
+    omega (
+      arith,
+      sums-small (u .loop .inv .1) (λ j m. R .small j (omega arith)) (d .end-at .result) (on-line d),
+      R .small (u .loop .i) (omega arith),
+      R .few,
+    )
+
+mul-sums-3 : tie.Need-mul-sums-3 Inv-loop μ-loop
+mul-sums-3 c = omega (arith, on-line (c .before))
+
+array-write-sums : tie.Need-array-write-sums Inv-loop μ-loop
+array-write-sums c = let d = c .before in omega (arith, on-line d, d .before .before .loop .inv .1 .size)
+
+add-i : tie.Need-add-i Inv-loop μ-loop
+add-i c = omega arith
+
+loop-less : tie.Need-loop-less Inv-loop μ-loop
+loop-less c = omega arith
+
+loop-again : tie.Need-loop-again Inv-loop μ-loop
+loop-again c =
+    let d = c .before in
+    (omega arith, sums-next _ _ (d .before .before .loop .inv .1) (d .end-at .ensures) refl (on-line d))
+
+returns : tie.Need-returns Inv-loop μ-loop
+returns c = sums-end (omega arith) (c .before .loop .inv .1)
+
+pub rates-at-spec : {M : Type 1} → statement M
+rates-at-spec =
+    tie.close
+    (tie.spec
+    Inv-loop
+    μ-loop
+    loop-holds
+    end-at-requires
+    mul-sums
+    array-read-sums
+    mul-sums-2
+    element-copy-out-sums
+    add-sums
+    mul-sums-3
+    array-write-sums
+    add-i
+    loop-less
+    loop-again
+    returns)
