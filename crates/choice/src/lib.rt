@@ -11,15 +11,14 @@ use loads::Size;
 use table::Table;
 ghost use mathlib.Core.Path.{_≡_};
 ghost use mathlib.Core.Bool.{true, _&&_};
-ghost use Prim.Native.Nat.{ℕ, _+_, _-_, _*_, _/_, _%_, _<_, _≤_};
+ghost use Prim.Native.Nat.{ℕ, _+_, _-_, _<_, _≤_};
 ghost use lib.Dec.{ltb};
 ghost use lib.ListN.{length};
 ghost use Rattle.numbers.specs.Lists.{at};
 ghost use Rattle.numbers.specs.Word.{bit};
 ghost use Rattle.rules.specs.Bounds.{max-elements, max-rows};
 ghost use Rattle.rules.specs.Interval.{Greatest};
-ghost use Rattle.flow.specs.Way.{ByPlace};
-ghost use Rattle.loads.specs.Loads.{share-most, part-most, digit, last, none, Spans, Parts, Summed, Qualified};
+ghost use Rattle.loads.specs.Loads.{part-most, digit, last, none, Spans, Parts, Summed, Qualified};
 ghost use Rattle.loads.specs.State.{Laid};
 ghost use Rattle.choice.specs.Taken.{Lifted, Lowered, Open, Taken};
 
@@ -27,48 +26,7 @@ const ROWS: usize = Table::ROWS;
 
 const SETS: usize = Table::ELEMENTS;
 
-// ---- what is laid once
-
-// The rows that have their end at each place.
-pub fn sort_rows(end: &[u8; ROWS], rows: usize) -> [u64; PLACES]
-    requires { ⌜ (rows ≤ max-rows) × ((i : ℕ) → i < rows → at (now end) i ≤ max-elements) ⌝ }
-    ensures { λ r. ⌜ ByPlace rows max-elements (at (now (end .entry))) (at r) ⌝ }
-{
-    let mut words = [0u64; PLACES];
-    let mut i: usize = 0;
-    while i < rows {
-        let v = end[i] as usize;
-        words[v] = words[v] | (1u64 << i);
-        i += 1;
-    }
-    words
-}
-
-// ---- shares
-
-// Each row's share of so many slots: its whole slots, and the part above them.
-pub fn part_shares(
-    rate: &[u64; ROWS],
-    slots: u64,
-    size: Size,
-    whole: &mut [u64; ROWS],
-    part: &mut [u32; ROWS],
-)
-    requires { ⌜ (size .rows ≤ max-rows) × (0 < size .hyper) × ((i : ℕ) → i < size .rows → at (now rate) i * slots ≤ share-most)
-        × (length (now whole) ≡ max-rows) × (length (now part) ≡ max-rows) ⌝ }
-    ensures { λ r. ⌜ (length (now (whole .exit)) ≡ max-rows) × (length (now (part .exit)) ≡ max-rows)
-        × ((i : ℕ) → i < size .rows → (at (now (whole .exit)) i ≡ at (now (rate .entry)) i * slots / size .hyper)
-        × (at (now (part .exit)) i ≡ at (now (rate .entry)) i * slots % size .hyper)) ⌝ }
-{
-    let h = size.hyper;
-    let mut i: usize = 0;
-    while i < size.rows {
-        let share = rate[i] * slots;
-        whole[i] = share / h;
-        part[i] = (share % h) as u32;
-        i += 1;
-    }
-}
+// ---- sums of parts
 
 // Adds v to the sums from one up to another.
 fn lift(sum: &mut [u32; SETS], from: usize, to: usize, v: u32)

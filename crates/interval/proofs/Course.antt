@@ -19,14 +19,14 @@ use Rattle.loads.specs.declared.Size.{Size}
 use Rattle.loads.proofs.Choice.{greatest-shift}
 use Rattle.slots.specs.Chained.{ChainedRows}
 use Rattle.slots.specs.Filled.{FilledSlots}
-use Rattle.interval.specs.declared.Layout.{Layout}
+use Rattle.places.specs.declared.Places.{Places}
 use Rattle.interval.specs.Interval.{Given}
 use Rattle.interval.specs.Ready.{Ready, Due, Advanced}
 use Rattle.interval.proofs.Choice.{share-small, had-le, whole-small, moved-of}
 use Rattle.interval.proofs.RowSets.{list-length, ranged-low, ranged-high, ranged-spans, ranged-listed}
 use Rattle.interval.proofs.Ready.{ready-ends, ready-words, ready-share}
 
-module _ {t : Table} {size : Size} {top : ℕ} {second rate words : List ℕ} {L : Layout} (R : Ready t size top second rate words L) where
+module _ {t : Table} {size : Size} {top : ℕ} {second rate words : List ℕ} {L : Places} (R : Ready t size top second rate words L) where
   -- ---- what is laid, for the code's counts
 
   pub few-rows : size .rows ≤ max-rows

@@ -1,6 +1,5 @@
 pub mod Moved
 pub mod RowSets
-pub mod Placing
 pub mod Choice
 pub mod Fill
 pub mod Ready

@@ -13,7 +13,7 @@ use Rattle.ring.proofs.OnLine.{line-low, line-ordered, line-high, overlap-meet}
 use Rattle.table.specs.Columns.{ByRow}
 use Rattle.lags.specs.Lags.{Admissible}
 use Rattle.loads.specs.declared.Size.{Size}
-use Rattle.interval.specs.declared.Layout.{Layout}
+use Rattle.places.specs.declared.Places.{Places}
 use Rattle.interval.specs.Ready.{Ready}
 
 -- the ends of a row on the line
@@ -28,7 +28,7 @@ ends-on-line {t} A F S i m =
       omega (arith, line-high t (A .sound) (A .clear) i m),
     )
 
-module _ {t : Table} {size : Size} {top : ℕ} {second rate words : List ℕ} {L : Layout} (R : Ready t size top second rate words L) where
+module _ {t : Table} {size : Size} {top : ℕ} {second rate words : List ℕ} {L : Places} (R : Ready t size top second rate words L) where
   -- ---- the ends
 
   pub ready-ends : (i : ℕ) → i < size .rows → (1 ≤ at (R .first) i) × (at (R .first) i < at second i) × (at second i ≤ top)

@@ -23,14 +23,7 @@ use Rattle.sets.proofs.Transfer.{list-agree}
 use Rattle.lags.specs.Lags.{Admissible}
 use Rattle.loads.specs.Loads.{covers, inSet, last, Spans}
 use Rattle.promises.proofs.Words.{overlap-agrees}
-use Rattle.interval.specs.Ranges.{lowestSet, highestSet, Ranged}
-use Rattle.table.proofs.ByRow.{by-row-only}
-
--- ---- only one answer fits
-
-pub ranged-only : {n K : ℕ} {ws tail head tail' head' : List ℕ} → Ranged n K ws tail head → Ranged n K ws tail' head'
-    → (tail ≡ tail') × (head ≡ head')
-ranged-only R Q = (by-row-only (R .lowest) (Q .lowest), by-row-only (R .highest) (Q .highest))
+use Rattle.places.specs.Ranges.{lowestSet, highestSet, Ranged}
 
 -- ---- a row's sets
 
@@ -119,14 +112,6 @@ module _ {t : Table} (A : Admissible t) {ws : List ℕ} (S : Sets t ws) where
     }
 
 -- ---- the ranges of an array's rows, where the list stands at the front of an array of words
-
-pub highest-most : (K : ℕ) (p : ℕ → Bool) → highest K p ≤ K
-highest-most zero p = omega (arith, highest-none zero p (λ i l. absurd (omega arith)))
-highest-most (suc K) p = let z = highest-lt (suc K) p (omega arith) in omega arith
-
-pub highest-after : (K m : ℕ) (p : ℕ → Bool) → K ≤ suc m → suc (highest K p) ≤ suc m
-highest-after zero m p l = omega (arith, highest-most zero p)
-highest-after (suc K) m p l = omega (arith, highest-lt (suc K) p (omega arith))
 
 module _ {n K : ℕ} {ws tail head : List ℕ} (room : K ≤ length ws) (R : Ranged n K ws tail head) where
   pub list-length : length (take K ws) ≡ K

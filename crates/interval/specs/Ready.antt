@@ -1,10 +1,8 @@
--- What one interval needs of a table, laid out once for all of them, and what it gives.
+-- What one interval needs of a table, and what it gives.
 --
---   layout ..               the layout of these arrays
---   LaidOut n K words first L   the places and the chains of n rows are laid for K sets and the rows' first ends
 --   Ready t size top second rate words L
 --                           the table may be admitted; the arrays hold its rows' second ends on the line, their rates and the sets'
---                           words, and L is laid for these
+--                           words, and L are the places for these
 --   Due t k b e had         interval k is one of the table's, from slot b up to slot e, and totals `had` keep step at b
 --   Advanced t k had now was out
 --                           interval k is done: `now` are the totals after it, and `out`, which held `was`, has its words at the front
@@ -15,32 +13,20 @@ use mathlib.Core.List.{List}
 use Prim.Native.Nat.{ℕ, _+_, _-_, _≤_, _<_}
 use lib.ListN.{length, take}
 use Rattle.numbers.specs.Lists.{at}
-use Rattle.rules.specs.Bounds.{max-elements, max-rows}
+use Rattle.rules.specs.Bounds.{max-rows}
 use Rattle.rules.specs.Bus.{Table}
 use Rattle.rules.specs.Line.{lineFirst, lineSecond, Sets}
 use Rattle.rules.specs.Loads.{hyperperiod, start, end, intervals}
 use Rattle.rules.specs.Loads as loads
 use Rattle.table.specs.Columns.{ByRow}
 use Rattle.lags.specs.Lags.{Admissible, Steady}
-use Rattle.flow.specs.Way.{ByPlace}
 use Rattle.loads.specs.declared.Size.{Size}
-use Rattle.slots.specs.Chained.{Chained}
 use Rattle.slots.specs.Filled.{Kept}
-use Rattle.interval.specs.Ranges.{Ranged}
+use Rattle.places.specs.PlacesOf.{PlacesOf}
+use Rattle.places.specs.declared.Places.{Places}
 use Rattle.interval.specs.Interval.{Moved}
-use Rattle.interval.specs.declared.Layout.{Layout}
 
-abbrev pub layout : (tail head out into heads next : List ℕ) → Layout
-layout tail head out into heads next =
-    record { tail = tail; head = head; out = out; into = into; heads = heads; next = next }
-
-pub record LaidOut (n K : ℕ) (words first : List ℕ) (L : Layout) : Type 0 where
-  pub ranged : Ranged n K words (L .tail) (L .head)
-  pub starting : ByPlace n max-elements (at (L .tail)) (at (L .out))
-  pub ending : ByPlace n max-elements (at (L .head)) (at (L .into))
-  pub chained : Chained n (at first) (L .heads) (L .next)
-
-pub record Ready (t : Table) (size : Size) (top : ℕ) (second rate words : List ℕ) (L : Layout) : Type 0 where
+pub record Ready (t : Table) (size : Size) (top : ℕ) (second rate words : List ℕ) (L : Places) : Type 0 where
   pub admissible : Admissible t
   pub row-count : size .rows ≡ t .rows
   pub top-end : top ≡ t .elements + 1
@@ -51,7 +37,7 @@ pub record Ready (t : Table) (size : Size) (top : ℕ) (second rate words : List
   pub rates : ByRow (t .rows) (loads.rate t) rate
   pub room : size .sets ≤ length words
   pub list : Sets t (take (size .sets) words)
-  pub laid : LaidOut (t .rows) (size .sets) words first L
+  pub laid : PlacesOf (t .rows) (size .sets) words first L
 
 pub record Due (t : Table) (k b e : ℕ) (had : List ℕ) : Type 0 where
   pub in-range : k < intervals t

@@ -18,8 +18,9 @@ use Rattle.outline.specs.Time.{Begins}
 use Rattle.verdict.specs.declared.Analysis.{Analysis}
 use Rattle.verdict.specs.Analysed.{Accepted}
 use Rattle.slots.specs.Chained.{all-heads}
-use Rattle.interval.specs.declared.Layout.{Layout}
-use Rattle.interval.specs.Ready.{LaidOut, Ready}
+use Rattle.places.specs.declared.Places.{Places}
+use Rattle.places.specs.PlacesOf.{PlacesOf}
+use Rattle.interval.specs.Ready.{Ready}
 use Rattle.interval.proofs.RowSets.{sets-limit}
 use Rattle.interval.proofs.Ready.{ends-on-line}
 use Rattle.planner.specs.declared.Stage.the-variants.{Due}
@@ -92,7 +93,7 @@ module _ {t : Table} {a : Analysis} (A : Accepted t a) where
       let e = ends-on-line (A .admissible) (A .outline .first) (A .outline .second) i (omega (arith, A .outline .rows)) in
       omega (arith, e, A .admissible .sound .elements-high)
 
-  pub ready-of : {L : Layout} → LaidOut (a .outline .rows) (a .outline .sets) (a .outline .words) (a .outline .first) L
+  pub ready-of : {L : Places} → PlacesOf (a .outline .rows) (a .outline .sets) (a .outline .words) (a .outline .first) L
       → Ready t (record { rows = a .outline .rows; sets = a .outline .sets; hyper = a .outline .time .hyper }) (a .outline .elements + 1)
       (a .outline .second) (a .rate) (a .outline .words) L
   ready-of L = record {

@@ -102,7 +102,7 @@ fn plan_intervals(
     let sets = table.outline.sets;
     let top = table.outline.elements + 1;
     let time = table.outline.time;
-    let layout = interval::lay(rows, sets, &table.outline.words, &table.outline.first);
+    let places = places::lay(rows, sets, &table.outline.words, &table.outline.first);
     let size = Size {
         rows,
         sets,
@@ -121,12 +121,12 @@ fn plan_intervals(
             &table.outline.second,
             &table.rate,
             &table.outline.words,
-            &layout.tail,
-            &layout.head,
-            &layout.out,
-            &layout.into,
-            &layout.heads,
-            &layout.next,
+            &places.tail,
+            &places.head,
+            &places.out,
+            &places.into,
+            &places.heads,
+            &places.next,
             &mut after,
             &mut plan[at..],
         );

@@ -16,11 +16,11 @@ use Rattle.planner.proofs.plan_intervals.Statement.{statement}
 use Rattle.planner.proofs.plan_intervals.Tie as tie
 
 abbrev Inv-loop : tie.InvT-loop
-Inv-loop from until plan₀ table rows sets top time layout size after₀ slot₀ at₀ plan after slot at =
+Inv-loop from until plan₀ table rows sets top time places size after₀ slot₀ at₀ plan after slot at =
     ((t : Table) (k m : ℕ) → Plannable t table k m from until after₀ (length plan₀) → Planning t k m after₀ plan₀ slot at after plan)
 
 abbrev μ-loop : tie.MeasureT-loop
-μ-loop from until plan₀ table rows sets top time layout size after₀ slot₀ at₀ plan after slot at = until - slot
+μ-loop from until plan₀ table rows sets top time places size after₀ slot₀ at₀ plan after slot at = until - slot
 
 -- ---- what the intervals share
 

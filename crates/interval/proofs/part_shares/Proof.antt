@@ -7,9 +7,9 @@ use lib.ListN.{length, set, length-set}
 use Rattle.numbers.specs.Lists.{at}
 use Rattle.rules.specs.Bounds.{max-rows}
 use Rattle.flow.proofs.Network.{put-set}
 use Rattle.choice.proofs.Filling.{extend}
-use Rattle.choice.proofs.part_shares.Statement.{statement}
-use Rattle.choice.proofs.part_shares.Tie as tie
+use Rattle.interval.proofs.part_shares.Statement.{statement}
+use Rattle.interval.proofs.part_shares.Tie as tie
 
 abbrev Inv-loop : tie.InvT-loop
 Inv-loop rate slots size whole₀ part₀ h i₀ whole part i =

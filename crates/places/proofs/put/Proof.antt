@@ -9,10 +9,10 @@ use Rattle.numbers.specs.Word.{bit}
 use Rattle.numbers.proofs.Word.{bit-zero}
 use Rattle.flow.proofs.Network.{put-set}
 use Rattle.flow.proofs.Words.{bit-one-more, in-first, fewer, one-of}
-use Rattle.interval.specs.Ranges.{Marked}
-use Rattle.interval.proofs.Placing.{marked-next}
-use Rattle.interval.proofs.put.Statement.{statement}
-use Rattle.interval.proofs.put.Tie as tie
+use Rattle.places.specs.Ranges.{Marked}
+use Rattle.places.proofs.Placing.{marked-next}
+use Rattle.places.proofs.put.Statement.{statement}
+use Rattle.places.proofs.put.Tie as tie
 
 abbrev Inv-loop : tie.InvT-loop
 Inv-loop rows v to₀ done₀ to done = ((i : ℕ) → bit done i ≡ true → bit rows i ≡ true) × Marked done v to₀ to

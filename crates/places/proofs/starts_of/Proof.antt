@@ -10,10 +10,10 @@ use Rattle.numbers.specs.Lists.{at}
 use Rattle.numbers.specs.Word.{bit}
 use Rattle.numbers.proofs.Truth.{of-true, of-false}
 use Rattle.numbers.proofs.Finite.{lowest-is, lowest-none}
-use Rattle.interval.specs.Ranges.{lowestSet}
-use Rattle.interval.proofs.Placing.{Placing, placing-start, placing-next, placing-end}
-use Rattle.interval.proofs.starts_of.Statement.{statement}
-use Rattle.interval.proofs.starts_of.Tie as tie
+use Rattle.places.specs.Ranges.{lowestSet}
+use Rattle.places.proofs.Placing.{Placing, placing-start, placing-next, placing-end}
+use Rattle.places.proofs.starts_of.Statement.{statement}
+use Rattle.places.proofs.starts_of.Tie as tie
 
 abbrev Inv-loop : tie.InvT-loop
 Inv-loop rows sets words tail₀ left₀ k₀ tail left k =

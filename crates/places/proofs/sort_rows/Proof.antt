@@ -16,9 +16,9 @@ use Rattle.flow.specs.Network.{places-most}
 use Rattle.flow.specs.Way.{ByPlace}
 use Rattle.flow.proofs.Network.{put-set}
 use Rattle.flow.proofs.Words.{bit-one-more}
-use Rattle.choice.proofs.Filling.{placed-next}
-use Rattle.choice.proofs.sort_rows.Statement.{statement}
-use Rattle.choice.proofs.sort_rows.Tie as tie
+use Rattle.places.proofs.Sorted.{placed-next}
+use Rattle.places.proofs.sort_rows.Statement.{statement}
+use Rattle.places.proofs.sort_rows.Tie as tie
 
 abbrev Inv-loop : tie.InvT-loop
 Inv-loop end rows words₀ i₀ words i =

@@ -20,7 +20,7 @@ use Rattle.rules.specs.Bounds.{max-rows}
 use Rattle.table.specs.Columns.{ByRow}
 use Rattle.flow.specs.Network.{Put}
 use Rattle.flow.proofs.Words.{or-right, or-not, one-of}
-use Rattle.interval.specs.Ranges.{Marked}
+use Rattle.places.specs.Ranges.{Marked}
 
 -- one more row is written
 pub marked-next : (done done' c v : ℕ) (xs ys zs : List ℕ) → Marked done v xs ys → Put (at ys) c v (at zs) → length zs ≡ max-rows

@@ -4,9 +4,9 @@ use native.Mathlib.Omega.{arith}
 use Rattle.numbers.specs.Lists.{at}
 use Rattle.numbers.specs.Word.{bit}
 use Rattle.numbers.proofs.Finite.{lowest-le}
-use Rattle.interval.proofs.RowSets.{highest-after}
-use Rattle.interval.proofs.lay.Statement.{statement}
-use Rattle.interval.proofs.lay.Tie as tie
+use Rattle.places.proofs.Ranges.{highest-after}
+use Rattle.places.proofs.lay.Statement.{statement}
+use Rattle.places.proofs.lay.Tie as tie
 
 starts-of-requires : tie.Need-starts-of-requires
 starts-of-requires c κs = search needs

@@ -8,8 +8,8 @@ use borrow.Author.Tests.{le-leb}
 use Rattle.numbers.specs.Word.{bit}
 use Rattle.numbers.proofs.Word.{stretch-pow}
 use Rattle.rules.specs.Bounds.{max-rows}
-use Rattle.interval.proofs.all_rows.Statement.{statement}
-use Rattle.interval.proofs.all_rows.Tie as tie
+use Rattle.places.proofs.all_rows.Statement.{statement}
+use Rattle.places.proofs.all_rows.Tie as tie
 
 from-none : (i n : ℕ) → (leb 0 i && ltb i n) ≡ ltb i n
 from-none i n = ap (λ (b : Bool). b && ltb i n) (le-leb 0 i (omega arith))

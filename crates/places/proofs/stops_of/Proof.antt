@@ -11,10 +11,10 @@ use Rattle.numbers.specs.Lists.{at}
 use Rattle.numbers.specs.Word.{bit}
 use Rattle.numbers.proofs.Truth.{of-true, of-false}
 use Rattle.numbers.proofs.Finite.{highest-is, highest-none}
-use Rattle.interval.specs.Ranges.{highestSet}
-use Rattle.interval.proofs.Placing.{Placing, placing-start, placing-next, placing-end}
-use Rattle.interval.proofs.stops_of.Statement.{statement}
-use Rattle.interval.proofs.stops_of.Tie as tie
+use Rattle.places.specs.Ranges.{highestSet}
+use Rattle.places.proofs.Placing.{Placing, placing-start, placing-next, placing-end}
+use Rattle.places.proofs.stops_of.Statement.{statement}
+use Rattle.places.proofs.stops_of.Tie as tie
 
 -- no set from k on has the row
 abbrev Above : (sets k : ℕ) → (ℕ → Bool) → Type 0

@@ -5,7 +5,7 @@
 --   Ranged n K ws tail head the arrays hold the places where each of n rows starts, before its lowest set, and ends, after its highest
 --   Marked w v xs ys        the array ys holds v for each row in the word w, and else what xs does
 --
--- Only one pair of arrays fits (proofs/RowSets, `ranged-only`).
+-- Only one pair of arrays fits (proofs/Ranges, `ranged-only`).
 use mathlib.Core.Path.{_≡_}
 use mathlib.Core.Bool.{true, false}
 use mathlib.Core.List.{List}
