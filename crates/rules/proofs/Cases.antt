@@ -182,8 +182,8 @@ cases = record {
   late = Off.late 2 refl (lit≤ tt);
   all-done = B-not-off finished (2 ∷ 3 ∷ []) (λ k e. let z : _≡_ {A = ℕ} 0 1 = cc in omega arith) (lit≤ tt) tt;
   on-time = B-not-off (due 1) (1 ∷ 2 ∷ []) (λ k e. let z : 1 ≡ k = cc in omega arith) (lit≤ tt) tt;
-  other-loads = step-B .each .0 .qualify;
-  other-state = B-not-off (due 1) (1 ∷ 1 ∷ []) (λ k e. let z : 1 ≡ k = cc in omega arith) (lit≤ tt) tt;
   ahead = Off.row 0 (lit< tt) (rounded-test 2 (share case-B 0 4) (hyperperiod case-B) .of);
   spare = Off.spare 2 (lit≤ tt) (lit< tt) (λ e. let z : _≡_ {A = ℕ} 1 0 = e in omega arith);
+  other-loads = step-B .each .0 .qualify;
+  other-state = B-not-off (due 1) (1 ∷ 1 ∷ []) (λ k e. let z : 1 ≡ k = cc in omega arith) (lit≤ tt) tt;
 }

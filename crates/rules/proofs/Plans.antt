@@ -36,7 +36,7 @@ greatest-only {n} {Q} {x} {y} G H i l = go (suc i) i (le-refl (suc i)) l
 pub planner-same : {p q : Planner} → p .stage ≡ q .stage → ((i : ℕ) → p .totals i ≡ q .totals i) → p ≡ q
 planner-same s h = ap₂ (λ (s : Stage) (f : ℕ → ℕ). record { stage = s; totals = f }) s (fun-ext h)
 
--- two steps with the interval k due
+-- two steps in the same interval
 module _ {t : Table} {p q r : Planner} {ws vs : List ℕ} (a : Step t p q ws) (b : Step t p r vs) (e : b .interval ≡ a .interval) where
   loads-same : (i : ℕ) → i < t .rows → a .loads i ≡ b .loads i
   loads-same = greatest-only (a .greatest) (rw e at (b .greatest))

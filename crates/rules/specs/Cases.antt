@@ -113,8 +113,8 @@ pub record Cases : Type 0 where
   pub all-done : ¬ Off case-B (B-at finished (2 ∷ 3 ∷ []))
   -- or if a total is not the share rounded down or up, here 1 and 1 1/2, or one past the last row is not 0
   pub on-time : ¬ Off case-B (B-at (due 1) (1 ∷ 2 ∷ []))
+  pub ahead : Off case-B (B-at (due 1) (2 ∷ 1 ∷ []))
+  pub spare : Off case-B (B-at (due 1) (1 ∷ 2 ∷ 1 ∷ []))
   -- B's other loads, 1 and 1, qualify too; since #110 no step takes them, but a state that they left is not off
   pub other-loads : Qualify case-B 0 none-had (at (1 ∷ 1 ∷ []))
   pub other-state : ¬ Off case-B (B-at (due 1) (1 ∷ 1 ∷ []))
-  pub ahead : Off case-B (B-at (due 1) (2 ∷ 1 ∷ []))
-  pub spare : Off case-B (B-at (due 1) (1 ∷ 2 ∷ 1 ∷ []))
