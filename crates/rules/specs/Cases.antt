@@ -5,12 +5,12 @@ use mathlib.Core.Logic.{_↔_}
 use mathlib.Core.List.{List, [], _∷_}
 use Prim.Native.Nat.{ℕ, _*_}
 use lib.IntN.{pos, negℤ}
-use Rattle.numbers.specs.Lists.{at}
+use Rattle.numbers.specs.Lists.{at, each}
 use Rattle.numbers.specs.Word.{bit}
 use Rattle.rules.specs.Bus.{Table}
 use Rattle.rules.specs.TableFile.{memoryTable, bytes}
 use Rattle.rules.specs.Line.{cut, lineSecond, Sets}
-use Rattle.rules.specs.Loads.{hyperperiod, shortest, load, reported}
+use Rattle.rules.specs.Loads.{hyperperiod, end, intervals, shortest, load, reported}
 use Rattle.rules.specs.Interval.{lag, Qualify}
 use Rattle.rules.specs.Planner.{Stage, due, finished, Planner, fresh, Off, standing, Step, WholePlan}
 use Rattle.rules.specs.Refusals.{Answers, verdict-checks}
@@ -49,6 +49,10 @@ halves = memoryTable 3 3 (3 ∷ 8 ∷ 1 ∷ 2 ∷ 3 ∷ 8 ∷ 1 ∷ 3 ∷ 1 ∷ 
 -- M 3, rows (1,50,1,2), (1,10,2,3): row 0 is light
 abbrev pub fifty : Table
 fifty = memoryTable 3 2 (1 ∷ 50 ∷ 1 ∷ 2 ∷ 1 ∷ 10 ∷ 2 ∷ 3 ∷ [])
+
+-- M 4, rows (3,12,1,2), (5,20,1,3), (8,30,3,4): #105's table
+abbrev pub uneven : Table
+uneven = memoryTable 4 3 (3 ∷ 12 ∷ 1 ∷ 2 ∷ 5 ∷ 20 ∷ 1 ∷ 3 ∷ 8 ∷ 30 ∷ 3 ∷ 4 ∷ [])
 
 -- at first the rows have had no slots
 abbrev pub none-had : ℕ → ℕ
@@ -118,3 +122,8 @@ pub record Cases : Type 0 where
   pub other-state : ¬ Off case-B (B-at (due 1) (1 ∷ 1 ∷ []))
   pub ahead : Off case-B (B-at (due 1) (2 ∷ 1 ∷ []))
   pub spare : Off case-B (B-at (due 1) (1 ∷ 2 ∷ 1 ∷ []))
+  -- #105: L is 4, and the intervals end at 12, 20, 24, 30, 36, 40, 48 and 60
+  pub uneven-hyper : hyperperiod uneven ≡ 60
+  pub uneven-ends : each 8 (λ k. end uneven k ∷ []) ≡ 12 ∷ 20 ∷ 24 ∷ 30 ∷ 36 ∷ 40 ∷ 48 ∷ 60 ∷ []
+  pub uneven-intervals : intervals uneven ≡ 8
+  pub uneven-interval : shortest uneven ≡ 4
