@@ -252,7 +252,7 @@ module _ {t : Table} (S : Sound t) where
       let g = pair-gcd (t .period (a .0)) (t .period (b .0)) in
       let G : IsGcd (t .period (a .0)) (t .period (b .0)) (g .0) = g .1 in
       let ds : g .0 ∣ s = dvd-trans (g .0) (G .left) (a .2) in
-      let de : g .0 ∣ s + shortest t = rw (r .3) at (dvd-trans (g .0) (G .right) (b .2)) in
+      let de : g .0 ∣ s + shortest t = subst (λ (u : ℕ). g .0 ∣ u) (r .3) (dvd-trans (g .0) (G .right) (b .2)) in
       let le : g .0 ≤ shortest t = le-of-dvd shortest-positive (dvd-add-iff-right (g .0) ds .1 de) in
       let e : g .0 ≡ shortest t = omega (arith, shortest-le-gcd (a .0) (b .0) (g .0) (a .1) (b .1) G) in
       record { some = (a .0, b .0, a .1, b .1, rw e at G); least = shortest-le-gcd }
