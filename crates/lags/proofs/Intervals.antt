@@ -357,7 +357,7 @@ module _ {t : Table} (S : Sound t) where
     pub even-end : (k : ℕ) → start t k + shortest t ≡ end t k
     even-end k = omega (arith, even-start k, even-start (k + 1), end-next k)
 
-    even-whole : hyperperiod t / shortest t ≡ intervals t
+    pub even-whole : hyperperiod t / shortest t ≡ intervals t
     even-whole =
         let e : intervals t * shortest t ≡ hyperperiod t = even-start (intervals t) ∙ start-last in
         ap (λ (h : ℕ). h / shortest t) (sym e) ∙ mul-div-cancel (intervals t) shortest-positive

@@ -282,6 +282,26 @@ leading-leads (suc n) g =
     (ap (λ (vs : List ℕ). at vs (length ws)) e ∙ at-append-right ws (g n ∷ []) (length ws) (le-refl (length ws)) ∙ ap (at (g n ∷ [])) z)))
     (decide (any n (λ j. divides (g j) (g n))))
 
+-- what agrees with them leads too
+pub leads-same : {n m : ℕ} {g e f : ℕ → ℕ} → Leads n g m e → ((k : ℕ) → k < m → f k ≡ e k) → Leads n g m f
+leads-same L same = record {
+  among = λ k l. let r = L .among k l in (r .0, r .1, same k l ∙ r .2);
+  under = λ i l. let r = L .under i l in (r .0, r .1, rw (same (r .0) (r .1)) (r .2));
+}
+
+pub leading-few : (n : ℕ) (g : ℕ → ℕ) → length (leading n g) ≤ n
+leading-few zero g = rw (leading-none g) (le-refl 0)
+leading-few (suc n) g =
+    let few = leading-few n g in
+    ⊎-elim
+    (λ (t : T (any n (λ j. divides (g j) (g n)))).
+    let e : leading (suc n) g ≡ leading n g = rw add-one at (leading-kept n g (is-true _ t)) in
+    omega (arith, ap length e))
+    (λ (t : T (any n (λ j. divides (g j) (g n))) → ⊥).
+    let e : leading (suc n) g ≡ leading n g ++ (g n ∷ []) = rw add-one at (leading-new n g (is-false _ t)) in
+    omega (arith, ap length e ∙ length-append (leading n g) (g n ∷ [])))
+    (decide (any n (λ j. divides (g j) (g n))))
+
 -- ---- the first multiple past a number
 
 pub past-only : {n : ℕ} {g : ℕ → ℕ} {s r u : ℕ} → Past n g s r → Past n g s u → r ≡ u

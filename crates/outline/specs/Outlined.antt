@@ -22,7 +22,7 @@ use Rattle.rules.specs.Refusals.{Check, Answers, given-checks, line-checks}
 use Rattle.table.specs.Columns.{ByRow}
 use Rattle.table.specs.declared.Answer.{Answer}
 use Rattle.outline.specs.declared.Outline.{Outline}
-use Rattle.outline.specs.Time.{Timed}
+use Rattle.outline.specs.Time.{noTime, Timed}
 
 abbrev pub tableWith : (ℕ → ℕ) → ℕ → ℕ → (period first second : List ℕ) → Table
 tableWith cost elements rows period first second =
@@ -47,7 +47,7 @@ blank answer = record {
   elements = 0;
   rows = 0;
   cut = 0;
-  time = record { hyper = 0; interval = 0 };
+  time = noTime;
   first = replicate max-rows 0;
   second = replicate max-rows 0;
   sets = 0;

@@ -7,7 +7,6 @@ use table::Answer;
 use table::Table;
 pub use time::Time;
 use time::hyperperiod_of;
-use time::shortest_of;
 ghost use mathlib.Core.Path.{_≡_};
 ghost use Prim.Native.Nat.{ℕ, _≤_};
 ghost use lib.ListN.{length};
@@ -40,10 +39,7 @@ impl Outline {
             elements: 0,
             rows: 0,
             cut: 0,
-            time: Time {
-                hyper: 0,
-                interval: 0,
-            },
+            time: Time::none(),
             first: [0; Table::ROWS],
             second: [0; Table::ROWS],
             sets: 0,
@@ -83,10 +79,7 @@ pub fn outline_of<'a>(
         elements: elements,
         rows: rows,
         cut: cut,
-        time: Time {
-            hyper: hyper,
-            interval: shortest_of(rows, period),
-        },
+        time: Time::of(hyper, rows, period),
         first: line_first,
         second: line_second,
         sets: list.count,

@@ -5,11 +5,12 @@ use native.Mathlib.Omega.{arith}
 use borrow.Author.Needs.{needs}
 use lib.ListN.{take}
 use Rattle.numbers.specs.Lists.{at}
+use Rattle.numbers.proofs.Divisors.{least-gcd-only}
 use Rattle.rules.specs.Bus.{Table}
 use Rattle.rules.specs.Line.{cut}
 use Rattle.ring.proofs.Rows.{sound-routes, ring-cut, laid-first, laid-second}
 use Rattle.ring.proofs.Cut.{cut-low}
-use Rattle.lags.proofs.Intervals.{hyperperiod-positive, shortest-is}
+use Rattle.lags.proofs.Intervals.{hyperperiod-positive, shortest-gcd}
 use Rattle.outline.specs.Outlined.{tableWith}
 use Rattle.outline.proofs.Periods.{periods-of, capped-hyper, capped-some, capped-none}
 use Rattle.outline.proofs.Sets.{Ends, ends-on-line, ring-list}
@@ -102,8 +103,8 @@ list-sets-requires c κs =
 done-requires : tie.Need-done-requires
 done-requires c κs = search needs
 
-shortest-of-requires : tie.Need-shortest-of-requires
-shortest-of-requires c κs = periods-of (entry (laid (c .before .before .before) .before) .pre .1)
+of-requires : tie.Need-of-requires
+of-requires c κs = periods-of (entry (laid (c .before .before .before) .before) .pre .1)
 
 returns-3 : tie.Need-returns-3
 returns-3 c cost z =
@@ -115,13 +116,15 @@ returns-3 c cost z =
     let h = capped-some (capped-hyper t (e .before .hyperperiod-of .ensures)) (e .if2 .left) in
     let s = L .list-sets .result in
     let S = L .list-sets .ensures in
+    let C = c .of .ensures in
     outlined-found t _ (c .before .done .ensures)
     (record {
       timed = record {
         sound = z;
         short = omega (arith, h);
-        hyper = h .0;
-        interval = shortest-is z (c .shortest-of .ensures);
+        hyper = C .hyper ∙ h .0;
+        interval = least-gcd-only (C .interval) (shortest-gcd z);
+        leads = C .leads;
       };
       clear = clear e cost;
       elements = refl;
@@ -151,5 +154,5 @@ outline-of-spec =
     add-list-sets
     list-sets-requires
     done-requires
-    shortest-of-requires
+    of-requires
     returns-3)
