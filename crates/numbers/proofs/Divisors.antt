@@ -197,25 +197,6 @@ module _ (n : ℕ) (g : ℕ → ℕ) (some : 0 < n) (pos : Positive n g) where
   pub gcd-positive : 0 < gcd n g
   gcd-positive = pos-of-dvd-of-pos (gcd-divides 0 some) (pos 0 some)
 
-  pub gcd-divides-lcm : gcd n g ∣ lcm n g
-  gcd-divides-lcm = dvd-trans (gcd n g) (gcd-divides 0 some) (lcm-multiple n g pos 0 some)
-
-pub gcd-one : (g : ℕ → ℕ) → 0 < g 0 → gcd 1 g ≡ g 0
-gcd-one g pos = gcd-of-greatest 1 g (omega arith) (λ i l. rw (only-zero i l) pos) (g 0) (greatest-one g)
-
-pub gcd-next : (n : ℕ) (g : ℕ → ℕ) → 0 < n → Positive (n + 1) g → (d : ℕ) → IsGcd (gcd n g) (g n) d → gcd (n + 1) g ≡ d
-gcd-next n g some pos d P =
-    rw add-one
-    (gcd-of-greatest (suc n) g (omega arith) (λ i l. pos i (omega arith)) d
-    (greatest-next (gcd-as-greatest n g some (λ i l. pos i (omega arith))) P))
-
-pub gcd-same : (n : ℕ) (g : ℕ → ℕ) (c : ℕ) → 0 < n → 0 < c → ((i : ℕ) → i < n → g i ≡ c) → gcd n g ≡ c
-gcd-same n g c some pos e =
-    gcd-of-greatest n g some (λ i l. rw (e i l) pos) c (record {
-      divisor = λ i l. rw (e i l) (dvd-refl c);
-      greatest = λ d D. rw (e 0 some) at (D 0 some);
-    })
-
 -- ---- the leading numbers
 
 leads-none : (g f : ℕ → ℕ) → Leads 0 g 0 f

@@ -3,7 +3,7 @@
 use mathlib.Core.Path.{_≡_, refl, sym, ap, ap₂, _∙_, subst}
 use mathlib.Core.Logic.{_↔_}
 use mathlib.Core.List.{List, [], _∷_, _++_}
-use mathlib.Core.Bool.{Bool, not, _&&_}
+use mathlib.Core.Bool.{Bool, true, false, not, _&&_}
 use Prim.Native.Nat.{ℕ, suc, _≤_, _<_}
 use native.Mathlib.Omega.{arith}
 use lib.Dec.{T, ltb, ltb→lt, lit<, lit≤}
@@ -28,7 +28,7 @@ use Rattle.rules.specs.Interval.{lag, before, hinders, free}
 use Rattle.rules.specs.Planner.{Stage, due, finished, none, more, reached, Off, standing, WholePlan}
 use Rattle.rules.specs.Refusals.{header-checks, row-checks, file-checks, pasted-checks, given-checks}
 use Rattle.rules.specs.Refusals.{line-checks, bound-checks, verdict-checks}
-use Rattle.rules.specs.Cases.{case-A, case-B, case-B-with, equal-with, pasted-with, round, thirds, halves, uneven, none-had, B-at, Cases}
+use Rattle.rules.specs.Cases.{case-A, case-B, case-B-with, equal-with, pasted-with, round, thirds, halves, uneven, uneven-with, none-had, B-at, Cases}
 use Rattle.rules.proofs.Sets.{set-in, sets-only, sets-by}
 use Rattle.rules.proofs.Verdict.{verdict-by}
 use Rattle.rules.proofs.Steps.{Outcome, Outcomes, Best, rounded-test, qualify-test, moved-on, outcomes-by, best-test}
@@ -158,19 +158,21 @@ plans-B ws = (
 four : IsGcd 12 20 4
 four = pair-gcd-step 12 20 4 (pair-gcd-step 20 12 4 (pair-gcd-step 12 8 4 (pair-gcd-step 8 4 4 (pair-gcd-zero 4))))
 
-hyper-uneven : hyperperiod uneven ≡ 60
+-- whatever the second cost
+hyper-uneven : (cost : ℕ) → hyperperiod (uneven-with cost) ≡ 60
 unfolding every hyperperiod
-hyper-uneven =
-    lcm-of-least 3 (uneven .period) (λ i l. ltb→lt 0 (uneven .period i) (every-at 3 (λ i. ltb 0 (uneven .period i)) tt i l)) 60
+hyper-uneven cost =
+    let p : ℕ → ℕ = uneven-with cost .period in
+    lcm-of-least 3 p (λ i l. ltb→lt 0 (p i) (every-at 3 (λ i. ltb 0 (p i)) tt i l)) 60
     (record {
-      multiple = λ i l. dvd-of (uneven .period i) 60 (every-at 3 (λ i. divides (uneven .period i) 60) tt i l);
+      multiple = λ i l. dvd-of (p i) 60 (every-at 3 (λ i. divides (p i) 60) tt i l);
       least = λ k M. pair-lcm-by 12 20 4 (lit< tt) four .least k (M 0 (lit< tt)) (M 1 (lit< tt));
     })
 
 next-uneven : (nextEnd uneven 0 ≡ 12) × (nextEnd uneven 12 ≡ 20) × (nextEnd uneven 20 ≡ 24) × (nextEnd uneven 24 ≡ 30)
     × (nextEnd uneven 30 ≡ 36) × (nextEnd uneven 36 ≡ 40) × (nextEnd uneven 40 ≡ 48) × (nextEnd uneven 48 ≡ 60)
 unfolding any lowest jobEnd nextEnd
-next-uneven = rw hyper-uneven (refl, refl, refl, refl, refl, refl, refl, refl)
+next-uneven = rw (hyper-uneven 5) (refl, refl, refl, refl, refl, refl, refl, refl)
 
 ends-uneven : each 8 (λ k. end uneven k ∷ []) ≡ 12 ∷ 20 ∷ 24 ∷ 30 ∷ 36 ∷ 40 ∷ 48 ∷ 60 ∷ []
 unfolding each start end
@@ -180,19 +182,32 @@ ends-uneven =
 
 intervals-uneven : intervals uneven ≡ 8
 unfolding any only sum jobEnd intervals
-intervals-uneven = rw hyper-uneven refl
+intervals-uneven = rw (hyper-uneven 5) refl
 
-lengths-uneven : T (every 4 (λ l. not (someInterval uneven l)) && someInterval uneven 4)
+lengths-uneven : (cost : ℕ) → T (every 4 (λ l. not (someInterval (uneven-with cost) l)) && someInterval (uneven-with cost) 4)
 unfolding any every lowest jobEnd nextEnd someInterval
-lengths-uneven = rw hyper-uneven tt
+lengths-uneven cost = rw (hyper-uneven cost) tt
 
-shortest-uneven : shortest uneven ≡ 4
+shortest-uneven : (cost : ℕ) → shortest (uneven-with cost) ≡ 4
 unfolding shortest
-shortest-uneven =
-    let few : Bool = every 4 (λ l. not (someInterval uneven l)) in
-    lowest-is (suc (hyperperiod uneven)) (someInterval uneven) 4 (rw hyper-uneven (lit< tt)) (snd few (someInterval uneven 4) lengths-uneven)
-    (λ l b. refutes (someInterval uneven l)
-    (every-at 4 (λ l. not (someInterval uneven l)) (fst few (someInterval uneven 4) lengths-uneven) l b))
+shortest-uneven cost =
+    let t : Table = uneven-with cost in
+    let few : Bool = every 4 (λ l. not (someInterval t l)) in
+    let h = lengths-uneven cost in
+    lowest-is (suc (hyperperiod t)) (someInterval t) 4 (rw (hyper-uneven cost) (lit< tt)) (snd few (someInterval t 4) h)
+    (λ l b. refutes (someInterval t l) (every-at 4 (λ l. not (someInterval t l)) (fst few (someInterval t 4) h) l b))
+
+heavy-uneven : light uneven 0 ≡ false
+unfolding every equalPeriods light
+heavy-uneven = rw (shortest-uneven 5) refl
+
+at-uneven : over (uneven-with 10) (bit 3) ≡ false
+unfolding every only sum bit rate equalPeriods over
+at-uneven = rw (shortest-uneven 10, hyper-uneven 10) refl
+
+over-uneven : over (uneven-with 11) (bit 3) ≡ true
+unfolding every only sum bit rate equalPeriods over
+over-uneven = rw (shortest-uneven 11, hyper-uneven 11) refl
 
 pub cases : Cases
 unfolding computing
@@ -234,8 +249,11 @@ cases = record {
   other-state = B-not-off (due 1) (1 ∷ 1 ∷ []) (λ k e. let z : 1 ≡ k = cc in omega arith) (lit≤ tt) tt;
   ahead = Off.row 0 (lit< tt) (rounded-test 2 (share case-B 0 4) (hyperperiod case-B) .of);
   spare = Off.spare 2 (lit≤ tt) (lit< tt) (λ e. let z : _≡_ {A = ℕ} 1 0 = e in omega arith);
-  uneven-hyper = hyper-uneven;
+  uneven-hyper = hyper-uneven 5;
   uneven-ends = ends-uneven;
   uneven-intervals = intervals-uneven;
-  uneven-interval = shortest-uneven;
+  uneven-interval = shortest-uneven 5;
+  uneven-heavy = heavy-uneven;
+  uneven-at = at-uneven;
+  uneven-over = over-uneven;
 }
