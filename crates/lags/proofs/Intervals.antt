@@ -4,11 +4,12 @@
 -- common divisor of any two periods (`shortest-gcd`). Where each ends and starts, as the code works it out, stands here too (`end-is`,
 -- `even-end`, `even-start`).
 use mathlib.Core.Path.{_≡_, refl, sym, ap, subst, _∙_}
-use mathlib.Core.Bool.{Bool, _&&_}
+use mathlib.Core.Bool.{_&&_}
 use mathlib.Core.Logic.{_≢_, ⊎-elim}
 use Prim.Native.Nat.{ℕ, zero, suc, _+_, _-_, _*_, _/_, _%_, _≤_, _<_, _∣_, min}
-use native.Mathlib.Nat.{le-refl, eq-or-lt-of-le, le-of-suc-le-suc, le-of-dvd, div-mul-cancel, mod-lt, mod-add-div', zero-mul, mul-div-cancel}
-use native.Mathlib.Nat.{mul-le-mul-left, mul-le-mul-right, lt-of-mul-lt-mul-right, pos-of-dvd-of-pos}
+use native.Mathlib.Nat.{le-refl, eq-or-lt-of-le, le-of-suc-le-suc, le-of-dvd, zero-mul}
+use native.Mathlib.Nat.{div-mul-cancel, mul-div-cancel, mod-lt, mod-add-div'}
+use native.Mathlib.Nat.{mul-le-mul-left, pos-of-dvd-of-pos}
 use native.Mathlib.Nat.{dvd-refl, dvd-trans, dvd-zero, dvd-mul-left, dvd-mul-left-of-dvd, dvd-add-iff-right, dvd-mod-iff}
 use native.Mathlib.Numerals.{add-one}
 use native.Mathlib.Omega.{arith}
@@ -17,9 +18,11 @@ use Rattle.numbers.specs.Finite.{any, sum, count}
 use Rattle.numbers.specs.Divisors.{divides, Leads, Past}
 use Rattle.numbers.specs.Pairs.{IsGcd, LeastGcd}
 use Rattle.numbers.proofs.Truth.{both, fst, snd, eqb-of, is-true, le-or-lt}
-use Rattle.numbers.proofs.Finite.{any-of, least, every-at, lowest-below, lowest-has, lowest-under, only-true, count-mono, count-split, count-none}
+use Rattle.numbers.proofs.Finite.{any-of, least, every-at, lowest-below, lowest-has, lowest-under, only-true}
+use Rattle.numbers.proofs.Finite.{count-mono, count-split, count-none}
 use Rattle.numbers.proofs.Pairs.{pair-gcd, pair-gcd-self, pair-gcd-only, pair-gcd-near}
-use Rattle.numbers.proofs.Divisors.{dvd-of, of-dvd, lcm-multiple, lcm-positive, lcm-same, past-only, past-led, least-gcd-only, least-gcd-led}
+use Rattle.numbers.proofs.Divisors.{dvd-of, of-dvd, lcm-multiple, lcm-positive, lcm-same}
+use Rattle.numbers.proofs.Divisors.{past-only, past-led, least-gcd-only, least-gcd-led}
 use Rattle.rules.specs.Bounds.{max-slots}
 use Rattle.rules.specs.Bus.{Table}
 use Rattle.rules.specs.Loads.{hyperperiod, jobEnd, nextEnd, start, end, intervals, someInterval, shortest, rate, equalPeriods}
@@ -185,9 +188,12 @@ module _ {t : Table} (S : Sound t) where
   unfolding someInterval
   at-some l h =
       let r = least (hyperperiod t) (λ s. jobEnd t s && eqb (nextEnd t s) (s + l)) h in
-      let s : ℕ = r .0 in
-      (s, r .1, fst (jobEnd t s) (eqb (nextEnd t s) (s + l)) (r .2),
-      eqb→eq (nextEnd t s) (s + l) (snd (jobEnd t s) (eqb (nextEnd t s) (s + l)) (r .2)))
+      let s : ℕ = r .0 in (
+        s,
+        r .1,
+        fst (jobEnd t s) (eqb (nextEnd t s) (s + l)) (r .2),
+        eqb→eq (nextEnd t s) (s + l) (snd (jobEnd t s) (eqb (nextEnd t s) (s + l)) (r .2)),
+      )
 
   -- it is no longer than what comes after any such slot
   shortest-under : (s : ℕ) → s < hyperperiod t → T (jobEnd t s) → s + shortest t ≤ nextEnd t s
@@ -202,7 +208,8 @@ module _ {t : Table} (S : Sound t) where
   unfolding shortest
   shortest-at =
       let e : nextEnd t 0 ≡ 0 + nextEnd t 0 = omega arith in
-      let l = lowest-under (suc (hyperperiod t)) (someInterval t) (nextEnd t 0) (some-at 0 (nextEnd t 0) hyperperiod-positive zero-ends e) in
+      let first : T (someInterval t (nextEnd t 0)) = some-at 0 (nextEnd t 0) hyperperiod-positive zero-ends e in
+      let l = lowest-under (suc (hyperperiod t)) (someInterval t) (nextEnd t 0) first in
       at-some (shortest t) (lowest-has (suc (hyperperiod t)) (someInterval t)
       (omega (arith, next-least 0 (hyperperiod t) hyperperiod-positive hyperperiod-ends)))
 
@@ -382,7 +389,14 @@ module _ {t : Table} (S : Sound t) where
     equal-intervals =
         let one : intervals t ≤ 1 =
         ⊎-elim (λ l. l)
-        (λ l. absurd (omega (arith, start-strict 1 (intervals t) l (le-refl (intervals t)), start-last, end-next 0, end-far 0 intervals-positive,
-        equal-shortest, equal-hyperperiod)))
+        (λ l. absurd (omega (
+          arith,
+          start-strict 1 (intervals t) l (le-refl (intervals t)),
+          start-last,
+          end-next 0,
+          end-far 0 intervals-positive,
+          equal-shortest,
+          equal-hyperperiod,
+        )))
         (le-or-lt (intervals t) 1) in
         omega (arith, intervals-positive)

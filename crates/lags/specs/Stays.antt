@@ -5,7 +5,7 @@
 --   overBefore t D     what 14 asked of a set with it
 --   Stays              of every table that passes 4 to 9: what 13 or 14 is given for was so before, too
 use mathlib.Core.Bool.{Bool, not, _&&_, cond}
-use Prim.Native.Nat.{ℕ, _-_, _*_, _<_}
+use Prim.Native.Nat.{ℕ, _-_, _*_}
 use lib.Dec.{T, ltb}
 use Rattle.numbers.specs.Divisors.{gcd}
 use Rattle.rules.specs.Bus.{Table}

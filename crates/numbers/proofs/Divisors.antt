@@ -29,7 +29,7 @@ use Rattle.numbers.specs.Pairs.{IsGcd, IsLcm, LeastGcd}
 use Rattle.numbers.proofs.Truth.{both, fst, snd, decide, is-true, is-false, same, le-or-lt}
 use Rattle.numbers.proofs.Finite.{any-of, least, every-at, every-of, lowest-is, highest-is}
 use Rattle.numbers.proofs.Lists.{each-none, each-next, at-append-right}
-use Rattle.numbers.proofs.Pairs.{pair-gcd, pair-gcd-self, pair-lcm, pair-lcm-positive}
+use Rattle.numbers.proofs.Pairs.{pair-gcd, pair-lcm, pair-lcm-positive}
 
 -- ---- the test
 
@@ -308,13 +308,15 @@ after : (p s : ℕ) → 0 < p → (s < s / p * p + p) × (p ∣ s / p * p + p) �
 after p s pos =
     let e : s % p + s / p * p ≡ s = mod-add-div' s p in
     let l : s % p < p = mod-lt s pos in
-    let d : p ∣ s / p * p = dvd-mul-left p (s / p) in
-    (omega arith, dvd-add p d (dvd-refl p),
-    λ u a b c.
-    let v : ℕ = u - s / p * p in
-    let w : s / p * p + v ≡ u = omega arith in
-    let z : p ≤ v = le-of-dvd (omega arith) (dvd-add-iff-right p d .1 (rw w c)) in
-    omega arith)
+    let d : p ∣ s / p * p = dvd-mul-left p (s / p) in (
+      omega arith,
+      dvd-add p d (dvd-refl p),
+      λ u a b c.
+          let v : ℕ = u - s / p * p in
+          let w : s / p * p + v ≡ u = omega arith in
+          let z : p ≤ v = le-of-dvd (omega arith) (dvd-add-iff-right p d .1 (rw w c)) in
+          omega arith,
+    )
 
 pub past-one : (g : ℕ → ℕ) (s : ℕ) → 0 < g 0 → Past 1 g s (s / g 0 * g 0 + g 0)
 past-one g s pos =

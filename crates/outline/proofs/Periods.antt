@@ -173,11 +173,12 @@ module _ {n : ℕ} {p : ℕ → ℕ} (P : Periods n p) where
           let nought : ℕ = 0 in
           let size : length zeros ≡ max-rows = length-replicate max-rows nought in
           let room : m < length zeros = omega (arith, keeping-space) in
+          let put = getD-set-same ks m (p i) 0 (omega (arith, K .filled .same, size, keeping-space)) in
           let F : Filled (replicate max-rows 0) (set ks m (p i)) (m + 1) (leading i p ++ (p i ∷ [])) = filled-put (p i) (K .filled) room in
           record {
             rows = omega arith;
             filled = rw (leading-new i p (sym (leads-any keeping-leads (p i)) ∙ e)) F;
-            again = inr (m, omega arith, rw (getD-set-same ks m (p i) 0 (omega (arith, K .filled .same, size, keeping-space))) (dvd-refl (p i)));
+            again = inr (m, omega arith, rw put (dvd-refl (p i)));
           }
 
 pub keeping-end : {n : ℕ} {p : ℕ → ℕ} {i m : ℕ} {ks : List ℕ} {last : ℕ} → Keeping n p i m ks last → n ≤ i → Leading n p m ks

@@ -28,7 +28,8 @@ use Rattle.rules.specs.Interval.{lag, before, hinders, free}
 use Rattle.rules.specs.Planner.{Stage, due, finished, none, more, reached, Off, standing, WholePlan}
 use Rattle.rules.specs.Refusals.{header-checks, row-checks, file-checks, pasted-checks, given-checks}
 use Rattle.rules.specs.Refusals.{line-checks, bound-checks, verdict-checks}
-use Rattle.rules.specs.Cases.{case-A, case-B, case-B-with, equal-with, pasted-with, round, thirds, halves, uneven, uneven-with, none-had, B-at, Cases}
+use Rattle.rules.specs.Cases.{case-A, case-B, case-B-with, equal-with, pasted-with, round, thirds, halves, none-had, B-at, Cases}
+use Rattle.rules.specs.Cases.{uneven, uneven-with}
 use Rattle.rules.proofs.Sets.{set-in, sets-only, sets-by}
 use Rattle.rules.proofs.Verdict.{verdict-by}
 use Rattle.rules.proofs.Steps.{Outcome, Outcomes, Best, rounded-test, qualify-test, moved-on, outcomes-by, best-test}
@@ -38,8 +39,9 @@ use Rattle.rules.proofs.Plans.{run-more}
 -- All that computes below: an `unfolding` line that names it opens all that its own line names.
 computing : Unit {0}
 unfolding any every lowest highest only sum bit lcm product Rounded each steps uses through overlap pasted bytes clear cut onLine
-    lineFirst lineSecond hyperperiod jobEnd nextEnd start end intervals someInterval shortest rate equalPeriods light over largest reported lag before hinders free
-    standing header-checks row-checks file-checks pasted-checks given-checks line-checks bound-checks verdict-checks
+    lineFirst lineSecond hyperperiod jobEnd nextEnd start end intervals someInterval shortest rate equalPeriods light over largest
+    reported lag before hinders free standing header-checks row-checks file-checks pasted-checks given-checks line-checks bound-checks
+    verdict-checks
 computing = tt
 
 -- ---- the lists of sets

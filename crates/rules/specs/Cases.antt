@@ -116,7 +116,8 @@ pub record Cases : Type 0 where
   -- the sums over sets: 2 and 2 are each a lag rounded up, but come to more than the summed lag; 2 and 1 qualify
   pub sum-met : Qualify halves 0 none-had (at (2 ∷ 1 ∷ 1 ∷ []))
   pub sum-over : ¬ Qualify halves 0 none-had (at (2 ∷ 2 ∷ 1 ∷ []))
-  -- a state is off if its interval number is the number of intervals, even where every total is its share: B has intervals 0 and 1; finished counts as slot h
+  -- a state is off if its interval number is as many as there are, even where every total is its share: B has intervals 0 and 1;
+  -- finished counts as slot h
   pub late : Off case-B (B-at (due 2) (2 ∷ 3 ∷ []))
   pub all-done : ¬ Off case-B (B-at finished (2 ∷ 3 ∷ []))
   -- or if a total is not the share rounded down or up, here 1 and 1 1/2, or one past the last row is not 0

@@ -1,8 +1,6 @@
 -- refused: 0 for all but the answer.
-use mathlib.Core.Path.{_≡_, refl, ap}
+use mathlib.Core.Path.{refl}
 use borrow.Author.Needs.{needs}
-use Rattle.outline.specs.declared.time.Time.{Time}
-use Rattle.outline.specs.Outlined.{blank}
 use Rattle.outline.proofs.Outline.refused.Statement.{statement}
 use Rattle.outline.proofs.Outline.refused.Tie as tie
 

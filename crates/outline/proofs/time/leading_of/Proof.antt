@@ -5,7 +5,8 @@ use Prim.Native.Nat.{_-_}
 use native.Mathlib.Omega.{arith}
 use borrow.Author.Tests.{not-true, not-false}
 use Rattle.numbers.specs.Lists.{at}
-use Rattle.outline.proofs.Periods.{Keeping, keeping-start, keeping-low, keeping-room, keeping-kept, keeping-space, keeping-new, keeping-end}
+use Rattle.outline.proofs.Periods.{Keeping, keeping-start, keeping-low, keeping-room}
+use Rattle.outline.proofs.Periods.{keeping-kept, keeping-space, keeping-new, keeping-end}
 use Rattle.outline.proofs.time.leading_of.Statement.{statement}
 use Rattle.outline.proofs.time.leading_of.Tie as tie
 

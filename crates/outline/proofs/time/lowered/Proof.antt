@@ -38,11 +38,13 @@ loop-less c = omega arith
 
 loop-again : tie.Need-loop-again Inv-loop μ-loop
 loop-again c =
-    let u = c .before .before .before .before in
-    (omega arith, λ n P N l.
-    rw (c .lower .ensures)
-    (nearing-next P (u .loop .inv .1 n P N l) l (omega arith)
-    (rw (u .before .slots-at .ensures, c .before .before .slots-at2 .ensures) at (c .before .gcd-of .ensures))))
+    let u = c .before .before .before .before in (
+      omega arith,
+      λ n P N l.
+          rw (c .lower .ensures)
+          (nearing-next P (u .loop .inv .1 n P N l) l (omega arith)
+          (rw (u .before .slots-at .ensures, c .before .before .slots-at2 .ensures) at (c .before .gcd-of .ensures))),
+    )
 
 returns : tie.Need-returns Inv-loop μ-loop
 returns c n P N l =

@@ -54,9 +54,11 @@ loop-less c = omega arith
 loop-again : tie.Need-loop-again Inv-loop μ-loop
 loop-again c =
     let u = c .before .before .before .before in
-    let z = u .before .before .before in
-    (omega arith, rw (c .lower .ensures, c .before .after2 .ensures, c .before .before .slots-at2 .ensures)
-    (past-next (u .loop .inv .1) (z .pre .0 .low (u .loop .k) (omega arith))))
+    let z = u .before .before .before in (
+      omega arith,
+      rw (c .lower .ensures, c .before .after2 .ensures, c .before .before .slots-at2 .ensures)
+          (past-next (u .loop .inv .1) (z .pre .0 .low (u .loop .k) (omega arith))),
+    )
 
 returns : tie.Need-returns Inv-loop μ-loop
 returns c =

@@ -1,11 +1,10 @@
 -- next_end: the first multiple past the slot of a period that leads.
 use mathlib.Core.Path.{_≡_, ap₂, _∙_}
-use Prim.Native.Nat.{ℕ, _+_, _≤_}
+use Prim.Native.Nat.{ℕ, _+_}
 use native.Mathlib.Omega.{arith}
 use Rattle.numbers.specs.Lists.{at}
-use Rattle.numbers.specs.Divisors.{Leads}
 use Rattle.rules.specs.Bus.{Table}
-use Rattle.rules.specs.Loads.{shortest, start, end}
+use Rattle.rules.specs.Loads.{end}
 use Rattle.lags.proofs.Intervals.{end-is, even-end, end-le, end-far}
 use Rattle.outline.specs.declared.time.Time.{Time}
 use Rattle.outline.specs.Time.{Timed, Begins}

@@ -6,7 +6,7 @@ use native.Mathlib.Omega.{arith}
 use Rattle.numbers.specs.Lists.{at}
 use Rattle.numbers.specs.Divisors.{Past}
 use Rattle.rules.specs.Bus.{Table}
-use Rattle.rules.specs.Loads.{hyperperiod, intervals, start}
+use Rattle.rules.specs.Loads.{intervals, start}
 use Rattle.lags.proofs.Intervals.{start-first, start-last, start-below, start-strict, start-in, start-late, intervals-le, end-is, end-next}
 use Rattle.outline.specs.declared.time.Time.{Time}
 use Rattle.outline.specs.Time.{Timed}
