@@ -75,10 +75,38 @@ static unsigned shortest(const struct table *t) {
     return l;
 }
 
-/* Rows round a ring that leave one element clear more often than not; periods are a number times divisors of another: harmonic ones where
- * that has one prime, coprime but for the first number, or as 6, 10 and 15 are, where it has more. */
+/* The least cost that is not light, or now and then a smaller one, or more. */
+static void give_costs(struct table *t) {
+    unsigned l = shortest(t);
+    for (unsigned i = 0; i < t->rows; i++) {
+        struct row *r = &t->row[i];
+        unsigned least = (r->period + l - 1) / l;
+        r->cost = between(below(40) ? least : 1, below(t->rows) < 3 ? r->period : least);
+        if (r->cost > r->period) r->cost = r->period;
+    }
+}
+
+/* Few rows, whose periods are multiples of one number that have else little in common: two or three coprime ones times it, or as 6, 10 and 15
+ * are, each two of three primes. Many intervals are of different length then. */
+static void uneven_table(struct table *t) {
+    static const unsigned times[][4] = {{2, 3}, {3, 4}, {3, 5}, {7, 9}, {2, 3, 5}, {3, 5, 7}, {6, 10, 15}, {6, 10, 15, 30}, {6, 14, 21}, {10, 14, 35}};
+    const unsigned *time = times[below(sizeof times / sizeof *times)];
+    memset(t, 0, sizeof *t);
+    t->elements = between(3, 12);
+    t->rows = between(2, 8);
+    unsigned kinds = 2 + !!time[2] + !!time[3], base = between(1, below(4) ? 12 : 19);
+    for (unsigned i = 0; i < t->rows; i++) {
+        struct row *r = &t->row[i];
+        r->period = base * time[i < kinds ? i : below(kinds)];
+        r->first = between(1, t->elements - 1);
+        r->second = r->first + 1;
+    }
+    give_costs(t);
+}
+
+/* Rows round a ring that leave one element clear more often than not; periods are a number times divisors of a small one. */
 static void random_table(struct table *t) {
-    static const unsigned small[] = {1, 2, 3, 4, 5, 6, 8, 10, 12, 15, 30, 35, 42, 60, 105};
+    static const unsigned small[] = {1, 2, 3, 4, 5, 6, 8, 10, 12, 30};
     memset(t, 0, sizeof *t);
     t->elements = between(2, below(3) ? 8 : MAX_ELEMENTS);
     t->rows = between(1, below(4) ? 10 : MAX_ROWS);
@@ -107,13 +135,7 @@ static void random_table(struct table *t) {
             if (r->first == r->second) r->second = r->first % t->elements + 1;
         }
     }
-    unsigned l = shortest(t);
-    for (unsigned i = 0; i < t->rows; i++) {
-        struct row *r = &t->row[i];
-        unsigned least = (r->period + l - 1) / l;
-        r->cost = between(below(40) ? least : 1, below(t->rows) < 3 ? r->period : least);
-        if (r->cost > r->period) r->cost = r->period;
-    }
+    give_costs(t);
 }
 
 /* Row i has the ends and the period of an earlier one. */
@@ -349,6 +371,7 @@ int main(int argc, char **argv) {
         struct table t;
         struct file f = {.length = 0};
         if (routes) long_routes(&t);
+        else if (below(5) == 0) uneven_table(&t);
         else random_table(&t);
         if (!routes && below(30)) without_pasted(&t);
         if (!routes && below(3) == 0) to_the_bound(&t, (int)below(2));
