@@ -86,10 +86,11 @@ static void give_costs(struct table *t) {
     }
 }
 
-/* Few rows, whose periods are multiples of one number that have else little in common: two or three coprime ones times it, or as 6, 10 and 15
- * are, each two of three primes. Many intervals are of different length then. */
+/* Few rows, whose periods are multiples of one number that have else little in common: two or three coprime ones times it, or each two of
+ * three primes, as 6, 10 and 15. Many intervals are of different length then. */
 static void uneven_table(struct table *t) {
-    static const unsigned times[][4] = {{2, 3}, {3, 4}, {3, 5}, {7, 9}, {2, 3, 5}, {3, 5, 7}, {6, 10, 15}, {6, 10, 15, 30}, {6, 14, 21}, {10, 14, 35}};
+    static const unsigned times[][4] = {{2, 3}, {3, 4}, {3, 5}, {7, 9}, {2, 3, 5}, {3, 5, 7}, {6, 10, 15}, {6, 10, 15, 30}, {6, 14, 21},
+        {10, 14, 35}};
     const unsigned *time = times[below(sizeof times / sizeof *times)];
     memset(t, 0, sizeof *t);
     t->elements = between(3, 12);

@@ -65,8 +65,8 @@ function on_light(    i, l, line) {
     l = shortest()
     for (i = 0; i < rows; i++)
         if (cost[i] * l < period[i])
-            line = line (line == "" ? "" : "\n") "row " i " costs " plural(cost[i], "slot") " of " period[i] "; with a shortest interval of " l " slots " \
-                "the least that passes is " int((period[i] + l - 1) / l)
+            line = line (line == "" ? "" : "\n") "row " i " costs " plural(cost[i], "slot") " of " period[i] \
+                "; with a shortest interval of " plural(l, "slot") " the least that passes is " int((period[i] + l - 1) / l)
     return line
 }
 

@@ -68,13 +68,14 @@ fn is_leading(kept: &[u16; Table::ROWS], count: usize, last: u64, next: u64) -> 
     true
 }
 
-pub(crate) struct Kept {
+// The leading ones of some periods, from the front, and their count; 0 past them.
+pub(crate) struct Leading {
     pub count: usize,
     pub period: [u16; Table::ROWS],
 }
 
 // The leading ones of the rows' periods.
-fn leading_of(rows: usize, period: &[u16; Table::ROWS]) -> Kept
+fn leading_of(rows: usize, period: &[u16; Table::ROWS]) -> Leading
     requires { ⌜ Periods rows (at (now period)) ⌝ }
     ensures { λ r. ⌜ Leading rows (at (now (period .entry))) (r .count) (r .period) ⌝ }
 {
@@ -91,7 +92,7 @@ fn leading_of(rows: usize, period: &[u16; Table::ROWS]) -> Kept
         last = next;
         i += 1;
     }
-    Kept {
+    Leading {
         count: count,
         period: kept,
     }
