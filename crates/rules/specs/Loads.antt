@@ -1,7 +1,7 @@
--- Document 01, "Loads and bound".
+-- Document 01, "Loads and bound", and the intervals of #105.
 --
 --   hyperperiod t      h, the least common multiple of the periods
---   jobEnd t s         slot s is a multiple of some row's period, so that a job of that row ends there (#105)
+--   jobEnd t s         slot s is a multiple of some row's period: a job of that row ends there, or at slot 0 the first arrives
 --   nextEnd t s        the next such slot past slot s
 --   start t k, end t k planning interval k runs from slot start t k up to slot end t k
 --   intervals t        how many planning intervals the hyperperiod has
@@ -51,6 +51,8 @@ end t k = nextEnd t (start t k)
 unfoldable pub intervals : Table → ℕ
 intervals t = count (hyperperiod t) (jobEnd t)
 
+-- That none is shorter than L, that one is as short, and that L is the least greatest common divisor of any two periods, are theorems
+-- (`lags`, proofs/Intervals: `end-far`, `shortest-some`, `shortest-gcd`).
 unfoldable pub someInterval : Table → ℕ → Bool
 someInterval t l = any (hyperperiod t) (λ s. jobEnd t s && eqb (nextEnd t s) (s + l))
 
