@@ -69,13 +69,13 @@ fn is_leading(kept: &[u16; Table::ROWS], count: usize, last: u64, next: u64) -> 
 }
 
 // The leading ones of some periods, from the front, and their count; 0 past them.
-pub(crate) struct Leading {
+pub(crate) struct Leaders {
     pub count: usize,
     pub period: [u16; Table::ROWS],
 }
 
 // The leading ones of the rows' periods.
-fn leading_of(rows: usize, period: &[u16; Table::ROWS]) -> Leading
+fn leading_of(rows: usize, period: &[u16; Table::ROWS]) -> Leaders
     requires { ⌜ Periods rows (at (now period)) ⌝ }
     ensures { λ r. ⌜ Leading rows (at (now (period .entry))) (r .count) (r .period) ⌝ }
 {
@@ -92,7 +92,7 @@ fn leading_of(rows: usize, period: &[u16; Table::ROWS]) -> Leading
         last = next;
         i += 1;
     }
-    Leading {
+    Leaders {
         count: count,
         period: kept,
     }
