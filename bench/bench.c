@@ -53,42 +53,45 @@ static int pasted(const struct file *f, unsigned i) {
     return 0;
 }
 
-/* A row of a table that `make` makes. */
-static void draw(struct file *f, unsigned i, unsigned interval, unsigned intervals, unsigned elements, unsigned span) {
+/* A class of tables: periods are `base` times one of the factors, which all occur; L is `interval`, which any two periods have in common at
+ * least, and the plan has `intervals` intervals. */
+struct class {
+    unsigned rows, base, interval, intervals, factors;
+    unsigned factor[32];
+};
+
+/* A row of a table that `make` makes, with the least cost that is not light. */
+static void draw(struct file *f, unsigned i, const struct class *c, unsigned elements, unsigned span) {
     uint8_t *r = f->byte + 7 + 6 * i;
-    unsigned divisor;
-    do divisor = 1 + below(intervals);
-    while (intervals % divisor);
-    if (i == 0) divisor = intervals;
-    if (i == 1) divisor = 1;
-    unsigned period = interval * divisor;
+    unsigned period = c->base * c->factor[i < c->factors ? i : below(c->factors)], cost = (period + c->interval - 1) / c->interval;
     unsigned first = 1 + (span == 1 ? i : below(elements)) % (elements - 1), second = first + 1 + below(span);
     if (second > elements) second = elements;
-    r[0] = (uint8_t)(divisor & 255);
-    r[1] = (uint8_t)(divisor >> 8);
+    r[0] = (uint8_t)(cost & 255);
+    r[1] = (uint8_t)(cost >> 8);
     r[2] = (uint8_t)(period & 255);
     r[3] = (uint8_t)(period >> 8);
     r[4] = (uint8_t)first;
     r[5] = (uint8_t)second;
 }
 
-/* An admitted table of so many rows whose interval is L and whose plan has `intervals` intervals: costs are raised from the least that
- * passes until the bus is well loaded. */
-static int make(struct file *f, unsigned rows, unsigned interval, unsigned intervals) {
+/* An admitted table of a class: costs are raised from the least that passes until the bus is well loaded. */
+static int make(struct file *f, const struct class *c) {
     /* a row's load is at least 1 / L, so with a short interval few rows can share a segment: such tables have short routes, spread out */
-    unsigned elements = rows < 16 ? 8 : 32, span = interval < 8 && rows > 16 ? 1 : rows < 16 ? 4 : 3;
+    unsigned rows = c->rows, elements = rows < 16 ? 8 : 32, span = c->interval < 8 && rows > 16 ? 1 : rows < 16 ? 4 : 3;
     f->length = 7 + 6 * (size_t)rows;
     memcpy(f->byte, "RBT\1\0", 5);
     f->byte[5] = (uint8_t)elements;
     f->byte[6] = (uint8_t)rows;
-    for (unsigned i = 0; i < rows; i++)
-        do draw(f, i, interval, intervals, elements, span);
-        while (pasted(f, i));
+    for (unsigned i = 0; i < rows; i++) {
+        unsigned turn = 0;
+        do draw(f, i, c, elements, span);
+        while (pasted(f, i) && turn++ < 1000);
+    }
     if (words_verdict(f->byte, f->length)) return 0;
     for (unsigned turn = 0; turn < 60 * rows; turn++) {
         uint8_t *r = f->byte + 7 + 6 * below(rows);
         uint8_t low = r[0], high = r[1];
-        unsigned cost = low + 256u * high + 1 + below(1 + interval / 8);
+        unsigned cost = low + 256u * high + 1 + below(1 + c->interval / 8);
         r[0] = (uint8_t)(cost & 255);
         r[1] = (uint8_t)(cost >> 8);
         if (words_verdict(f->byte, f->length)) r[0] = low, r[1] = high;
@@ -132,41 +135,67 @@ static void measure(const struct file *f, unsigned calls, double *plan, double *
         }
 }
 
-static int same(const struct file *f, unsigned hyper) {
+/* Whether all three give the same words, for tables of the class that they are to be. */
+static int same(const struct file *f, const struct class *c) {
+    uint32_t value[RING_VALUES];
+    words_intervals = 0;
     for (unsigned t = 0; t < TABLES; t++) {
         if (ring_plan(f[t].byte, f[t].length, words, RING_PLAN_SLOTS)) return 0;
+        if (ring_values(f[t].byte, f[t].length, value, RING_VALUES) || value[RING_INTERVAL] != c->interval) return 0;
         for (unsigned m = 1; m < MEASURED; m++)
             if (judges[m](f[t].byte, f[t].length) || planners[m](f[t].byte, f[t].length, others, RING_PLAN_SLOTS) ||
-                memcmp(words, others, hyper * sizeof *words))
+                memcmp(words, others, value[RING_HYPERPERIOD] * sizeof *words))
                 return 0;
     }
-    return 1;
+    return words_intervals == (unsigned long)TABLES * c->intervals;
 }
 
-/* Tables of one class. Returns 0 only where the three differ. */
-static int run(unsigned rows, unsigned interval, unsigned intervals, int check) {
+/* Tables of one class. Returns 0 only where the three differ, or the class is another. */
+static int run(const struct class *c, int check) {
     struct file f[TABLES];
     unsigned made = 0, tries = 0;
-    while (made < TABLES && tries++ < 4000) made += (unsigned)make(&f[made], rows, interval, intervals);
+    while (made < TABLES && tries++ < 4000) made += (unsigned)make(&f[made], c);
     if (made < TABLES) {
-        if (!check) printf("| %4u | %4u | %9u | too few such tables are admitted |\n", rows, interval, intervals);
+        if (!check) printf("| %4u | %4u | %9u | too few such tables are admitted |\n", c->rows, c->interval, c->intervals);
         return 1;
     }
-    if (!same(f, interval * intervals)) {
-        printf("bench: the three differ at %u rows, L %u, %u intervals\n", rows, interval, intervals);
+    if (!same(f, c)) {
+        printf("bench: the three differ at %u rows, L %u, %u intervals\n", c->rows, c->interval, c->intervals);
         return 0;
     }
     if (check) return 1;
     double plan[MEASURED], verdict[MEASURED];
     words_intervals = words_settled = 0;
-    measure(f, 1 + 400000 / (rows * intervals * 20 + interval * intervals), plan, verdict);
-    printf("| %4u | %4u | %9u | %9.2f | %7.2f | %5.2f | %7.2f | %5.2f | %11.2f | %6.0f%% ", rows, interval, intervals, plan[0], plan[1],
-        plan[0] / plan[1], plan[2], plan[0] / plan[2], plan[0] / intervals, 100.0 * (double)words_settled / (double)words_intervals);
+    measure(f, 1 + 400000 / (c->rows * c->intervals * 20 + c->interval * c->intervals), plan, verdict);
+    printf("| %4u | %4u | %9u | %9.2f | %7.2f | %5.2f | %7.2f | %5.2f | %11.2f | %6.0f%% ", c->rows, c->interval, c->intervals, plan[0],
+        plan[1], plan[0] / plan[1], plan[2], plan[0] / plan[2], plan[0] / c->intervals,
+        100.0 * (double)words_settled / (double)words_intervals);
     printf("| %12.2f | %7.2f | %5.2f | %7.2f | %5.2f |\n", verdict[0], verdict[1], verdict[0] / verdict[1], verdict[2],
         verdict[0] / verdict[2]);
     fflush(stdout);
     return 1;
 }
+
+/* Periods that divide one another but for some: L times the divisors of `intervals`, the longest first. */
+static struct class divisors(unsigned rows, unsigned interval, unsigned intervals) {
+    struct class c = {.rows = rows, .base = interval, .interval = interval, .intervals = intervals};
+    c.factor[c.factors++] = intervals;
+    for (unsigned d = 1; d < intervals; d++)
+        if (intervals % d == 0) c.factor[c.factors++] = d;
+    return c;
+}
+
+/* Many short intervals: periods that have little in common, so that many slots are a multiple of only one. `rows` is the most that such
+ * a table has here: with more, too many would share a segment. */
+static const struct class uneven[] = {
+    {.rows = 20, .base = 4, .interval = 4, .intervals = 4, .factors = 2, .factor = {2, 3}},
+    {.rows = 20, .base = 4, .interval = 4, .intervals = 7, .factors = 2, .factor = {3, 5}},
+    {.rows = 64, .base = 4, .interval = 4, .intervals = 57, .factors = 3, .factor = {3, 5, 7}},
+    {.rows = 20, .base = 2, .interval = 4, .intervals = 8, .factors = 3, .factor = {6, 10, 15}},
+    {.rows = 20, .base = 3, .interval = 3, .intervals = 675, .factors = 4, .factor = {3, 5, 7, 11}},
+    {.rows = 64, .base = 39, .interval = 39, .intervals = 57, .factors = 3, .factor = {3, 5, 7}},
+    {.rows = 20, .base = 4, .interval = 4, .intervals = 63, .factors = 2, .factor = {31, 33}},
+};
 
 int main(int argc, char **argv) {
     static const unsigned rows[] = {8, 20, 64}, interval[] = {4, 16, 100}, intervals[] = {8, 16, 32}, period[] = {64, 400, 3200};
@@ -186,11 +215,22 @@ int main(int argc, char **argv) {
     }
     for (unsigned a = 0; a < 3; a++)
         for (unsigned b = 0; b < 3; b++)
-            for (unsigned c = 0; c < 3; c++)
-                if (!run(rows[a], interval[b], intervals[c], check)) return 1;
+            for (unsigned c = 0; c < 3; c++) {
+                struct class of = divisors(rows[a], interval[b], intervals[c]);
+                if (!run(&of, check)) return 1;
+            }
     /* all periods equal: the plan is one interval */
     for (unsigned a = 0; a < 3; a++)
-        for (unsigned b = 0; b < 3; b++)
-            if (!run(rows[a], period[b], 1, check)) return 1;
+        for (unsigned b = 0; b < 3; b++) {
+            struct class of = divisors(rows[a], period[b], 1);
+            if (!run(&of, check)) return 1;
+        }
+    for (unsigned a = 0; a < 3; a++)
+        for (unsigned b = 0; b < sizeof uneven / sizeof *uneven; b++) {
+            struct class of = uneven[b];
+            if (of.rows < rows[a]) continue;
+            of.rows = rows[a];
+            if (!run(&of, check)) return 1;
+        }
     return 0;
 }

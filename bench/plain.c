@@ -7,6 +7,7 @@ enum { ROWS = 64, SLOTS = 4096, LINE = 34, ARCS = 2 * ROWS, PLACES = ROWS + 1 };
 struct analysis {
     int rows, elements, cut, sets;
     int64_t hyper, interval, largest;
+    int periods, distinct[ROWS]; /* the different periods */
     int cost[ROWS], period[ROWS], from[ROWS], to[ROWS];
     int first[ROWS], second[ROWS]; /* on the line */
     uint64_t word[ROWS];
@@ -69,6 +70,22 @@ static void list_sets(struct analysis *a) {
     }
 }
 
+/* The different periods, and L: the least greatest common divisor of any two, or the one period that there is. */
+static void cut_time(struct analysis *a) {
+    a->periods = 0;
+    a->interval = a->period[0];
+    for (int i = 0; i < a->rows; i++) {
+        int k = 0;
+        while (k < a->periods && a->distinct[k] != a->period[i]) k++;
+        if (k < a->periods) continue;
+        for (k = 0; k < a->periods; k++) {
+            int64_t d = gcd(a->period[i], a->distinct[k]);
+            if (d < a->interval) a->interval = d;
+        }
+        a->distinct[a->periods++] = a->period[i];
+    }
+}
+
 static uint32_t analyse(const uint8_t *f, size_t length, struct analysis *a) {
     if (length < 7) return refuse(1, 0);
     if (f[0] != 'R' || f[1] != 'B' || f[2] != 'T') return refuse(2, 0);
@@ -95,17 +112,16 @@ static uint32_t analyse(const uint8_t *f, size_t length, struct analysis *a) {
     int cut = a->cut = find_cut(a);
     if (!cut) return refuse(10, 0);
     a->hyper = 1;
-    a->interval = 0;
     int equal = 1;
     for (int i = 0; i < a->rows; i++) {
         a->hyper = a->hyper / gcd(a->hyper, a->period[i]) * a->period[i];
         if (a->hyper > SLOTS) return refuse(11, 0);
-        a->interval = gcd(a->interval, a->period[i]);
         equal &= a->period[i] == a->period[0];
         a->first[i] = steps(a->elements, cut, a->from[i]) + 1;
         a->second[i] = a->to[i] == cut ? a->elements + 1 : steps(a->elements, cut, a->to[i]) + 1;
         a->low[i] = -1;
     }
+    cut_time(a);
     list_sets(a);
     for (int i = 0; i < a->rows; i++) {
         if (!equal && a->cost[i] * a->interval < a->period[i]) return refuse(13, (unsigned)i);
@@ -187,9 +203,8 @@ static void choose_loads(const struct analysis *a, struct net *n, int64_t end, c
 
 /* ---- slots */
 
-static void fill_slots(const struct analysis *a, const int64_t *load, uint64_t *out) {
+static void fill_slots(const struct analysis *a, int l, const int64_t *load, uint64_t *out) {
     int last[SLOTS];
-    int l = (int)a->interval;
     memset(out, 0, (size_t)l * sizeof *out);
     memset(last, 0, (size_t)l * sizeof *last);
     for (int e = 1; e <= a->elements; e++)
@@ -246,9 +261,16 @@ uint32_t plain_plan(const uint8_t *file, size_t length, uint64_t *plan, size_t w
     for (int i = 0; i < a.rows; i++) n.tail[i] = a.low[i], n.head[i] = a.high[i] + 1;
     for (int k = 0; k < a.sets; k++) n.tail[a.rows + k] = k + 1, n.head[a.rows + k] = k;
     int64_t had[ROWS] = {0}, load[ROWS];
-    for (int64_t at = 0; at < a.hyper; at += a.interval) {
-        choose_loads(&a, &n, at + a.interval, had, load);
-        fill_slots(&a, load, plan + at);
+    int multiple[ROWS]; /* of each different period, the next past the slot reached */
+    for (int k = 0; k < a.periods; k++) multiple[k] = a.distinct[k];
+    for (int at = 0, end; at < a.hyper; at = end) {
+        end = multiple[0];
+        for (int k = 1; k < a.periods; k++)
+            if (multiple[k] < end) end = multiple[k];
+        for (int k = 0; k < a.periods; k++)
+            if (multiple[k] == end) multiple[k] += a.distinct[k];
+        choose_loads(&a, &n, end, had, load);
+        fill_slots(&a, end - at, load, plan + at);
         for (int i = 0; i < a.rows; i++) had[i] += load[i];
     }
     return 0;

@@ -14,6 +14,7 @@ typedef uint64_t u64;
 
 struct line {
     u32 rows, elements, cut, sets, hyper, interval, largest;
+    u32 leading, period[ROWS]; /* the periods that are no multiple of an earlier row's */
     u32 rate[ROWS]; /* load in units of 1 / h */
     uint8_t first[ROWS], second[ROWS];
     uint8_t closed[LINE]; /* sets that are closed at or before an element of the line */
@@ -42,6 +43,18 @@ static u32 gcd(u32 a, u32 b) {
 
 /* ---- verdict */
 
+/* A period more: it leads where it is no multiple of one that does, and then L comes down to what it has in common with each. */
+static inline void lead(struct line *t, u32 period) {
+    for (u32 k = 0; k < t->leading; k++)
+        if (period % t->period[k] == 0) return;
+    if (period < t->interval) t->interval = period;
+    for (u32 k = 0; k < t->leading; k++) {
+        u32 common = gcd(period, t->period[k]);
+        if (common < t->interval) t->interval = common;
+    }
+    t->period[t->leading++] = period;
+}
+
 static inline u32 analyse(const uint8_t *file, size_t length, struct line *t) {
     if (length < 7) return refuse(1, 0);
     if (file[0] != 'R' || file[1] != 'B' || file[2] != 'T') return refuse(2, 0);
@@ -51,9 +64,12 @@ static inline u32 analyse(const uint8_t *file, size_t length, struct line *t) {
     if (rows - 1 > ROWS - 1) return refuse(5, 0);
     if (length != 7 + 6 * (size_t)rows) return refuse(6, 0);
 
-    /* the rows as they stand: faults, earlier rows with the same ends and period, elements gone through, hyperperiod and interval */
+    /* the rows as they stand: faults, earlier rows with the same ends and period, elements gone through, hyperperiod and
+     * leading periods */
     u64 through = 0, leaving[ELEMENTS + 1] = {0}, arriving[ELEMENTS + 1] = {0};
-    u32 hyper = 1, interval = 0, last = 0, pasted = ROWS;
+    u32 hyper = 1, last = 0, pasted = ROWS;
+    t->leading = 0;
+    t->interval = SLOTS;
     const uint8_t *row = file + 7;
     for (u32 i = 0; i < rows; i++, row += 6) {
         u32 cost = row[0] + 256u * row[1], period = row[2] + 256u * row[3], from = row[4], to = row[5];
@@ -70,7 +86,7 @@ static inline u32 analyse(const uint8_t *file, size_t length, struct line *t) {
         through |= (bit(steps - 1) - 1) << from;
         if (period != last) {
             last = period;
-            interval = gcd(period, interval);
+            lead(t, period);
             if (hyper <= SLOTS) hyper = hyper / gcd(hyper, period) * period;
         }
     }
@@ -80,7 +96,7 @@ static inline u32 analyse(const uint8_t *file, size_t length, struct line *t) {
     if (hyper > SLOTS) return refuse(11, 0);
 
     /* the rows on the line: light rows, and where loads begin and end */
-    u32 cut = lowest(clear) + 1, per_slot = 0;
+    u32 cut = lowest(clear) + 1, per_slot = 0, interval = t->interval;
     int32_t change[LINE] = {0};
     u64 starts = 0, ends = 0;
     last = 0;
@@ -123,7 +139,6 @@ static inline u32 analyse(const uint8_t *file, size_t length, struct line *t) {
     t->cut = cut;
     t->sets = sets;
     t->hyper = hyper;
-    t->interval = interval;
     t->largest = largest;
     return 0;
 }
@@ -209,6 +224,15 @@ static void settle(struct loads *n, u64 parted) {
     }
 }
 
+/* The rows' shares of an interval of so many slots. */
+static void take_slots(struct loads *n, const struct line *t, u32 slots) {
+    for (u32 i = 0; i < n->rows; i++) {
+        u32 share = t->rate[i] * slots;
+        n->whole[i] = (int32_t)(share / t->hyper);
+        n->part[i] = (int32_t)(share % t->hyper);
+    }
+}
+
 /* The loads of the next interval: the greatest in row order. */
 static inline void choose(struct loads *n) {
     int32_t h = n->hyper, sum[PLACES] = {0};
@@ -255,13 +279,13 @@ static inline void choose(struct loads *n) {
 /* ---- slots */
 
 /* The words of one interval: rows by first element and number, each in the earliest slots that are free on its way. */
-static inline void fill(const struct line *t, const u64 *starts, const int32_t *load, u64 *out) {
+static inline void fill(const struct line *t, u32 slots, const u64 *starts, const int32_t *load, u64 *out) {
     u64 word[ROWS + 1];
     u32 length[ROWS + 1];
     uint8_t end[ROWS + 1], next[ROWS + 1];
     u32 count = 1;
     word[0] = 0;
-    length[0] = t->interval;
+    length[0] = slots;
     end[0] = 0;
     next[0] = 0;
     for (u32 e = 1; e <= t->elements; e++) {
@@ -287,7 +311,7 @@ static inline void fill(const struct line *t, const u64 *starts, const int32_t *
     for (u32 at = 0, slot = 0;; at = next[at]) {
         u64 w = word[at];
         for (u32 stop = slot + length[at]; slot < stop; slot++) out[slot] = w;
-        if (slot == t->interval) return;
+        if (slot == slots) return;
     }
 }
 
@@ -307,20 +331,25 @@ uint32_t words_plan(const uint8_t *file, size_t length, uint64_t *plan, size_t r
     memset(n.out, 0, (t.sets + 1) * sizeof *n.out);
     memset(n.into, 0, (t.sets + 1) * sizeof *n.into);
     for (u32 i = 0; i < t.rows; i++) {
-        u32 from = t.closed[t.first[i]], to = t.closed[t.second[i]], share = t.rate[i] * t.interval;
+        u32 from = t.closed[t.first[i]], to = t.closed[t.second[i]];
         n.from[i] = (uint8_t)from;
         n.to[i] = (uint8_t)to;
         n.out[from] |= bit(i);
         n.into[to] |= bit(i);
-        n.whole[i] = (int32_t)(share / t.hyper);
-        n.part[i] = (int32_t)(share % t.hyper);
         n.rest[i] = 0;
         starts[t.first[i]] |= bit(i);
     }
-    words_intervals += t.hyper / t.interval;
-    for (u32 slot = 0; slot < t.hyper; slot += t.interval) {
+    u32 multiple[ROWS]; /* of each leading period, the next past the slot reached */
+    for (u32 k = 0; k < t.leading; k++) multiple[k] = t.period[k];
+    for (u32 slot = 0, end, slots = 0; slot < t.hyper; slot = end) {
+        end = multiple[0];
+        for (u32 k = 1; k < t.leading; k++)
+            if (multiple[k] < end) end = multiple[k];
+        for (u32 k = 0; k < t.leading; k++) multiple[k] += multiple[k] == end ? t.period[k] : 0;
+        if (slots != end - slot) take_slots(&n, &t, slots = end - slot);
         choose(&n);
-        fill(&t, starts, n.load, plan + slot);
+        fill(&t, slots, starts, n.load, plan + slot);
+        words_intervals++;
     }
     return 0;
 }

@@ -15,7 +15,7 @@
 #include <stdint.h>
 
 /* The version of these functions. The second number grows where something is added, the first where something changes. */
-#define RINGPLAN_VERSION_MAJOR 3
+#define RINGPLAN_VERSION_MAJOR 4
 #define RINGPLAN_VERSION_MINOR 0
 
 #ifdef __cplusplus
@@ -49,7 +49,7 @@ enum {
 #define RING_PLACE(answer) ((unsigned)((answer) % 256))
 
 /* the longest table file, the longest plan, the most sets, and the most stack in bytes */
-enum { RING_FILE_BYTES = 391, RING_PLAN_SLOTS = 4096, RING_MOST_SETS = 64, RING_STACK_BYTES = 8192 };
+enum { RING_FILE_BYTES = 391, RING_PLAN_SLOTS = 4096, RING_MOST_SETS = 64, RING_STACK_BYTES = 12288 };
 
 /* Whether the bus can carry the table. Gives 0 to 14 and 18. */
 uint32_t ring_verdict(const uint8_t *file, size_t file_bytes);
@@ -58,7 +58,7 @@ uint32_t ring_verdict(const uint8_t *file, size_t file_bytes);
 enum {
     RING_CUT = 0,         /* the element at which the ring is cut to a line */
     RING_SECOND_CUT = 1,  /* 0: a table of one ring has no second cut */
-    RING_INTERVAL = 2,    /* slots of a planning interval, L */
+    RING_INTERVAL = 2,    /* slots of the shortest planning interval, L; an interval ends at every multiple of a row's period */
     RING_HYPERPERIOD = 3, /* slots of the plan, h; then it repeats */
     RING_LOAD = 4,        /* load of the most loaded overlap set in thousandths, rounded up */
     RING_SETS = 5,        /* number of overlap sets */

@@ -57,9 +57,57 @@ static void encode(const struct table *t, struct file *f) {
     f->length = 7 + 6 * (size_t)t->rows;
 }
 
-/* Rows round a ring that leave one element clear more often than not; periods are L times divisors of a small number. */
+static unsigned gcd(unsigned a, unsigned b) {
+    while (a && b)
+        if (a > b) a %= b;
+        else b %= a;
+    return a + b;
+}
+
+/* L, as the least greatest common divisor of any two periods: the oracle looks at every slot. */
+static unsigned shortest(const struct table *t) {
+    unsigned l = t->row[0].period;
+    for (unsigned i = 0; i < t->rows; i++)
+        for (unsigned j = 0; j < i; j++) {
+            unsigned d = gcd(t->row[i].period, t->row[j].period);
+            if (d < l) l = d;
+        }
+    return l;
+}
+
+/* The least cost that is not light, or now and then a smaller one, or more. */
+static void give_costs(struct table *t) {
+    unsigned l = shortest(t);
+    for (unsigned i = 0; i < t->rows; i++) {
+        struct row *r = &t->row[i];
+        unsigned least = (r->period + l - 1) / l;
+        r->cost = between(below(40) ? least : 1, below(t->rows) < 3 ? r->period : least);
+        if (r->cost > r->period) r->cost = r->period;
+    }
+}
+
+/* Few rows, whose periods are multiples of one number that have else little in common: two or three coprime ones times it, or each two of
+ * three primes, as 6, 10 and 15. Many intervals are of different length then. */
+static void uneven_table(struct table *t) {
+    static const unsigned times[][4] = {{2, 3}, {3, 4}, {3, 5}, {7, 9}, {2, 3, 5}, {3, 5, 7}, {6, 10, 15}, {6, 10, 15, 30}, {6, 14, 21},
+        {10, 14, 35}};
+    const unsigned *time = times[below(sizeof times / sizeof *times)];
+    memset(t, 0, sizeof *t);
+    t->elements = between(3, 12);
+    t->rows = between(2, 8);
+    unsigned kinds = 2 + !!time[2] + !!time[3], base = between(1, below(4) ? 12 : 19);
+    for (unsigned i = 0; i < t->rows; i++) {
+        struct row *r = &t->row[i];
+        r->period = base * time[i < kinds ? i : below(kinds)];
+        r->first = between(1, t->elements - 1);
+        r->second = r->first + 1;
+    }
+    give_costs(t);
+}
+
+/* Rows round a ring that leave one element clear more often than not; periods are a number times divisors of a small one. */
 static void random_table(struct table *t) {
-    static const unsigned small[] = {1, 2, 3, 4, 5, 6, 8, 10, 12};
+    static const unsigned small[] = {1, 2, 3, 4, 5, 6, 8, 10, 12, 30};
     memset(t, 0, sizeof *t);
     t->elements = between(2, below(3) ? 8 : MAX_ELEMENTS);
     t->rows = between(1, below(4) ? 10 : MAX_ROWS);
@@ -75,9 +123,6 @@ static void random_table(struct table *t) {
         do divisor = between(1, most);
         while (most % divisor);
         r->period = interval * (equal ? most : divisor);
-        unsigned least = (r->period + interval - 1) / interval;
-        r->cost = between(below(40) ? least : 1, below(t->rows) < 3 ? r->period : least);
-        if (r->cost > r->period) r->cost = r->period;
         if (any_route) {
             r->first = between(1, t->elements);
             do r->second = between(1, t->elements);
@@ -91,6 +136,7 @@ static void random_table(struct table *t) {
             if (r->first == r->second) r->second = r->first % t->elements + 1;
         }
     }
+    give_costs(t);
 }
 
 /* Row i has the ends and the period of an earlier one. */
@@ -188,7 +234,7 @@ static void damage(struct file *f) {
 /* ---- one comparison */
 
 static unsigned seen[32];
-static unsigned long admitted, slots, exact;
+static unsigned long admitted, slots, exact, uneven, newly;
 
 static void fail(const struct file *f, const char *what) {
     printf("compare: %s; the table's bytes:\n", what);
@@ -266,6 +312,8 @@ static void compare(const struct file *given) {
         fail(given, "verdicts differ");
     }
     seen[v.number]++;
+    if ((v.number == 13 || v.number == 14) && oracle_before(&v)) fail(given, "a table that was admitted before #105 is refused");
+    if (!v.number && v.interval != shortest(&v.table)) fail(given, "L is not the least greatest common divisor of two periods");
     compare_values(given, file, &v);
     compare_sets(given, file, &v);
     unsigned room = v.number ? below(MAX_SLOTS + 1) : v.hyper;
@@ -290,15 +338,18 @@ static void compare(const struct file *given) {
     if (!oracle_keeps(&v, plan, &why)) fail(given, why);
     admitted++;
     slots += v.hyper;
+    uneven += v.intervals * v.interval != v.hyper;
+    newly += !oracle_before(&v);
     static uint64_t other[MAX_SLOTS];
     if (words_plan(file, given->length, other, v.hyper) || memcmp(other, plan, v.hyper * sizeof *other)) fail(given, "words.c differs");
     if (plain_plan(file, given->length, other, v.hyper) || memcmp(other, plan, v.hyper * sizeof *other)) fail(given, "plain.c differs");
     if (v.table.rows <= FEW_ROWS) {
         uint64_t had[MAX_ROWS] = {0}, load[MAX_ROWS], word[MAX_SLOTS];
-        for (unsigned k = 0; k < v.hyper / v.interval; k++) {
+        for (unsigned k = 0; k < v.intervals; k++) {
             if (!oracle_loads(&v, k, had, load)) fail(given, "no loads qualify");
-            oracle_words(&v, load, word);
-            if (memcmp(word, plan + k * v.interval, v.interval * sizeof *word))
+            oracle_words(&v, k, load, word);
+            unsigned start = oracle_start(&v, k);
+            if (memcmp(word, plan + start, (v.end[k] - start) * sizeof *word))
                 fail(given, "loads are not the greatest in row order");
             for (unsigned i = 0; i < v.table.rows; i++) had[i] += load[i];
         }
@@ -321,6 +372,7 @@ int main(int argc, char **argv) {
         struct table t;
         struct file f = {.length = 0};
         if (routes) long_routes(&t);
+        else if (below(5) == 0) uneven_table(&t);
         else random_table(&t);
         if (!routes && below(30)) without_pasted(&t);
         if (!routes && below(3) == 0) to_the_bound(&t, (int)below(2));
@@ -330,8 +382,13 @@ int main(int argc, char **argv) {
         compare(&f);
     }
     printf("%lu tables, %lu admitted, %lu of them with the oracle's exact words, %lu slots of plan\n", tables, admitted, exact, slots);
+    printf("%lu with intervals of different length, %lu that the greatest common divisor of all periods refuses\n", uneven, newly);
     printf("greedy was not enough in %lu of %lu intervals\n", words_settled, words_intervals);
     if (routes) return 0;
+    if (!uneven || !newly) {
+        printf("compare: no such table was seen\n");
+        return 1;
+    }
     printf("refusals:");
     for (unsigned n = 1; n < 19; n++) printf(" %u:%u", n, seen[n]);
     printf("\n");

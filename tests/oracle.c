@@ -136,6 +136,49 @@ static uint64_t load_of(const struct verdict *v, uint64_t set) {
     return sum;
 }
 
+/* Time is cut at every slot that is a multiple of some row's period; the shortest piece is L. */
+static void cut_time(struct verdict *v) {
+    unsigned start = 0;
+    v->interval = v->hyper;
+    for (unsigned s = 1; s <= v->hyper; s++) {
+        int ends = 0;
+        for (unsigned i = 0; i < v->table.rows; i++) ends |= s % v->table.row[i].period == 0;
+        if (!ends) continue;
+        v->end[v->intervals++] = s;
+        if (s - start < v->interval) v->interval = s - start;
+        start = s;
+    }
+}
+
+unsigned oracle_start(const struct verdict *v, unsigned k) {
+    return k ? v->end[k - 1] : 0;
+}
+
+static unsigned length_of(const struct verdict *v, unsigned k) {
+    return v->end[k] - oracle_start(v, k);
+}
+
+/* A row's cost or a set's load that L is too short for; where periods are equal, none but a load above 1. */
+static int light(const struct row *r, uint64_t l, int equal) {
+    return !equal && r->cost * l < r->period;
+}
+
+static int over(uint64_t load, uint64_t h, uint64_t l, int equal) {
+    return equal ? load > h : load * l > (l - 1) * h;
+}
+
+int oracle_before(const struct verdict *v) {
+    const struct table *t = &v->table;
+    uint64_t l = t->row[0].period;
+    int equal = 1;
+    for (unsigned i = 0; i < t->rows; i++) l = gcd(l, t->row[i].period), equal &= t->row[i].period == t->row[0].period;
+    for (unsigned i = 0; i < t->rows; i++)
+        if (light(&t->row[i], l, equal)) return 0;
+    for (unsigned k = 0; k < v->sets; k++)
+        if (over(load_of(v, v->set[k]), v->hyper, l, equal)) return 0;
+    return 1;
+}
+
 void oracle_verdict(const uint8_t *f, size_t length, struct verdict *v) {
     memset(v, 0, sizeof *v);
     struct table *t = &v->table;
@@ -172,25 +215,23 @@ void oracle_verdict(const uint8_t *f, size_t length, struct verdict *v) {
         if (clear) v->cut = e;
     }
     if (!v->cut) { refuse(v, 10, 0); return; }
-    uint64_t h = 1, l = t->row[0].period;
+    uint64_t h = 1;
     int equal = 1;
     for (unsigned i = 0; i < t->rows; i++) {
         uint64_t p = t->row[i].period;
         h = h / gcd(h, p) * p;
         if (h > MAX_SLOTS) { refuse(v, 11, 0); return; }
-        l = gcd(l, p);
         equal &= p == t->row[0].period;
     }
     v->hyper = (unsigned)h;
-    v->interval = (unsigned)l;
+    cut_time(v);
     list_sets(v);
-    if (!equal)
-        for (unsigned i = 0; i < t->rows; i++)
-            if (t->row[i].cost * l < t->row[i].period) { refuse_listed(v, 13, i); return; }
+    for (unsigned i = 0; i < t->rows; i++)
+        if (light(&t->row[i], v->interval, equal)) { refuse_listed(v, 13, i); return; }
     uint64_t largest = 0;
     for (unsigned k = 0; k < v->sets; k++) {
         uint64_t load = load_of(v, v->set[k]);
-        if (equal ? load > h : load * l > (l - 1) * h) { refuse_listed(v, 14, k); return; }
+        if (over(load, h, v->interval, equal)) { refuse_listed(v, 14, k); return; }
         if (load > largest) largest = load;
     }
     v->load = (unsigned)((1000 * largest + h - 1) / h);
@@ -205,7 +246,7 @@ static int rounds_to(int64_t x, int64_t h, int64_t n) {
 
 static int64_t lag(const struct verdict *v, unsigned i, unsigned k, const uint64_t *had) {
     const struct row *r = &v->table.row[i];
-    return (int64_t)(v->hyper / r->period) * r->cost * ((int64_t)(k + 1) * v->interval) - (int64_t)had[i] * v->hyper;
+    return (int64_t)(v->hyper / r->period) * r->cost * v->end[k] - (int64_t)had[i] * v->hyper;
 }
 
 static int qualify(const struct verdict *v, unsigned k, const uint64_t *had, const uint64_t *load, unsigned decided) {
@@ -218,7 +259,7 @@ static int qualify(const struct verdict *v, unsigned k, const uint64_t *had, con
             if (i < decided) sum += (int64_t)load[i];
             else open = 1;
         }
-        if (sum > v->interval) return 0;
+        if (sum > length_of(v, k)) return 0;
         if (!open && !rounds_to(lags, h, sum)) return 0;
     }
     return 1;
@@ -239,14 +280,15 @@ int oracle_loads(const struct verdict *v, unsigned k, const uint64_t *had, uint6
     return choose(v, k, had, load, 0);
 }
 
-void oracle_words(const struct verdict *v, const uint64_t *load, uint64_t *word) {
+void oracle_words(const struct verdict *v, unsigned k, const uint64_t *load, uint64_t *word) {
     const struct table *t = &v->table;
-    memset(word, 0, v->interval * sizeof *word);
+    unsigned length = length_of(v, k);
+    memset(word, 0, length * sizeof *word);
     for (unsigned element = 1; element <= t->elements; element++)
         for (unsigned i = 0; i < t->rows; i++) {
             if (line_first(v, i) != element) continue;
             uint64_t left = load[i];
-            for (unsigned s = 0; s < v->interval && left; s++) {
+            for (unsigned s = 0; s < length && left; s++) {
                 int free = 1;
                 for (unsigned j = 0; j < t->rows; j++)
                     if (has(word[s], j) && oracle_overlap(t, i, j)) free = 0;
@@ -267,16 +309,16 @@ int oracle_keeps(const struct verdict *v, const uint64_t *plan, const char **why
             for (unsigned j = 0; j < i; j++)
                 if (has(plan[s], i) && has(plan[s], j) && oracle_overlap(t, i, j)) { *why = "overlapping rows in one slot"; return 0; }
     }
-    for (unsigned k = 0; k < h / v->interval; k++) {
+    for (unsigned k = 0; k < v->intervals; k++) {
         uint64_t load[MAX_ROWS] = {0}, word[MAX_SLOTS];
-        const uint64_t *part = plan + k * v->interval;
-        for (unsigned s = 0; s < v->interval; s++)
+        const uint64_t *part = plan + oracle_start(v, k);
+        for (unsigned s = 0; s < length_of(v, k); s++)
             for (unsigned i = 0; i < t->rows; i++) load[i] += (uint64_t)has(part[s], i);
         for (unsigned i = 0; i < t->rows; i++)
             if (!rounds_to(lag(v, i, k, had), h, (int64_t)load[i])) { *why = "a row's share at an interval's end"; return 0; }
         if (!qualify(v, k, had, load, t->rows)) { *why = "a set's share at an interval's end"; return 0; }
-        oracle_words(v, load, word);
-        if (memcmp(word, part, v->interval * sizeof *word)) { *why = "not the earliest free slots"; return 0; }
+        oracle_words(v, k, load, word);
+        if (memcmp(word, part, length_of(v, k) * sizeof *word)) { *why = "not the earliest free slots"; return 0; }
         for (unsigned i = 0; i < t->rows; i++) had[i] += load[i];
     }
     /* with the plan repeated, every job of two hyperperiods */

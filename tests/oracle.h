@@ -22,6 +22,7 @@ struct verdict {
     unsigned number, place;
     /* when admitted; the sets also where refused with 13 or 14 */
     unsigned cut, interval, hyper, load, sets;
+    unsigned intervals, end[MAX_SLOTS]; /* how many intervals there are, and where each ends */
     uint64_t set[MAX_SETS];
     struct table table;
 };
@@ -35,8 +36,14 @@ int oracle_overlap(const struct table *t, unsigned i, unsigned j);
 /* The loads of interval k that are greatest in row order, after `had` slots; 0 where none qualify. For few rows only. */
 int oracle_loads(const struct verdict *v, unsigned k, const uint64_t *had, uint64_t *load);
 
-/* The words of an interval for these loads. */
-void oracle_words(const struct verdict *v, const uint64_t *load, uint64_t *word);
+/* The first slot of interval k, or h where k is their number. */
+unsigned oracle_start(const struct verdict *v, unsigned k);
+
+/* The words of interval k for these loads. */
+void oracle_words(const struct verdict *v, unsigned k, const uint64_t *load, uint64_t *word);
+
+/* Whether 13 and 14 would not be given if L were the greatest common divisor of all periods, as it was before #105. */
+int oracle_before(const struct verdict *v);
 
 /* Whether a plan keeps every promise; `why` then says which is broken. */
 int oracle_keeps(const struct verdict *v, const uint64_t *plan, const char **why);

@@ -16,10 +16,12 @@ function gcd(a, b,    r) {
     return a
 }
 
-# The interval: the greatest common divisor of all periods.
-function common(    i, d) {
-    for (i = 0; i < rows; i++) d = gcd(d, period[i])
-    return d
+# The shortest interval: the least greatest common divisor of any two periods.
+function shortest(    i, j, d, l) {
+    l = period[0]
+    for (i = 0; i < rows; i++)
+        for (j = 0; j < i; j++) if ((d = gcd(period[i], period[j])) < l) l = d
+    return l
 }
 
 function through(i, e,    d) {
@@ -60,11 +62,11 @@ function on_hyper(    i, h, list) {
 }
 
 function on_light(    i, l, line) {
-    l = common()
+    l = shortest()
     for (i = 0; i < rows; i++)
         if (cost[i] * l < period[i])
-            line = line (line == "" ? "" : "\n") "row " i " costs " plural(cost[i], "slot") " of " period[i] "; with intervals of " l " slots " \
-                "the least that passes is " int((period[i] + l - 1) / l)
+            line = line (line == "" ? "" : "\n") "row " i " costs " plural(cost[i], "slot") " of " period[i] \
+                "; with a shortest interval of " plural(l, "slot") " the least that passes is " int((period[i] + l - 1) / l)
     return line
 }
 

@@ -59,7 +59,8 @@ function next_element(s) {
     return s % elements + 1
 }
 
-# Whether an interval ends at slot s.
-function interval_end(s) {
-    return s % interval == 0
+# Whether an interval ends at slot s: it is a multiple of some row's period.
+function interval_end(s,    i) {
+    for (i = 0; i < rows; i++) if (s % period[i] == 0) return 1
+    return 0
 }

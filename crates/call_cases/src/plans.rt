@@ -62,10 +62,10 @@ fn step(heading: &[u8], planner: Planner, file: &[u8], words: &mut [u64]) {
     print_words(words);
 }
 
-// A standing where h is 8: so many ahead, or behind.
+// A standing where h is at most 64: so many ahead, or behind.
 fn standing(x: i64) {
     let mut n: u64 = 0;
-    while n < 8 {
+    while n < 64 {
         if numbers::less(n, 0) == x {
             print(b"", &[n]);
             return;

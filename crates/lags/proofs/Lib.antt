@@ -1,3 +1,4 @@
 pub mod Intervals
 pub mod Lags
 pub mod States
+pub mod Stays

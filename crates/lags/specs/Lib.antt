@@ -1,1 +1,2 @@
 pub mod Lags
+pub mod Stays

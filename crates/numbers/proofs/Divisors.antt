@@ -7,21 +7,28 @@
 --   Multiple n g m    all divide m
 --   Greatest n g d    d divides all, and whatever divides all divides d
 --   Least n g m       all divide m, and m divides whatever all divide
-use mathlib.Core.Path.{_≡_, sym, subst}
+--
+-- Then the leading ones, which have the same multiples; the first multiple past a number; and the least greatest common divisor of any two.
+use mathlib.Core.Path.{_≡_, sym, ap, _∙_, subst}
 use mathlib.Core.Logic.{⊎-elim}
-use mathlib.Core.Bool.{_&&_}
-use Prim.Native.Nat.{ℕ, zero, suc, _+_, _*_, _%_, _≤_, _<_, _∣_}
+use mathlib.Core.Bool.{Bool, true, false, _&&_, cond}
+use mathlib.Core.List.{List, [], _∷_, _++_, append-nil}
+use Prim.Native.Nat.{ℕ, zero, suc, _+_, _-_, _*_, _/_, _%_, _≤_, _<_, _∣_, min}
 use native.Mathlib.Nat.{eq-or-lt-of-le, le-of-suc-le-suc, mul-pos, dvd-of-mod-eq-zero, mod-eq-zero-of-dvd}
+use native.Mathlib.Nat.{le-refl, mod-add-div', mod-lt, dvd-add, dvd-add-iff-right}
 use native.Mathlib.Nat.{dvd-refl, dvd-trans, one-dvd, le-of-dvd, pos-of-dvd-of-pos, dvd-mul-left, dvd-mul-right-of-dvd}
 use native.Mathlib.Numerals.{add-one}
 use native.Mathlib.Omega.{arith}
 use borrow.Author.Tests.{eq-eqb}
 use lib.Dec.{T, ltb, eqb→eq, ltb→lt, lt→ltb}
-use Rattle.numbers.specs.Finite.{every}
-use Rattle.numbers.specs.Divisors.{divides, product, gcd, lcm}
-use Rattle.numbers.specs.Pairs.{IsGcd, IsLcm}
-use Rattle.numbers.proofs.Truth.{both, fst, snd}
-use Rattle.numbers.proofs.Finite.{every-at, every-of, lowest-is, highest-is}
+use lib.ListN.{length, length-append, List·getD-append}
+use Rattle.numbers.specs.Finite.{any, every}
+use Rattle.numbers.specs.Lists.{at}
+use Rattle.numbers.specs.Divisors.{divides, product, gcd, lcm, leading, Leads, Past}
+use Rattle.numbers.specs.Pairs.{IsGcd, IsLcm, LeastGcd}
+use Rattle.numbers.proofs.Truth.{both, fst, snd, decide, is-true, is-false, same, le-or-lt}
+use Rattle.numbers.proofs.Finite.{any-of, least, every-at, every-of, lowest-is, highest-is}
+use Rattle.numbers.proofs.Lists.{each-none, each-next, at-append-right}
 use Rattle.numbers.proofs.Pairs.{pair-gcd, pair-lcm, pair-lcm-positive}
 
 -- ---- the test
@@ -190,21 +197,167 @@ module _ (n : ℕ) (g : ℕ → ℕ) (some : 0 < n) (pos : Positive n g) where
   pub gcd-positive : 0 < gcd n g
   gcd-positive = pos-of-dvd-of-pos (gcd-divides 0 some) (pos 0 some)
 
-  pub gcd-divides-lcm : gcd n g ∣ lcm n g
-  gcd-divides-lcm = dvd-trans (gcd n g) (gcd-divides 0 some) (lcm-multiple n g pos 0 some)
+-- ---- the leading numbers
 
-pub gcd-one : (g : ℕ → ℕ) → 0 < g 0 → gcd 1 g ≡ g 0
-gcd-one g pos = gcd-of-greatest 1 g (omega arith) (λ i l. rw (only-zero i l) pos) (g 0) (greatest-one g)
+leads-none : (g f : ℕ → ℕ) → Leads 0 g 0 f
+leads-none g f = record { among = λ k l. absurd (omega arith); under = λ i l. absurd (omega arith) }
 
-pub gcd-next : (n : ℕ) (g : ℕ → ℕ) → 0 < n → Positive (n + 1) g → (d : ℕ) → IsGcd (gcd n g) (g n) d → gcd (n + 1) g ≡ d
-gcd-next n g some pos d P =
-    rw add-one
-    (gcd-of-greatest (suc n) g (omega arith) (λ i l. pos i (omega arith)) d
-    (greatest-next (gcd-as-greatest n g some (λ i l. pos i (omega arith))) P))
+leads-kept : {n m : ℕ} {g f : ℕ → ℕ} → Leads n g m f → (j : ℕ) → j < n → g j ∣ g n → Leads (suc n) g m f
+leads-kept {n} {m} {g} {f} L j h d = record {
+  among = λ k l. let r = L .among k l in (r .0, omega arith, r .2);
+  under = step n (λ i. (k : ℕ) × (k < m) × (f k ∣ g i)) (L .under)
+      (let r = L .under j h in (r .0, r .1, dvd-trans (f (r .0)) (r .2) d));
+}
 
-pub gcd-same : (n : ℕ) (g : ℕ → ℕ) (c : ℕ) → 0 < n → 0 < c → ((i : ℕ) → i < n → g i ≡ c) → gcd n g ≡ c
-gcd-same n g c some pos e =
-    gcd-of-greatest n g some (λ i l. rw (e i l) pos) c (record {
-      divisor = λ i l. rw (e i l) (dvd-refl c);
-      greatest = λ d D. rw (e 0 some) at (D 0 some);
+leads-new : {n m : ℕ} {g e f : ℕ → ℕ} → Leads n g m e → ((k : ℕ) → k < m → f k ≡ e k) → f m ≡ g n → Leads (suc n) g (suc m) f
+leads-new {n} {m} {g} {e} {f} L same new = record {
+  among = step m (λ k. (i : ℕ) × (i < suc n) × (f k ≡ g i))
+      (λ k l. let r = L .among k l in (r .0, omega arith, same k l ∙ r .2)) (n, omega arith, new);
+  under = step n (λ i. (k : ℕ) × (k < suc m) × (f k ∣ g i))
+      (λ i l. let r = L .under i l in (r .0, omega arith, rw (same (r .0) (r .1)) (r .2)))
+      (m, omega arith, rw new (dvd-refl (g n)));
+}
+
+-- they have the multiples that all have
+pub leads-any : {n m : ℕ} {g f : ℕ → ℕ} → Leads n g m f → (s : ℕ) → any m (λ k. divides (f k) s) ≡ any n (λ i. divides (g i) s)
+leads-any {n} {m} {g} {f} L s =
+    same (any m (λ k. divides (f k) s)) (any n (λ i. divides (g i) s))
+    (λ t. let r = least m (λ k. divides (f k) s) t in
+    let a = L .among (r .0) (r .1) in
+    any-of n (λ i. divides (g i) s) (a .0) (a .1) (rw (a .2) at (r .2)))
+    (λ t. let r = least n (λ i. divides (g i) s) t in
+    let a = L .under (r .0) (r .1) in
+    any-of m (λ k. divides (f k) s) (a .0) (a .1) (of-dvd (f (a .0)) s (dvd-trans (f (a .0)) (a .2) (dvd-of (g (r .0)) s (r .2)))))
+
+pub leading-none : (g : ℕ → ℕ) → leading 0 g ≡ []
+unfolding leading
+leading-none g = each-none (λ i. cond (any i (λ j. divides (g j) (g i))) [] (g i ∷ []))
+
+module _ (n : ℕ) (g : ℕ → ℕ) where
+  leading-next : leading (n + 1) g ≡ leading n g ++ cond (any n (λ j. divides (g j) (g n))) [] (g n ∷ [])
+  unfolding leading
+  leading-next = each-next n (λ i. cond (any i (λ j. divides (g j) (g i))) [] (g i ∷ []))
+
+  pub leading-kept : any n (λ j. divides (g j) (g n)) ≡ true → leading (n + 1) g ≡ leading n g
+  leading-kept e =
+      leading-next ∙ ap (λ (b : Bool). leading n g ++ cond b [] (g n ∷ [])) e ∙ append-nil (leading n g)
+
+  pub leading-new : any n (λ j. divides (g j) (g n)) ≡ false → leading (n + 1) g ≡ leading n g ++ (g n ∷ [])
+  leading-new e = leading-next ∙ ap (λ (b : Bool). leading n g ++ cond b [] (g n ∷ [])) e
+
+pub leading-leads : (n : ℕ) (g : ℕ → ℕ) → Leads n g (length (leading n g)) (at (leading n g))
+leading-leads zero g = rw (leading-none g) (leads-none g (at []))
+leading-leads (suc n) g =
+    let L = leading-leads n g in
+    let ws : List ℕ = leading n g in
+    ⊎-elim
+    (λ (t : T (any n (λ j. divides (g j) (g n)))).
+    let r = least n (λ j. divides (g j) (g n)) t in
+    let e : leading (suc n) g ≡ ws = rw add-one at (leading-kept n g (is-true _ t)) in
+    rw e (leads-kept L (r .0) (r .1) (dvd-of (g (r .0)) (g n) (r .2))))
+    (λ (t : T (any n (λ j. divides (g j) (g n))) → ⊥).
+    let e : leading (suc n) g ≡ ws ++ (g n ∷ []) = rw add-one at (leading-new n g (is-false _ t)) in
+    let z : length ws - length ws ≡ 0 = omega arith in
+    let size : length (leading (suc n) g) ≡ suc (length ws) = ap length e ∙ length-append ws (g n ∷ []) ∙ add-one (length ws) in
+    rw size (leads-new L (λ k l. ap (λ (vs : List ℕ). at vs k) e ∙ List·getD-append ws (g n ∷ []) 0 k l)
+    (ap (λ (vs : List ℕ). at vs (length ws)) e ∙ at-append-right ws (g n ∷ []) (length ws) (le-refl (length ws)) ∙ ap (at (g n ∷ [])) z)))
+    (decide (any n (λ j. divides (g j) (g n))))
+
+-- what agrees with them leads too
+pub leads-same : {n m : ℕ} {g e f : ℕ → ℕ} → Leads n g m e → ((k : ℕ) → k < m → f k ≡ e k) → Leads n g m f
+leads-same L same = record {
+  among = λ k l. let r = L .among k l in (r .0, r .1, same k l ∙ r .2);
+  under = λ i l. let r = L .under i l in (r .0, r .1, rw (same (r .0) (r .1)) (r .2));
+}
+
+pub leading-few : (n : ℕ) (g : ℕ → ℕ) → length (leading n g) ≤ n
+leading-few zero g = rw (leading-none g) (le-refl 0)
+leading-few (suc n) g =
+    let few = leading-few n g in
+    ⊎-elim
+    (λ (t : T (any n (λ j. divides (g j) (g n)))).
+    let e : leading (suc n) g ≡ leading n g = rw add-one at (leading-kept n g (is-true _ t)) in
+    omega (arith, ap length e))
+    (λ (t : T (any n (λ j. divides (g j) (g n))) → ⊥).
+    let e : leading (suc n) g ≡ leading n g ++ (g n ∷ []) = rw add-one at (leading-new n g (is-false _ t)) in
+    omega (arith, ap length e ∙ length-append (leading n g) (g n ∷ [])))
+    (decide (any n (λ j. divides (g j) (g n))))
+
+-- ---- the first multiple past a number
+
+pub past-only : {n : ℕ} {g : ℕ → ℕ} {s r u : ℕ} → Past n g s r → Past n g s u → r ≡ u
+past-only {n} {g} {s} {r} {u} P Q =
+    let a : ¬ (r < u) = λ l. Q .none (P .some .0) r (P .some .1) (P .past) l (P .some .2) in
+    let b : ¬ (u < r) = λ l. P .none (Q .some .0) u (Q .some .1) (Q .past) l (Q .some .2) in
+    omega arith
+
+pub past-led : {n m : ℕ} {g f : ℕ → ℕ} {s r : ℕ} → Leads n g m f → Past m f s r → Past n g s r
+past-led {n} {m} {g} {f} {s} {r} L P = record {
+  past = P .past;
+  some =
+      let k = P .some in
+      let i = L .among (k .0) (k .1) in
+      (i .0, i .1, rw (i .2) at (k .2));
+  none = λ i u l a b d.
+      let k = L .under i l in
+      P .none (k .0) u (k .1) a b (dvd-trans (f (k .0)) (k .2) d);
+}
+
+-- the first multiple of one number
+after : (p s : ℕ) → 0 < p → (s < s / p * p + p) × (p ∣ s / p * p + p) × ((u : ℕ) → s < u → u < s / p * p + p → p ∣ u → ⊥)
+after p s pos =
+    let e : s % p + s / p * p ≡ s = mod-add-div' s p in
+    let l : s % p < p = mod-lt s pos in
+    let d : p ∣ s / p * p = dvd-mul-left p (s / p) in (
+      omega arith,
+      dvd-add p d (dvd-refl p),
+      λ u a b c.
+          let v : ℕ = u - s / p * p in
+          let w : s / p * p + v ≡ u = omega arith in
+          let z : p ≤ v = le-of-dvd (omega arith) (dvd-add-iff-right p d .1 (rw w c)) in
+          omega arith,
+    )
+
+pub past-one : (g : ℕ → ℕ) (s : ℕ) → 0 < g 0 → Past 1 g s (s / g 0 * g 0 + g 0)
+past-one g s pos =
+    let a = after (g 0) s pos in
+    record { past = a .0; some = (0, omega arith, a .1); none = λ i u l b c d. a .2 u b c (rw (only-zero i l) at d) }
+
+pub past-next : {n : ℕ} {g : ℕ → ℕ} {s r : ℕ} → Past n g s r → 0 < g n → Past (n + 1) g s (min r (s / g n * g n + g n))
+past-next {n} {g} {s} {r} P pos =
+    let e : ℕ = s / g n * g n + g n in
+    let a = after (g n) s pos in
+    rw add-one (record {
+      past = let z = P .past in let y : s < e = a .0 in omega arith;
+      some = ⊎-elim
+          (λ (l : r ≤ e). let m : min r e ≡ r = omega arith in rw m (let k = P .some in (k .0, omega arith, k .2)))
+          (λ (l : e < r). let m : min r e ≡ e = omega arith in rw m (n, omega arith, a .1))
+          (le-or-lt r e);
+      none = λ i u l b c. step n (λ i. g i ∣ u → ⊥) (λ i k. P .none i u k b (omega arith)) (a .2 u b (omega arith)) i l;
     })
+
+-- ---- the least greatest common divisor of any two
+
+module _ {n : ℕ} {g : ℕ → ℕ} where
+  pub least-gcd-only : {l k : ℕ} → LeastGcd n g l → LeastGcd n g k → l ≡ k
+  least-gcd-only {l} {k} L K =
+      let a = K .some in
+      let b = L .some in
+      omega (arith, L .least (a .0) (a .1) k (a .2) (a .3) (a .4), K .least (b .0) (b .1) l (b .2) (b .3) (b .4))
+
+  -- it is that of the leading ones
+  pub least-gcd-led : {m l : ℕ} {f : ℕ → ℕ} → Positive n g → Leads n g m f → LeastGcd m f l → LeastGcd n g l
+  least-gcd-led {m} {l} {f} pos L G = record {
+    some =
+        let r = G .some in
+        let i = L .among (r .0) (r .2) in
+        let j = L .among (r .1) (r .3) in
+        (i .0, j .0, i .1, j .1, rw (i .2, j .2) at (r .4));
+    least = λ i j d a b D.
+        let x = L .under i a in
+        let y = L .under j b in
+        let e = pair-gcd (f (x .0)) (f (y .0)) in
+        let z : e .0 ∣ d =
+        D .greatest (e .0) (dvd-trans (e .0) (e .1 .left) (x .2)) (dvd-trans (e .0) (e .1 .right) (y .2)) in
+        omega (arith, G .least (x .0) (y .0) (e .0) (x .1) (y .1) (e .1), le-of-dvd (pos-of-dvd-of-pos (D .left) (pos i a)) z);
+  }

@@ -1,6 +1,8 @@
 -- The greatest common divisor and the least common multiple of two numbers: there is one of each, and it is the only one.
 use mathlib.Core.Path.{_≡_, sym, ap, _∙_}
-use Prim.Native.Nat.{ℕ, zero, suc, _*_, _/_, _%_, _<_, _∣_}
+use mathlib.Core.Logic.{⊎-elim}
+use Prim.Native.Nat.{ℕ, zero, suc, _+_, _-_, _*_, _/_, _%_, _≤_, _<_, _∣_, zero-le}
+use native.Mathlib.Nat.{le-refl, eq-or-lt-of-le, mod-add-div', dvd-of-mod-eq-zero}
 use native.Mathlib.Nat.{dvd-refl, dvd-zero, dvd-mod-iff, dvd-trans, dvd-antisymm, dvd-mul-left, dvd-mul-right}
 use native.Mathlib.Nat.{mul-dvd-mul-left, mul-dvd-mul-right, dvd-of-mul-dvd-mul-left, dvd-of-mul-dvd-mul-right}
 use native.Mathlib.Nat.{mul-div-cancel', div-mul-cancel, pos-of-dvd-of-pos, mod-lt, zero-lt-suc, mul-comm, mul-assoc, mul-pos}
@@ -32,6 +34,43 @@ pair-gcd a b = by-remainders (suc b) a b (omega arith)
 
 pub pair-gcd-only : {a b g h : ℕ} → IsGcd a b g → IsGcd a b h → g ≡ h
 pair-gcd-only {g = g} {h = h} G H = dvd-antisymm (H .greatest g (G .left) (G .right)) (G .greatest h (H .left) (H .right))
+
+pub pair-gcd-self : (a : ℕ) → IsGcd a a a
+pair-gcd-self a = record { left = dvd-refl a; right = dvd-refl a; greatest = λ d p q. p }
+
+pub pair-gcd-swap : {a b g : ℕ} → IsGcd a b g → IsGcd b a g
+pair-gcd-swap G = record { left = G .right; right = G .left; greatest = λ d p q. G .greatest d q p }
+
+-- a multiple of a that is g short of one of b: by the remainders, a step of which goes from m × r = x × b + g to m × (b − 1) × a
+near : (n a b g : ℕ) → b ≤ n → 0 < b → IsGcd a b g → (x : ℕ) × (b ∣ x * a + g)
+near zero a b g h pos G = absurd (omega arith)
+near (suc n) a b g h pos G =
+    ⊎-elim
+    (λ (e : 0 ≡ a % b).
+    let z : g ≡ 0 * a + g = omega arith in
+    (0, rw z at (G .greatest b (dvd-of-mod-eq-zero b (sym e)) (dvd-refl b))))
+    (λ (p : 0 < a % b).
+    let r : ℕ = a % b in
+    let q : ℕ = a / b in
+    let c : ℕ = b - 1 in
+    let l : r < b = mod-lt a pos in
+    let B : c + 1 ≡ b = omega arith in
+    let w = near n b r g (omega arith) p (record {
+      left = G .right;
+      right = dvd-mod-iff g (G .right) .1 (G .left);
+      greatest = λ d u v. G .greatest d (dvd-mod-iff d u .0 v) u;
+    }) in
+    let x : ℕ = w .0 in
+    let m : ℕ = (x * b + g) / r in
+    let M : m * r ≡ x * b + g = div-mul-cancel r (w .1) in
+    let A : r + q * b ≡ a = mod-add-div' a b in
+    let f : (m * c * q + x * c + g) * b ≡ m * c * a + g =
+    omega (arith, ap (λ (z : ℕ). m * c * z) A, ap (λ (z : ℕ). z * c) M, ap (λ (z : ℕ). g * z) B) in
+    (m * c, rw f at (dvd-mul-left b (m * c * q + x * c + g))))
+    (eq-or-lt-of-le zero-le)
+
+pub pair-gcd-near : {a b g : ℕ} → 0 < b → IsGcd a b g → (x : ℕ) × (b ∣ x * a + g)
+pair-gcd-near {a} {b} {g} pos G = near b a b g (le-refl b) pos G
 
 -- what divides n × a and n × b divides n × g
 pair-gcd-scaled : (n a b g d : ℕ) → 0 < n → IsGcd a b g → d ∣ n * a → d ∣ n * b → d ∣ n * g

@@ -22,7 +22,7 @@ every (suc n) p = every n p && p n
 
 unfoldable pub lowest : ℕ → (ℕ → Bool) → ℕ
 lowest zero p = 0
-lowest (suc n) p = cond (p 0) 0 (suc (lowest n (λ i. p (suc i))))
+lowest (suc n) p = let later : ℕ = lowest n (λ i. p (suc i)) in cond (p 0) 0 (suc later)
 
 unfoldable pub highest : ℕ → (ℕ → Bool) → ℕ
 highest zero p = 0

@@ -2,14 +2,23 @@
 --
 --   Periods n p        the periods p of n rows are as a bus allows them
 --   Capped h r         r is h, or 0 where h is above the 4096 slots that a plan may have
---   Timed t c          c are h and L of the sound table t, which has a short hyperperiod
---   noTime             the time of no table: what stands beside a refusal
+--   Leading n p m ks   ks are the m leading ones of n periods, and 0 past them
+--   Nearing n p i j l  l is a greatest common divisor of two of n periods, and the least of any two before period i, and of that with
+--                      any before period j
+--   Clocked h n p c    c holds h, and of n periods the least greatest common divisor of any two and the leading ones
+--   noTime             the time of no table: 0 throughout
+--   Timed t c          c are h, L and the leading periods of the sound table t, which has a short hyperperiod
 --   Begins t k s       interval k of table t begins at slot s
 use mathlib.Core.Path.{_≡_}
+use mathlib.Core.List.{List}
 use Prim.Native.Nat.{ℕ, _≤_, _<_}
+use lib.ListN.{length, replicate}
+use Rattle.numbers.specs.Divisors.{leading}
+use Rattle.numbers.specs.Pairs.{IsGcd, LeastGcd}
 use Rattle.rules.specs.Bounds.{max-rows, max-slots}
 use Rattle.rules.specs.Bus.{Table}
 use Rattle.rules.specs.Loads.{hyperperiod, shortest, start, intervals}
+use Rattle.rules.specs.Calls.{lent}
 use Rattle.table.specs.Sound.{Sound}
 use Rattle.outline.specs.declared.time.Time.{Time}
 
@@ -23,14 +32,30 @@ pub record Capped (h r : ℕ) : Type 0 where
   pub short : h ≤ max-slots → r ≡ h
   pub long : max-slots < h → r ≡ 0
 
+pub record Leading (n : ℕ) (p : ℕ → ℕ) (m : ℕ) (ks : List ℕ) : Type 0 where
+  pub count : length (leading n p) ≡ m
+  pub holds : ks ≡ lent (leading n p) (replicate max-rows 0)
+
+pub record Nearing (n : ℕ) (p : ℕ → ℕ) (i j l : ℕ) : Type 0 where
+  pub first : 1 ≤ i
+  pub some : (a : ℕ) × (b : ℕ) × (a < n) × (b < n) × IsGcd (p a) (p b) l
+  pub before : (a b d : ℕ) → a < i → b ≤ a → IsGcd (p a) (p b) d → l ≤ d
+  pub here : (b d : ℕ) → b < j → IsGcd (p i) (p b) d → l ≤ d
+
+pub record Clocked (h n : ℕ) (p : ℕ → ℕ) (c : Time) : Type 0 where
+  pub hyper : c .hyper ≡ h
+  pub interval : LeastGcd n p (c .interval)
+  pub leads : Leading n p (c .count) (c .period)
+
+abbrev pub noTime : Time
+noTime = record { hyper = 0; interval = 0; count = 0; period = replicate max-rows 0 }
+
 pub record Timed (t : Table) (c : Time) : Type 0 where
   pub sound : Sound t
   pub short : hyperperiod t ≤ max-slots
   pub hyper : c .hyper ≡ hyperperiod t
   pub interval : c .interval ≡ shortest t
-
-abbrev pub noTime : Time
-noTime = record { hyper = 0; interval = 0 }
+  pub leads : Leading (t .rows) (t .period) (c .count) (c .period)
 
 pub record Begins (t : Table) (k s : ℕ) : Type 0 where
   pub in-range : k < intervals t

@@ -6,7 +6,6 @@ use table::Answer;
 use table::Table;
 pub use time::Time;
 use time::hyperperiod_of;
-use time::shortest_of;
 ghost use mathlib.Core.Path.{_≡_};
 ghost use Prim.Native.Nat.{ℕ, _≤_};
 ghost use lib.ListN.{length};
@@ -33,10 +32,7 @@ impl Layout {
         Layout {
             answer: answer,
             cut: 0,
-            time: Time {
-                hyper: 0,
-                interval: 0,
-            },
+            time: Time::none(),
             line: Line {
                 first: [0; Table::ROWS],
                 second: [0; Table::ROWS],
@@ -68,10 +64,7 @@ pub fn layout_of<'a>(
     Layout {
         answer: Answer::done(),
         cut: cut,
-        time: Time {
-            hyper: hyper,
-            interval: shortest_of(rows, period),
-        },
+        time: Time::of(hyper, rows, period),
         line: ring::lay(elements, rows, first, second, cut),
     }
 }
@@ -98,10 +91,7 @@ impl Outline {
             elements: 0,
             rows: 0,
             cut: 0,
-            time: Time {
-                hyper: 0,
-                interval: 0,
-            },
+            time: Time::none(),
             first: [0; Table::ROWS],
             second: [0; Table::ROWS],
             sets: 0,

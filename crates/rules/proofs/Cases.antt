@@ -3,26 +3,33 @@
 use mathlib.Core.Path.{_≡_, refl, sym, ap, ap₂, _∙_, subst}
 use mathlib.Core.Logic.{_↔_}
 use mathlib.Core.List.{List, [], _∷_, _++_}
-use mathlib.Core.Bool.{Bool}
-use Prim.Native.Nat.{ℕ, _≤_, _<_}
+use mathlib.Core.Bool.{Bool, true, false, not, _&&_}
+use Prim.Native.Nat.{ℕ, suc, _≤_, _<_}
 use native.Mathlib.Omega.{arith}
-use lib.Dec.{T, lit<, lit≤}
+use lib.Dec.{T, ltb, ltb→lt, lit<, lit≤}
 use lib.ListN.{length, List·getD-eq-default}
 use Rattle.numbers.specs.Finite.{any, every, lowest, highest, only, sum, sumIn, largest}
 use Rattle.numbers.specs.Word.{bit}
-use Rattle.numbers.specs.Divisors.{gcd, lcm, product}
+use Rattle.numbers.specs.Divisors.{divides, lcm, product}
+use Rattle.numbers.specs.Pairs.{IsGcd}
 use Rattle.numbers.specs.Rounding.{Rounded}
 use Rattle.numbers.specs.Lists.{at, each}
+use Rattle.numbers.proofs.Truth.{fst, snd, refutes}
+use Rattle.numbers.proofs.Finite.{every-at, lowest-is}
+use Rattle.numbers.proofs.Pairs.{pair-gcd-step, pair-gcd-zero, pair-lcm-by}
+use Rattle.numbers.proofs.Divisors.{dvd-of, lcm-of-least}
 use Rattle.numbers.proofs.Tests.{Test, and-test, every-test}
 use Rattle.rules.specs.Bus.{Table, steps, uses, through, overlap, pasted}
 use Rattle.rules.specs.TableFile.{bytes}
 use Rattle.rules.specs.Line.{clear, cut, onLine, lineFirst, lineSecond, Sets}
-use Rattle.rules.specs.Loads.{hyperperiod, shortest, start, end, intervals, rate, share, equalPeriods, light, over, reported}
+use Rattle.rules.specs.Loads.{hyperperiod, jobEnd, nextEnd, start, end, intervals, someInterval, shortest}
+use Rattle.rules.specs.Loads.{rate, share, equalPeriods, light, over, reported}
 use Rattle.rules.specs.Interval.{lag, before, hinders, free}
 use Rattle.rules.specs.Planner.{Stage, due, finished, none, more, reached, Off, standing, WholePlan}
 use Rattle.rules.specs.Refusals.{header-checks, row-checks, file-checks, pasted-checks, given-checks}
 use Rattle.rules.specs.Refusals.{line-checks, bound-checks, verdict-checks}
 use Rattle.rules.specs.Cases.{case-A, case-B, case-B-with, equal-with, pasted-with, round, thirds, halves, none-had, B-at, Cases}
+use Rattle.rules.specs.Cases.{uneven, uneven-with}
 use Rattle.rules.proofs.Sets.{set-in, sets-only, sets-by}
 use Rattle.rules.proofs.Verdict.{verdict-by}
 use Rattle.rules.proofs.Steps.{Outcome, Outcomes, Best, rounded-test, qualify-test, moved-on, outcomes-by, best-test}
@@ -31,9 +38,10 @@ use Rattle.rules.proofs.Plans.{run-more}
 
 -- All that computes below: an `unfolding` line that names it opens all that its own line names.
 computing : Unit {0}
-unfolding any every lowest highest only sum bit gcd lcm product Rounded each steps uses through overlap pasted bytes clear cut onLine
-    lineFirst lineSecond hyperperiod shortest start end intervals rate equalPeriods light over largest reported lag before hinders free
-    standing header-checks row-checks file-checks pasted-checks given-checks line-checks bound-checks verdict-checks
+unfolding any every lowest highest only sum bit lcm product Rounded each steps uses through overlap pasted bytes clear cut onLine
+    lineFirst lineSecond hyperperiod jobEnd nextEnd start end intervals someInterval shortest rate equalPeriods light over largest
+    reported lag before hinders free standing header-checks row-checks file-checks pasted-checks given-checks line-checks bound-checks
+    verdict-checks
 computing = tt
 
 -- ---- the lists of sets
@@ -146,6 +154,63 @@ plans-B ws = (
   (λ e. subst (WholePlan case-B) (sym e) (_, more (more none (step-of step-B best-B)) (step-of after-two best-after))),
 )
 
+-- ---- #105's table: its hyperperiod by law, as the search for it is long, and the rest computes from there
+
+-- 12 and 20 have 4
+four : IsGcd 12 20 4
+four = pair-gcd-step 12 20 4 (pair-gcd-step 20 12 4 (pair-gcd-step 12 8 4 (pair-gcd-step 8 4 4 (pair-gcd-zero 4))))
+
+-- whatever the second cost
+hyper-uneven : (cost : ℕ) → hyperperiod (uneven-with cost) ≡ 60
+unfolding every hyperperiod
+hyper-uneven cost =
+    let p : ℕ → ℕ = uneven-with cost .period in
+    lcm-of-least 3 p (λ i l. ltb→lt 0 (p i) (every-at 3 (λ i. ltb 0 (p i)) tt i l)) 60
+    (record {
+      multiple = λ i l. dvd-of (p i) 60 (every-at 3 (λ i. divides (p i) 60) tt i l);
+      least = λ k M. pair-lcm-by 12 20 4 (lit< tt) four .least k (M 0 (lit< tt)) (M 1 (lit< tt));
+    })
+
+next-uneven : (nextEnd uneven 0 ≡ 12) × (nextEnd uneven 12 ≡ 20) × (nextEnd uneven 20 ≡ 24) × (nextEnd uneven 24 ≡ 30)
+    × (nextEnd uneven 30 ≡ 36) × (nextEnd uneven 36 ≡ 40) × (nextEnd uneven 40 ≡ 48) × (nextEnd uneven 48 ≡ 60)
+unfolding any lowest jobEnd nextEnd
+next-uneven = rw (hyper-uneven 5) (refl, refl, refl, refl, refl, refl, refl, refl)
+
+ends-uneven : each 8 (λ k. end uneven k ∷ []) ≡ 12 ∷ 20 ∷ 24 ∷ 30 ∷ 36 ∷ 40 ∷ 48 ∷ 60 ∷ []
+unfolding each start end
+ends-uneven =
+    let n = next-uneven in
+    rw (n .0, n .1, n .2, n .3, n .4, n .5, n .6, n .7) refl
+
+intervals-uneven : intervals uneven ≡ 8
+unfolding any only sum jobEnd intervals
+intervals-uneven = rw (hyper-uneven 5) refl
+
+lengths-uneven : (cost : ℕ) → T (every 4 (λ l. not (someInterval (uneven-with cost) l)) && someInterval (uneven-with cost) 4)
+unfolding any every lowest jobEnd nextEnd someInterval
+lengths-uneven cost = rw (hyper-uneven cost) tt
+
+shortest-uneven : (cost : ℕ) → shortest (uneven-with cost) ≡ 4
+unfolding shortest
+shortest-uneven cost =
+    let t : Table = uneven-with cost in
+    let few : Bool = every 4 (λ l. not (someInterval t l)) in
+    let h = lengths-uneven cost in
+    lowest-is (suc (hyperperiod t)) (someInterval t) 4 (rw (hyper-uneven cost) (lit< tt)) (snd few (someInterval t 4) h)
+    (λ l b. refutes (someInterval t l) (every-at 4 (λ l. not (someInterval t l)) (fst few (someInterval t 4) h) l b))
+
+heavy-uneven : light uneven 0 ≡ false
+unfolding every equalPeriods light
+heavy-uneven = rw (shortest-uneven 5) refl
+
+at-uneven : over (uneven-with 10) (bit 3) ≡ false
+unfolding every only sum bit rate equalPeriods over
+at-uneven = rw (shortest-uneven 10, hyper-uneven 10) refl
+
+over-uneven : over (uneven-with 11) (bit 3) ≡ true
+unfolding every only sum bit rate equalPeriods over
+over-uneven = rw (shortest-uneven 11, hyper-uneven 11) refl
+
 pub cases : Cases
 unfolding computing
 cases = record {
@@ -186,4 +251,11 @@ cases = record {
   spare = Off.spare 2 (lit≤ tt) (lit< tt) (λ e. let z : _≡_ {A = ℕ} 1 0 = e in omega arith);
   other-loads = step-B .each .0 .qualify;
   other-state = B-not-off (due 1) (1 ∷ 1 ∷ []) (λ k e. let z : 1 ≡ k = cc in omega arith) (lit≤ tt) tt;
+  uneven-hyper = hyper-uneven 5;
+  uneven-ends = ends-uneven;
+  uneven-intervals = intervals-uneven;
+  uneven-interval = shortest-uneven 5;
+  uneven-heavy = heavy-uneven;
+  uneven-at = at-uneven;
+  uneven-over = over-uneven;
 }

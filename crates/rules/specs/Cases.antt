@@ -3,14 +3,15 @@
 use mathlib.Core.Path.{_≡_}
 use mathlib.Core.Logic.{_↔_}
 use mathlib.Core.List.{List, [], _∷_}
+use mathlib.Core.Bool.{true, false}
 use Prim.Native.Nat.{ℕ, _*_}
 use lib.IntN.{pos, negℤ}
-use Rattle.numbers.specs.Lists.{at}
+use Rattle.numbers.specs.Lists.{at, each}
 use Rattle.numbers.specs.Word.{bit}
 use Rattle.rules.specs.Bus.{Table}
 use Rattle.rules.specs.TableFile.{memoryTable, bytes}
 use Rattle.rules.specs.Line.{cut, lineSecond, Sets}
-use Rattle.rules.specs.Loads.{hyperperiod, shortest, load, reported}
+use Rattle.rules.specs.Loads.{hyperperiod, end, intervals, shortest, load, light, over, reported}
 use Rattle.rules.specs.Interval.{lag, Qualify}
 use Rattle.rules.specs.Planner.{Stage, due, finished, Planner, fresh, Off, standing, Step, WholePlan}
 use Rattle.rules.specs.Refusals.{Answers, verdict-checks}
@@ -49,6 +50,13 @@ halves = memoryTable 3 3 (3 ∷ 8 ∷ 1 ∷ 2 ∷ 3 ∷ 8 ∷ 1 ∷ 3 ∷ 1 ∷ 
 -- M 3, rows (1,50,1,2), (1,10,2,3): row 0 is light
 abbrev pub fifty : Table
 fifty = memoryTable 3 2 (1 ∷ 50 ∷ 1 ∷ 2 ∷ 1 ∷ 10 ∷ 2 ∷ 3 ∷ [])
+
+-- M 4, rows (3,12,1,2), (5,20,1,3), (8,30,3,4): #105's table; and with another second cost
+abbrev pub uneven-with : ℕ → Table
+uneven-with cost = memoryTable 4 3 (3 ∷ 12 ∷ 1 ∷ 2 ∷ cost ∷ 20 ∷ 1 ∷ 3 ∷ 8 ∷ 30 ∷ 3 ∷ 4 ∷ [])
+
+abbrev pub uneven : Table
+uneven = uneven-with 5
 
 -- at first the rows have had no slots
 abbrev pub none-had : ℕ → ℕ
@@ -108,7 +116,8 @@ pub record Cases : Type 0 where
   -- the sums over sets: 2 and 2 are each a lag rounded up, but come to more than the summed lag; 2 and 1 qualify
   pub sum-met : Qualify halves 0 none-had (at (2 ∷ 1 ∷ 1 ∷ []))
   pub sum-over : ¬ Qualify halves 0 none-had (at (2 ∷ 2 ∷ 1 ∷ []))
-  -- a state is off if its interval number is h/L, even where every total is its share: B has intervals 0 and 1; finished counts as slot h
+  -- a state is off if its interval number is as many as there are, even where every total is its share: B has intervals 0 and 1;
+  -- finished counts as slot h
   pub late : Off case-B (B-at (due 2) (2 ∷ 3 ∷ []))
   pub all-done : ¬ Off case-B (B-at finished (2 ∷ 3 ∷ []))
   -- or if a total is not the share rounded down or up, here 1 and 1 1/2, or one past the last row is not 0
@@ -118,3 +127,12 @@ pub record Cases : Type 0 where
   -- B's other loads, 1 and 1, qualify too; since #110 no step takes them, but a state that they left is not off
   pub other-loads : Qualify case-B 0 none-had (at (1 ∷ 1 ∷ []))
   pub other-state : ¬ Off case-B (B-at (due 1) (1 ∷ 1 ∷ []))
+  -- #105: the intervals end where jobs end, and L is the shortest, 4. So row 0 is not light, and rows 0 and 1 are within the bound with
+  -- exactly 3/4, where the second cost is 10, and over it with a slot more
+  pub uneven-hyper : hyperperiod uneven ≡ 60
+  pub uneven-ends : each 8 (λ k. end uneven k ∷ []) ≡ 12 ∷ 20 ∷ 24 ∷ 30 ∷ 36 ∷ 40 ∷ 48 ∷ 60 ∷ []
+  pub uneven-intervals : intervals uneven ≡ 8
+  pub uneven-interval : shortest uneven ≡ 4
+  pub uneven-heavy : light uneven 0 ≡ false
+  pub uneven-at : over (uneven-with 10) (bit 3) ≡ false
+  pub uneven-over : over (uneven-with 11) (bit 3) ≡ true

@@ -7,7 +7,8 @@ use Rattle.rules.specs.Bus.{Table}
 use Rattle.rules.specs.Line.{cut}
 use Rattle.ring.proofs.Rows.{sound-routes, ring-cut, laid-first, laid-second}
 use Rattle.ring.proofs.Cut.{cut-low}
-use Rattle.lags.proofs.Intervals.{hyperperiod-positive, shortest-is}
+use Rattle.numbers.proofs.Divisors.{least-gcd-only}
+use Rattle.lags.proofs.Intervals.{hyperperiod-positive, shortest-gcd}
 use Rattle.outline.specs.Layout.{tableWith}
 use Rattle.outline.proofs.Periods.{periods-of, capped-hyper, capped-some, capped-none}
 use Rattle.outline.proofs.Outlined.{cut-refused, long-refused, answers-at}
@@ -74,8 +75,8 @@ module _ (e : tie.Else2) (cost : ℕ → ℕ) where
 done-requires : tie.Need-done-requires
 done-requires c κs = search needs
 
-shortest-of-requires : tie.Need-shortest-of-requires
-shortest-of-requires c κs = periods-of (entry (c .before) .pre .1)
+of-requires : tie.Need-of-requires
+of-requires c κs = periods-of (entry (c .before) .pre .1)
 
 lay-requires : tie.Need-lay-requires
 lay-requires c κs =
@@ -89,13 +90,15 @@ returns-3 c cost z =
     let t = table (entry e) cost in
     let q = is-cut (at-cut e) cost in
     let h = capped-some (capped-hyper t (e .before .hyperperiod-of .ensures)) (e .if2 .left) in
+    let C = c .before .of .ensures in
     laid-found t _ (c .before .before .done .ensures)
     (record {
       timed = record {
         sound = z;
         short = omega (arith, h);
-        hyper = h .0;
-        interval = shortest-is z (c .before .shortest-of .ensures);
+        hyper = C .hyper ∙ h .0;
+        interval = least-gcd-only (C .interval) (shortest-gcd z);
+        leads = C .leads;
       };
       clear = clear e cost;
       cut = q;
@@ -116,6 +119,6 @@ layout-of-spec =
     refused-requires-2
     returns-2
     done-requires
-    shortest-of-requires
+    of-requires
     lay-requires
     returns-3)

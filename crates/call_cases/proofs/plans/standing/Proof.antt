@@ -1,4 +1,4 @@
--- standing: the loop goes up to 8.
+-- standing: the loop goes up to 64.
 use native.Mathlib.Omega.{arith}
 use borrow.Author.Needs.{needs}
 use Prim.Native.Nat.{_-_, _≤_}
@@ -6,10 +6,10 @@ use Rattle.call_cases.proofs.plans.standing.Statement.{statement}
 use Rattle.call_cases.proofs.plans.standing.Tie as tie
 
 abbrev Inv-loop : tie.InvT-loop
-Inv-loop x n₀ t3 t4 t5 n = n ≤ 8
+Inv-loop x n₀ t3 t4 t5 n = n ≤ 64
 
 abbrev μ-loop : tie.MeasureT-loop
-μ-loop x n₀ t3 t4 t5 n = 8 - n
+μ-loop x n₀ t3 t4 t5 n = 64 - n
 
 loop-holds : tie.Need-loop-holds Inv-loop μ-loop
 loop-holds c = omega arith

@@ -1,29 +1,28 @@
--- shortest_of: the greatest common divisor goes up the rows; it is a divisor of the period before.
-use Prim.Native.Nat.{_-_, _∣_}
-use native.Mathlib.Nat.{dvd-refl}
+-- shortest_of: the least divisor goes up the periods.
+use Prim.Native.Nat.{_-_, _≤_}
 use native.Mathlib.Omega.{arith}
 use Rattle.numbers.specs.Lists.{at}
-use Rattle.outline.proofs.Periods.{Falling, falling-start, falling-next, falling-end}
+use Rattle.outline.specs.Time.{Nearing}
+use Rattle.outline.proofs.Periods.{nearing-start, nearing-end}
 use Rattle.outline.proofs.time.shortest_of.Statement.{statement}
 use Rattle.outline.proofs.time.shortest_of.Tie as tie
 
 abbrev Inv-loop : tie.InvT-loop
-Inv-loop rows period l₀ last₀ i₀ l last i = Falling rows (at period) i l × (l ∣ last)
+Inv-loop count period l₀ i₀ l i = (i ≤ count) × Nearing count (at period) i 0 l
 
 abbrev μ-loop : tie.MeasureT-loop
-μ-loop rows period l₀ last₀ i₀ l last i = rows - i
+μ-loop count period l₀ i₀ l i = count - i
 
 slots-at-requires : tie.Need-slots-at-requires Inv-loop μ-loop
 slots-at-requires c κs = omega arith
 
 loop-holds : tie.Need-loop-holds Inv-loop μ-loop
-loop-holds c = (rw (c .slots-at .ensures) (falling-start (c .before .pre)), dvd-refl (c .slots-at .result))
-
-slots-at-requires-2 : tie.Need-slots-at-requires-2 Inv-loop μ-loop
-slots-at-requires-2 c κs = omega arith
+loop-holds c = (c .before .pre .some, rw (c .slots-at .ensures) (nearing-start (c .before .pre)))
 
 lowered-requires : tie.Need-lowered-requires Inv-loop μ-loop
-lowered-requires c κs = c .before .before .loop .inv .1
+lowered-requires c κs =
+    let z = c .before .before .before in
+    (z .args .count, z .pre, c .before .loop .inv .1, omega arith)
 
 add-i : tie.Need-add-i Inv-loop μ-loop
 add-i c = omega arith
@@ -33,12 +32,12 @@ loop-less c = omega arith
 
 loop-again : tie.Need-loop-again Inv-loop μ-loop
 loop-again c =
-    let u = c .before .before .before in
-    let D = c .lowered .ensures in
-    (falling-next (u .before .before .pre) (u .loop .inv .0) (omega arith) (rw (c .before .slots-at2 .ensures) at D), D .left)
+    let u = c .before .before in
+    let z = u .before .before in
+    (omega arith, c .lowered .ensures (z .args .count) (z .pre) (u .loop .inv .1) (omega arith))
 
 returns : tie.Need-returns Inv-loop μ-loop
-returns c = falling-end (c .before .loop .inv .0) (omega arith)
+returns c = nearing-end (c .before .loop .inv .1) (omega arith)
 
 pub shortest-of-spec : {M : Type 1} → statement M
 shortest-of-spec =
@@ -48,7 +47,6 @@ shortest-of-spec =
     μ-loop
     slots-at-requires
     loop-holds
-    slots-at-requires-2
     lowered-requires
     add-i
     loop-less
