@@ -3,6 +3,7 @@
 --   Call cs n p D R     a call with checks cs answers with number n and place p; D holds of it where it is done, R where it refuses
 --   lent ws was         a lent slice that held `was`, with ws written to its front: past them it is unchanged
 --   Read, Written       the reader and the writer
+--   Met                 where two rows meet: the segments that they share
 --   Judged              the verdict
 --   Listed              the list of sets
 --   Ask                 what the planner's calls are asked about: a table, and the checks before their own
@@ -21,7 +22,7 @@ use Prim.Native.Nat.{ℕ, _+_, _*_, _≤_, _<_}
 use lib.IntN.{ℤ, pos}
 use lib.ListN.{length, drop}
 use Rattle.rules.specs.Bounds.{max-rows}
-use Rattle.rules.specs.Bus.{Table}
+use Rattle.rules.specs.Bus.{Table, shared}
 use Rattle.rules.specs.TableFile.{fileTable, memoryTable, numbers, bytes}
 use Rattle.rules.specs.Line.{cut, Sets}
 use Rattle.rules.specs.Loads.{hyperperiod, shortest, reported}
@@ -31,6 +32,7 @@ use Rattle.rules.specs.Refusals.{
   Answers,
   reader-checks,
   writer-checks,
+  shared-checks,
   verdict-checks,
   sets-checks,
   plan-checks,
@@ -57,6 +59,11 @@ Read file was now number place elements rows =
 abbrev pub Written : (elements rows : ℕ) (xs was now : List ℕ) (number place : ℕ) → Type 0
 Written elements rows xs was now number place =
     Call (writer-checks elements rows xs (length was)) number place (now ≡ lent (bytes (memoryTable elements rows xs)) was) (now ≡ was)
+
+-- Returns the word of the segments that rows i and j share (#102).
+abbrev pub Met : (file : List ℕ) (i j number place word : ℕ) → Type 0
+Met file i j number place word =
+    Call (shared-checks file i j) number place (word ≡ shared (fileTable file) i j) (word ≡ 0)
 
 -- When admitted, the verdict also returns cut, L, h, reported load and the number of sets.
 pub record Admitted (t : Table) (cut′ interval hyper load sets : ℕ) : Type 0 where
