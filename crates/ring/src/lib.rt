@@ -115,7 +115,7 @@ pub fn find_cut<'a>(
     e
 }
 
-// The word of every row's segments, 0 past the last row, for those who ask of many pairs: two rows share the segments that are in both words.
+// The word of every row's segments, 0 past the last row, for those who ask of many rows.
 pub fn lay_segments<'a>(
     elements: usize,
     rows: usize,
@@ -132,6 +132,23 @@ pub fn lay_segments<'a>(
         i += 1;
     }
     words
+}
+
+// The word of the segments that rows `i` and `j` share: those that are in both words.
+pub fn shared<'a>(
+    elements: usize,
+    rows: usize,
+    first: &'a [u8; Table::ROWS],
+    second: &'a [u8; Table::ROWS],
+    i: usize,
+    j: usize,
+) -> u32
+    requires { ⌜ Routes elements rows (at (now first)) (at (now second)) × (i < rows) × (j < rows) ⌝ }
+    ensures { λ r. ⌜ r ≡ bus.shared (onRing elements rows (at (now (first .entry))) (at (now (second .entry)))) i j ⌝ }
+{
+    let one = segments(elements, table::end_at(first, i), table::end_at(second, i));
+    let other = segments(elements, table::end_at(first, j), table::end_at(second, j));
+    one & other
 }
 
 // The rows laid on the line that begins at element `cut`.

@@ -4,7 +4,7 @@ use Prim.Native.Nat.{ℕ, _+_, _/_, _^_}
 use native.Mathlib.Omega.{arith}
 use borrow.Author.Needs.{needs}
 use lib.Pow.{pow-mono}
-use Rattle.ring.proofs.Shared.{segments-word, segments-fit}
+use Rattle.ring.proofs.Words.{segments-word, segments-fit}
 use Rattle.ring.proofs.segments.Statement.{statement}
 use Rattle.ring.proofs.segments.Tie as tie
 
