@@ -112,6 +112,10 @@ pasted-row t i = refuse 18 i (T (pasted t i))
 abbrev pub no-row : Table → (place i : ℕ) → Check
 no-row t place i = refuse 32 place (t .rows ≤ i)
 
+-- or an overlap set
+abbrev pub no-set : Table → ℕ → Check
+no-set t k = refuse 32 0 ((ws : List ℕ) × Sets t ws × (length ws ≤ k))
+
 -- ---- the orders of checking: rows are taken in ascending order, within a row 7, 8, 9, and the lowest row or set is the place
 
 -- 4 to 6, of a table whose file or slice has `has` places and is to have `wants`
@@ -175,6 +179,10 @@ unfoldable pub sets-checks : List ℕ → ℕ → List Check
 sets-checks f room =
     given-checks f ++ line-checks (fileTable f)
     ++ (short-output ((ws : List ℕ) × Sets (fileTable f) ws × (room < length ws)) ∷ [])
+
+-- set number k and where its rows meet: 1 to 9, 18, 10 and 11, then 32 (#102)
+unfoldable pub set-checks : List ℕ → ℕ → List Check
+set-checks f k = given-checks f ++ line-checks (fileTable f) ++ (no-set (fileTable f) k ∷ [])
 
 -- the whole plan the verdict's, here cs, then 17
 unfoldable pub plan-checks : List Check → Table → ℕ → List Check
