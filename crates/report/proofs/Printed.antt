@@ -29,11 +29,11 @@ use Rattle.table.specs.declared.Answer.{Answer}
 use Rattle.planner.specs.Answers.{PlanAnswer}
 use Rattle.planner.proofs.Chosen.{chosen-run}
 use Rattle.rules.specs.Text.{textOf, text}
-use Rattle.decimal.specs.Puts.{Puts}
+use Rattle.decimal.specs.Puts.{Puts, PutsLine, PutsLines}
 use Rattle.decimal.proofs.Puts.{puts-more}
+use Rattle.decimal.proofs.Text.{text-first, text-join, text-one}
 use Rattle.rules.specs.Program.{verdict, values, set-lines, slot-lines, max-input, Printed, refused, admitted}
-use Rattle.report.specs.Rendered.{PutsLine, PutsLines, ChosenPlan, Rendered}
-use Rattle.report.proofs.Text.{text-first, text-join, text-one}
+use Rattle.report.specs.Rendered.{ChosenPlan, Rendered}
 
 -- ---- an admitted table's lists
 

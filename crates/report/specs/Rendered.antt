@@ -1,9 +1,6 @@
 -- What stands in a lent slice after a call that writes lines to it.
 --
---   max-line           none of the program's lines is longer
 --   max-size           no report is longer
---   PutsLine           a line written from one place of a slice on
---   PutsLines          lines, so written, at most n of them
 --   ChosenPlan t ws    ws is the plan that the planner chooses
 --   Rendered           what `render` writes and returns
 --
@@ -14,23 +11,14 @@ use Rattle.rules.specs.Bounds.{max-rows, max-slots}
 use Rattle.rules.specs.Bus.{Table}
 use Rattle.rules.specs.Loads.{intervals}
 use Rattle.rules.specs.Planner.{Planner, WholePlan}
-use Rattle.rules.specs.Text.{Line, textOf, text}
+use Rattle.rules.specs.Text.{Line, text}
 use Rattle.rules.specs.Program.{Printed}
-use Rattle.decimal.specs.Puts.{Puts}
+use Rattle.decimal.specs.Puts.{Puts, max-line}
 use Rattle.planner.specs.Chosen.{ChosenRun}
-
-abbrev pub max-line : ℕ
-max-line = 64
 
 -- the verdict, the four values, the sets and the slots
 abbrev pub max-size : ℕ
 max-size = max-line * (5 + max-rows + max-slots)
-
-abbrev pub PutsLine : (l : Line) (was : List ℕ) (at : ℕ) (now : List ℕ) (next : ℕ) → Type 0
-PutsLine l was at now next = Puts (textOf l) was at now next × (next ≤ at + max-line)
-
-abbrev pub PutsLines : (ls : List Line) (n : ℕ) (was : List ℕ) (at : ℕ) (now : List ℕ) (next : ℕ) → Type 0
-PutsLines ls n was at now next = Puts (text ls) was at now next × (next ≤ at + max-line * n)
 
 abbrev pub ChosenPlan : Table → List ℕ → Type 0
 ChosenPlan t ws = (q : Planner) × ChosenRun t (intervals t) q ws

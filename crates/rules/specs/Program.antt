@@ -10,8 +10,8 @@
 --   shared, row, segment    the lines of the program that says where rows meet
 --   row-lines w        the lines of the rows whose word is w, ascending
 --   segment-lines w    the lines of the segments whose word is w, ascending
---   MeetingPrinted input i j ls   it prints the lines ls for rows i and j of the table on its standard input
---   CrowdPrinted input k ls       it prints the lines ls for set number k
+--   MeetingPrinted file i j ls   it prints the lines ls for rows i and j of the table on its standard input
+--   CrowdPrinted file k ls       it prints the lines ls for set number k
 use mathlib.Core.Path.{_≡_}
 use mathlib.Core.Logic.{_≢_}
 use mathlib.Core.Bool.{cond}
@@ -94,17 +94,17 @@ row-lines w = each max-rows (λ i. cond (bit w i) (row i ∷ []) [])
 abbrev pub segment-lines : ℕ → List Line
 segment-lines w = each max-elements (λ s. cond (bit w s) (segment (suc s) ∷ []) [])
 
-pub record MeetingPrinted (input : List ℕ) (i j : ℕ) (ls : List Line) : Type 0 where
+pub record MeetingPrinted (file : List ℕ) (i j : ℕ) (ls : List Line) : Type 0 where
   pub number : ℕ
   pub place : ℕ
   pub word : ℕ
-  pub met : Met (take max-input input) i j number place word
+  pub met : Met file i j number place word
   pub lines : ls ≡ shared number place ∷ segment-lines word
 
-pub record CrowdPrinted (input : List ℕ) (k : ℕ) (ls : List Line) : Type 0 where
+pub record CrowdPrinted (file : List ℕ) (k : ℕ) (ls : List Line) : Type 0 where
   pub number : ℕ
   pub place : ℕ
   pub rows : ℕ
   pub segments : ℕ
-  pub crowded : Crowded (take max-input input) k number place rows segments
+  pub crowded : Crowded file k number place rows segments
   pub lines : ls ≡ shared number place ∷ (row-lines rows ++ segment-lines segments)
