@@ -37,13 +37,25 @@ loop-less : tie.Need-loop-less Inv-loop μ-loop
 loop-less c = omega arith
 
 loop-again : tie.Need-loop-again Inv-loop μ-loop
-loop-again c = ?
+loop-again c =
+    let u = c .before .before in
+    let z = u .before .before .before .args in
+    let k = u .loop .k in
+    let line = numbered (z .name .now) (z .first + k) in (
+      omega arith,
+      ⊎-elim
+          (λ w. rw (w .5, w .6) (lines-next _ k (u .loop .inv .1) line (member-line line (z .word) k (w .0 .taken)) (w .2 .ensures)))
+          (λ w. rw (w .1, w .2) (lines-skip _ k (u .loop .inv .1) (no-line line (z .word) k (w .0 .left))))
+          (c .if1 .came),
+    )
 
 same-length : tie.Need-same-length Inv-loop μ-loop
 same-length c = c .before .loop .inv .1 .0 .same
 
 returns : tie.Need-returns Inv-loop μ-loop
-returns c = ?
+returns c =
+    let all : c .before .loop .k ≡ c .before .before .before .before .args .bits = omega arith in
+    rw all at (c .before .loop .inv .1)
 
 pub put-members-spec : {M : Type 1} → statement M
 put-members-spec =
