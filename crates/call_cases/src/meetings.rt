@@ -18,8 +18,15 @@ pub(crate) fn meet_case(heading: &[u8], given: &[u64]) {
     }
     let size = table_file(&given[2..], &mut file);
     if size <= SIZE {
-        let r = meeting::meet(&file[..size], number_at(given, 0) as usize, number_at(given, 1) as usize);
-        print(heading, &[r.answer.number as u64, r.answer.place as u64, r.word as u64]);
+        let r = meeting::meet(
+            &file[..size],
+            number_at(given, 0) as usize,
+            number_at(given, 1) as usize,
+        );
+        print(
+            heading,
+            &[r.answer.number as u64, r.answer.place as u64, r.word as u64],
+        );
     }
 }
 
@@ -31,6 +38,14 @@ pub(crate) fn crowd_case(heading: &[u8], given: &[u64]) {
     let size = table_file(&given[1..], &mut file);
     if size <= SIZE {
         let r = crowd::of_set(&file[..size], number_at(given, 0) as usize);
-        print(heading, &[r.answer.number as u64, r.answer.place as u64, r.rows, r.segments as u64]);
+        print(
+            heading,
+            &[
+                r.answer.number as u64,
+                r.answer.place as u64,
+                r.rows,
+                r.segments as u64,
+            ],
+        );
     }
 }

@@ -114,9 +114,13 @@ module _ (f : List ℕ) (k : ℕ) (r : Decoded) (D : Decodes (given-checks f) (f
               let y : x ≡ at sets k = q ∙ at-is in
               record {
                 answers = rw (e .0, e .1) (joined (outline-checks f) past 0 0 all-none (passed (no-set t k) [] 0 0 there done));
-                done = λ z.
-                    (sets, found .list, omega (arith, found-count found), y,
-                    h ∙ common-is (tableOf (r .columns)) (bit x) ws B ∙ ap (λ (u : Table). common u (bit x)) held
-                    ∙ ap (λ (v : ℕ). common t (bit v)) y);
+                done = λ z. (
+                  sets,
+                  found .list,
+                  omega (arith, found-count found),
+                  y,
+                  h ∙ common-is (tableOf (r .columns)) (bit x) ws B ∙ ap (λ (u : Table). common u (bit x)) held
+                      ∙ ap (λ (v : ℕ). common t (bit v)) y,
+                );
                 refused = λ z. absurd (z (e .0));
               }

@@ -31,7 +31,8 @@ fn put_number(name: &[u8], x: u64, out: &mut [u8], at: usize) -> usize
 // A line for each of the first `bits` bits of a word that is set, numbered from `first` on.
 fn put_members(name: &[u8], word: u64, first: u64, bits: u64, out: &mut [u8], at: usize) -> usize
     requires { ⌜ (length (now name) ≤ 8) × (first ≤ 1) × (bits ≤ 64) × (at + max-line * bits ≤ limit) ⌝ }
-    ensures { λ r. ⌜ PutsLines (memberLines (λ k. numbered (now (name .entry)) (first + k)) bits word) bits (now (out .entry)) at (now (out .exit)) r ⌝ }
+    ensures { λ r. ⌜ PutsLines (memberLines (λ k. numbered (now (name .entry)) (first + k)) bits word) bits (now (out .entry)) at
+        (now (out .exit)) r ⌝ }
 {
     let mut next = at;
     let mut k: u64 = 0;

@@ -35,6 +35,13 @@ pub fn meet(file: &[u8], i: usize, j: usize) -> Meeting
     }
     Meeting {
         answer: Answer::done(),
-        word: ring::shared(found.columns.elements, rows, &found.columns.first, &found.columns.second, i, j),
+        word: ring::shared(
+            found.columns.elements,
+            rows,
+            &found.columns.first,
+            &found.columns.second,
+            i,
+            j,
+        ),
     }
 }

@@ -75,11 +75,10 @@ pub extern "C" fn ring_shared(file: &[u8], i: usize, j: usize, word: &mut u32) -
     ensures { λ r. ⌜ SharedToC (now (file .entry)) i j (now (word .entry)) (now (word .exit)) r ⌝ }
 {
     let found = meeting::meet(file, i, j);
-    let answer = found.answer;
-    if answer.number == Answer::DONE {
+    if found.answer.number == Answer::DONE {
         *word = found.word;
     }
-    joined(answer.number, answer.place)
+    joined(found.answer.number, found.answer.place)
 }
 
 // ---- lists and plans

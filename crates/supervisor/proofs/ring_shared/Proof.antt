@@ -11,11 +11,11 @@ meet-requires : tie.Need-meet-requires
 meet-requires c κs = search needs
 
 joined-requires : tie.Need-joined-requires
-joined-requires c κs = shared-small _ _ _ _ _ (c .before .before .before .meet .ensures .answers)
+joined-requires c κs = shared-small _ _ _ _ _ (c .before .before .meet .ensures .answers)
 
 returns : tie.Need-returns
 returns c =
-    let m = c .before .before .before .before .meet .ensures in
+    let m = c .before .before .before .meet .ensures in
     record {
       number = _;
       place = _;
