@@ -10,6 +10,10 @@ uint32_t ring_values(const uint8_t *file, size_t file_bytes, uint32_t *values, s
     return plain_values(file, file_bytes, values, room);
 }
 
+uint32_t ring_shared(const uint8_t *file, size_t file_bytes, size_t i, size_t j, uint32_t *word) {
+    return plain_shared(file, file_bytes, i, j, word);
+}
+
 uint32_t ring_sets(const uint8_t *file, size_t file_bytes, uint64_t *sets, size_t room) {
     return plain_sets(file, file_bytes, sets, room);
 }

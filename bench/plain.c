@@ -239,6 +239,24 @@ uint32_t plain_values(const uint8_t *file, size_t length, uint32_t *values, size
     return 0;
 }
 
+/* the segments from element to element, bit s - 1 for segment s */
+static uint32_t route(const struct analysis *a, size_t i) {
+    uint32_t word = 0;
+    for (int e = a->from[i]; e != a->to[i]; e = e % a->elements + 1) word |= (uint32_t)1 << (e - 1);
+    return word;
+}
+
+uint32_t plain_shared(const uint8_t *file, size_t length, size_t i, size_t j, uint32_t *word) {
+    struct analysis a;
+    uint32_t answer = analyse(file, length, &a);
+    /* 10 and what comes after it, 18 too, say nothing of a row's route */
+    if (answer && answer / 256 < 10) return answer;
+    if (i >= (size_t)a.rows) return refuse(32, 0);
+    if (j >= (size_t)a.rows) return refuse(32, 1);
+    *word = route(&a, i) & route(&a, j);
+    return 0;
+}
+
 uint32_t plain_sets(const uint8_t *file, size_t length, uint64_t *sets, size_t room) {
     struct analysis a;
     uint32_t answer = analyse(file, length, &a);

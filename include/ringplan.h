@@ -16,7 +16,7 @@
 
 /* The version of these functions. The second number grows where something is added, the first where something changes. */
 #define RINGPLAN_VERSION_MAJOR 4
-#define RINGPLAN_VERSION_MINOR 0
+#define RINGPLAN_VERSION_MINOR 1
 
 #ifdef __cplusplus
 extern "C" {
@@ -41,7 +41,8 @@ enum {
     RING_OFF_STATE = 15,        /* not given by these functions */
     RING_HAS_FINISHED = 16,     /* not given by these functions */
     RING_SHORT_OUTPUT = 17,     /* the memory lent for the answer is too short */
-    RING_PASTED_ROW = 18        /* a row has the ends and the period of an earlier one; place: the later row */
+    RING_PASTED_ROW = 18,       /* a row has the ends and the period of an earlier one; place: the later row */
+    RING_NO_ROW = 32            /* a row that is asked for is past the last; place: 0 for the first of the two, 1 for the second */
 };
 
 /* number and place of an answer */
@@ -67,6 +68,11 @@ enum {
 
 /* Fills in the six values of an admitted table. Gives 0 to 14 and 18, and 17 where `room` is under 6. */
 uint32_t ring_values(const uint8_t *file, size_t file_bytes, uint32_t *values, size_t room);
+
+/* The segments of the ring that rows i and j share: bit s - 1 of `word` is set if both routes use segment s, which joins element s to the
+ * next one. It is 0 exactly if the rows don't overlap, and they may then share a slot. Only the table itself is checked, so that it
+ * answers also for a table that can't be carried, or has no cut. Gives 0 to 9 and 32. `word` must not be NULL. */
+uint32_t ring_shared(const uint8_t *file, size_t file_bytes, size_t i, size_t j, uint32_t *word);
 
 /* The overlap sets of a table, one word a set: bit i is set if row i belongs to it. It fills as many words as there are sets; 64 are always
  * enough. A table that is refused with 13 or 14 has its list too, which shows what set 14 speaks of. Gives 0 to 11, 17 and

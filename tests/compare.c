@@ -233,7 +233,8 @@ static void damage(struct file *f) {
 
 /* ---- one comparison */
 
-static unsigned seen[32];
+enum { LAST_NUMBER = 32 };
+static unsigned seen[LAST_NUMBER + 1];
 static unsigned long admitted, slots, exact, uneven, newly;
 
 static void fail(const struct file *f, const char *what) {
@@ -301,6 +302,24 @@ static void compare_sets(const struct file *given, const uint8_t *file, const st
     if (memcmp(sets, expected, sizeof sets)) fail(given, "sets differ");
 }
 
+/* The segments that two rows share: of every pair of rows where there are few, of some where there are many, and of rows past the last. */
+static void compare_shared(const struct file *given, const uint8_t *file, const struct verdict *v) {
+    int held = v->number == 0 || v->number >= 10;
+    unsigned rows = held ? v->table.rows : 2;
+    for (unsigned n = 0; n < rows * rows && n < 200; n++) {
+        size_t i = rows <= FEW_ROWS ? n / rows : below(rows), j = rows <= FEW_ROWS ? n % rows : below(rows);
+        uint32_t word = below(1u << 31), expected = word, wrong = held ? 0 : 256 * v->number + v->place;
+        if (below(8) == 0) i = below(3) ? rows + below(3) : SIZE_MAX - below(2);
+        if (below(8) == 0) j = below(3) ? rows + below(3) : SIZE_MAX - below(2);
+        if (held && (i >= rows || j >= rows)) wrong = 256 * RING_NO_ROW + (i < rows);
+        if (!wrong) expected = oracle_shared(&v->table, (unsigned)i, (unsigned)j);
+        if (ring_shared(file, given->length, i, j, &word) != wrong) fail(given, "shared segments are answered wrongly");
+        if (word != expected) fail(given, "shared segments differ");
+        if (!wrong && (word != 0) != oracle_overlap(&v->table, (unsigned)i, (unsigned)j)) fail(given, "segments and overlap differ");
+        seen[RING_NUMBER(wrong)] += RING_NUMBER(wrong) == RING_NO_ROW;
+    }
+}
+
 static void compare(const struct file *given) {
     static struct verdict v;
     uint8_t *file = file_end - given->length;
@@ -316,6 +335,7 @@ static void compare(const struct file *given) {
     if (!v.number && v.interval != shortest(&v.table)) fail(given, "L is not the least greatest common divisor of two periods");
     compare_values(given, file, &v);
     compare_sets(given, file, &v);
+    compare_shared(given, file, &v);
     unsigned room = v.number ? below(MAX_SLOTS + 1) : v.hyper;
     if (v.number == 0 && below(4) == 0) {
         unsigned few = below(v.hyper);
@@ -390,11 +410,12 @@ int main(int argc, char **argv) {
         return 1;
     }
     printf("refusals:");
-    for (unsigned n = 1; n < 19; n++) printf(" %u:%u", n, seen[n]);
+    for (unsigned n = 1; n <= LAST_NUMBER; n++)
+        if (n <= 18 || n == 32) printf(" %u:%u", n, seen[n]);
     printf("\n");
-    /* 12 is retired, and 15 and 16 are the planner's */
-    for (unsigned n = 1; n < 19; n++)
-        if (!seen[n] && n != 12 && n != 15 && n != 16) {
+    /* 12 is retired, 15 and 16 are the planner's, and 19 to 31 are given by none of the functions */
+    for (unsigned n = 1; n <= LAST_NUMBER; n++)
+        if (!seen[n] && n != 12 && n != 15 && n != 16 && (n <= 18 || n == 32)) {
             printf("compare: refusal %u was never seen\n", n);
             return 1;
         }

@@ -13,6 +13,10 @@ static uint64_t segments(const struct table *t, unsigned i) {
     return used;
 }
 
+uint32_t oracle_shared(const struct table *t, unsigned i, unsigned j) {
+    return (uint32_t)((segments(t, i) & segments(t, j)) >> 1);
+}
+
 int oracle_overlap(const struct table *t, unsigned i, unsigned j) {
     return (segments(t, i) & segments(t, j)) != 0;
 }

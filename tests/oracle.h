@@ -30,6 +30,9 @@ struct verdict {
 /* The verdict on a file, with all that it finds on the way. */
 void oracle_verdict(const uint8_t *file, size_t length, struct verdict *v);
 
+/* The ring segments that rows i and j of a table share, bit s - 1 for segment s. */
+uint32_t oracle_shared(const struct table *t, unsigned i, unsigned j);
+
 /* Whether rows i and j of a table share a ring segment. */
 int oracle_overlap(const struct table *t, unsigned i, unsigned j);
 

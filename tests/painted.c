@@ -9,12 +9,12 @@
 #include <string.h>
 #include <ucontext.h>
 
-enum { ROOM = 1 << 18, MARK = 0xa5, FUNCTIONS = 4 };
+enum { ROOM = 1 << 18, MARK = 0xa5, FUNCTIONS = 5 };
 
 static uint8_t stack[ROOM], file[RING_FILE_BYTES + 1];
 static uint64_t plan[RING_PLAN_SLOTS], sets[RING_MOST_SETS];
 static uint32_t values[RING_VALUES];
-static const char *const names[FUNCTIONS] = {"ring_plan", "ring_sets", "ring_values", "ring_verdict"};
+static const char *const names[FUNCTIONS] = {"ring_plan", "ring_sets", "ring_shared", "ring_values", "ring_verdict"};
 static ucontext_t here, there;
 static size_t bytes;
 static unsigned which;
@@ -26,7 +26,8 @@ static void call(void) {
     switch (which) {
     case 0: ring_plan(file, bytes, plan, RING_PLAN_SLOTS); break;
     case 1: ring_sets(file, bytes, sets, RING_MOST_SETS); break;
-    case 2: ring_values(file, bytes, values, RING_VALUES); break;
+    case 2: ring_shared(file, bytes, 0, 0, values); break;
+    case 3: ring_values(file, bytes, values, RING_VALUES); break;
     default: ring_verdict(file, bytes); break;
     }
 }

@@ -86,4 +86,7 @@ function reason(n, i) {
     if (n == 18) return on_pasted(i)
 }
 
-END { print reason(number, place) }
+END {
+    line = reason(number, place)
+    if (line != "") print line
+}

@@ -1,5 +1,6 @@
 // Runs the cases that stand on standard input, a line each: the call, a name, a colon, and the numbers that the call is given. A case with
 // a name only is a table for the verdict. The modules say what numbers a call's case has, and what is printed for it.
+mod meetings;
 mod plans;
 mod tables;
 mod verdicts;
@@ -28,6 +29,14 @@ fn call(heading: &[u8], given: &[u64]) {
     }
     if letter == b'w' {
         tables::write_case(heading, given);
+        return;
+    }
+    if letter == b'm' {
+        meetings::meet_case(heading, given);
+        return;
+    }
+    if letter == b'c' {
+        meetings::crowd_case(heading, given);
         return;
     }
     plans::run(heading, given);

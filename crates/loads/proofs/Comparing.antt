@@ -11,10 +11,10 @@ use lib.Count.{ones, ones-step, ones-le}
 use lib.Dec.{T, eqb, ltb, leb, ltb→lt}
 use borrow.Author.Tests.{lt-ltb, le-ltb, ne-eqb}
 use Rattle.numbers.specs.Finite.{sum, sumIn, only, count}
-use Rattle.numbers.specs.Word.{bit}
+use Rattle.numbers.specs.Word.{bit, word}
 use Rattle.numbers.proofs.Finite.{sum-eq, sum-split, sum-next, sum-zero, only-true, only-false, only-and, only-comm}
 use Rattle.numbers.proofs.Truth.{and-under, along, fst, snd}
-use Rattle.numbers.proofs.Word.{word, word-next, bit-word, bit-low, bit-suc, bit-and, lt-of-bits}
+use Rattle.numbers.proofs.Word.{word-next, bit-word, bit-low, bit-suc, bit-and, lt-of-bits}
 use Rattle.loads.specs.Loads.{digit}
 use Rattle.loads.specs.State.{Compared}
 

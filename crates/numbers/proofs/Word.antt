@@ -1,6 +1,4 @@
 -- Laws of the bits of a word: what the operations on words do to each bit, and that the bits fix the word.
---
---   word n p       the word of the numbers below n that have p
 use mathlib.Core.Path.{_≡_, refl, sym, ap, ap₂, _∙_}
 use mathlib.Core.Logic.{⊎-elim}
 use mathlib.Core.Bool.{Bool, true, false, not, _&&_, _||_, cond}
@@ -13,13 +11,9 @@ use lib.Bits.{bitOr, bitAnd, bitXor, or-shr, or-mod, and-shr, and-mod, xor-shr, 
 use lib.Dec.{T, eqb, leb, ltb, eqb→eq, lit<, leb→le, le→leb, ltb→lt, lt→ltb, eqb·zero-suc, eqb·suc-zero, eqb·suc-suc}
 use lib.Pow.{pow-pos, pow-mono, pow-lt, shr-shr}
 use Rattle.numbers.specs.Finite.{only}
-use Rattle.numbers.specs.Word.{bit, Stretch}
+use Rattle.numbers.specs.Word.{bit, Stretch, word}
 use Rattle.numbers.proofs.Truth.{both, fst, snd, orl, orr, or-cases, same, along, is-false, eqb-of, is-true}
 use Rattle.numbers.proofs.Finite.{below, only-true, only-false}
-
-unfoldable pub word : ℕ → (ℕ → Bool) → ℕ
-word zero p = 0
-word (suc n) p = bitOr (word n p) (only (p n) (2 ^ n))
 
 -- ---- what the code writes
 
@@ -156,8 +150,6 @@ pub lt-of-bits : (n w : ℕ) → ((i : ℕ) → n ≤ i → T (bit w i) → ⊥)
 lt-of-bits zero w h = omega (arith, bit-ext w 0 (λ i. is-false (bit w i) (h i (omega arith)) ∙ sym (bit-zero i)))
 lt-of-bits (suc n) w h =
     omega (arith, pow-suc 2 n, lt-of-bits n (w / 2) (λ i l t. h (suc i) (omega arith) (along (sym (bit-suc w i)) t)))
-
--- ---- words that share no bit
 
 -- ---- the word of a set
 

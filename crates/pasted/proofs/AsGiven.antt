@@ -7,11 +7,11 @@ use Prim.Native.Nat.{ℕ, _≤_, _<_}
 use native.Mathlib.Omega.{arith}
 use lib.Dec.{T, eqb, ltb, eqb→eq, ltb→lt, lt→ltb}
 use Rattle.numbers.specs.Finite.{any, lowest}
-use Rattle.numbers.specs.Word.{bit}
+use Rattle.numbers.specs.Word.{bit, word}
 use Rattle.numbers.specs.Lists.{at}
 use Rattle.numbers.proofs.Truth.{both, fst, snd, decide, along, same, eqb-of}
 use Rattle.numbers.proofs.Finite.{any-of, any-eq, least, lowest-has, lowest-below}
-use Rattle.numbers.proofs.Word.{word, bit-word}
+use Rattle.numbers.proofs.Word.{bit-word}
 use Rattle.rules.specs.Bounds.{max-rows}
 use Rattle.rules.specs.Bus.{Table, pasted}
 use Rattle.rules.specs.TableFile.{fileTable}

@@ -27,11 +27,11 @@ use Rattle.promises.proofs.Demands.{plan-size}
 use Rattle.table.specs.declared.Answer.{Answer}
 use Rattle.planner.specs.Answers.{PlanAnswer}
 use Rattle.rules.specs.Text.{textOf, text}
-use Rattle.decimal.specs.Puts.{Puts}
+use Rattle.decimal.specs.Puts.{Puts, PutsLine, PutsLines}
 use Rattle.decimal.proofs.Puts.{puts-more}
+use Rattle.decimal.proofs.Text.{text-first, text-join, text-one}
 use Rattle.rules.specs.Program.{verdict, values, set-lines, slot-lines, max-input, Printed, refused, admitted}
-use Rattle.report.specs.Rendered.{PutsLine, PutsLines, Rendered}
-use Rattle.report.proofs.Text.{text-first, text-join, text-one}
+use Rattle.report.specs.Rendered.{Rendered}
 
 -- ---- an admitted table's lists
 

@@ -14,9 +14,9 @@ ghost use Rattle.rules.specs.Line.{Sets};
 ghost use Rattle.rules.specs.Loads.{hyperperiod};
 ghost use Rattle.rules.specs.Planner.{WholePlan};
 ghost use Rattle.rules.specs.Refusals.{Answers, verdict-checks};
-ghost use Rattle.decimal.specs.Puts.{limit, lineOf};
+ghost use Rattle.decimal.specs.Puts.{limit, lineOf, max-line, PutsLine, PutsLines};
 ghost use Rattle.rules.specs.Program.{verdict, values, set, slot, set-lines, slot-lines};
-ghost use Rattle.report.specs.Rendered.{max-line, PutsLine, PutsLines, Rendered};
+ghost use Rattle.report.specs.Rendered.{Rendered};
 
 // The program's input: one byte more than the longest table file has, so that a longer one is refused for its length.
 pub const INPUT: usize = 392;

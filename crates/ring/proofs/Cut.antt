@@ -5,14 +5,14 @@ use mathlib.Core.Bool.{Bool, true, false, not, _&&_, _||_}
 use Prim.Native.Nat.{ℕ, suc, _+_, _-_, _/_, _%_, _^_, _≤_, _<_}
 use native.Mathlib.Omega.{arith}
 use lib.Bits.{bitOr}
-use lib.Dec.{T, eqb, leb, ltb, le→leb, ltb→lt, lt→ltb}
+use lib.Dec.{T, eqb, leb, ltb, leb→le, le→leb, ltb→lt, lt→ltb}
 use lib.Pow.{shr-shr}
 use Rattle.numbers.specs.Finite.{any}
 use Rattle.numbers.specs.Word.{bit, Stretch}
-use Rattle.numbers.proofs.Truth.{both, fst, snd, orl, orr, or-cases, same, refuted, refutes, decide, of-true, of-false, le-or-lt}
+use Rattle.numbers.proofs.Truth.{both, fst, snd, orl, orr, or-cases, same, refuted, refutes, decide, is-true, of-true, of-false, le-or-lt}
 use Rattle.numbers.proofs.Word.{bit-zero, bit-or, inside}
 use Rattle.numbers.proofs.Finite.{any-next, any-of, least, lowest-le, lowest-has, lowest-below, lowest-is, lowest-none}
-use Rattle.rules.specs.Bus.{Table, steps, through, routeThrough}
+use Rattle.rules.specs.Bus.{Table, steps, through, routeUses}
 use Rattle.rules.specs.Line.{clear, cut}
 use Rattle.rules.specs.Refusals.{no-cut}
 use Rattle.ring.specs.Route.{Element, Shows}
@@ -98,43 +98,54 @@ unfolding clear bit
 shows-clear {M} {w} t S e h =
     ap not (bit-or w (w / 2 ^ M) e ∙ ap (λ (b : Bool). bit w e || b) (ap (λ (k : ℕ). eqb (k % 2) 1) (shr-shr w M e)) ∙ S .element e h)
 
--- a route that goes through e comes to it as element e, or as element M + e once round
-module _ {M a b e : ℕ} (ea : Element M a) (eb : Element M b) (ee : Element M e) where
+-- ---- a route's stretch, as a word
+
+-- The elements that lie x steps on from a or more and before b stand in a stretch from a + x, as element e, or as M + e once round.
+module _ (x : ℕ) {M a b e : ℕ} (ea : Element M a) (eb : Element M b) (ee : Element M e) where
   abbrev goes : Bool
-  goes = ltb 0 (steps M a e) && ltb (steps M a e) (steps M a b)
+  goes = leb x (steps M a e) && ltb (steps M a e) (steps M a b)
 
   abbrev here : ℕ → Bool
-  here k = leb (a + 1) k && ltb k (a + steps M a b)
+  here k = leb (a + x) k && ltb k (a + steps M a b)
 
-  stands : (k : ℕ) → a + 1 ≤ k → k < a + steps M a b → T (here k)
-  stands k l m = both (leb (a + 1) k) (ltb k (a + steps M a b)) (le→leb (a + 1) k l) (lt→ltb k (a + steps M a b) m)
+  stands : (k : ℕ) → a + x ≤ k → k < a + steps M a b → T (here k)
+  stands k l m = both (leb (a + x) k) (ltb k (a + steps M a b)) (le→leb (a + x) k l) (lt→ltb k (a + steps M a b) m)
 
-  through-here : T (here e || here (M + e)) → T goes
-  through-here h =
+  goes-here : T (here e || here (M + e)) → T goes
+  goes-here h =
       let less : steps M a b < M = steps-less ea eb in
-      let go : 0 < steps M a e → steps M a e < steps M a b → T goes =
-      λ l m. both (ltb 0 (steps M a e)) _ (lt→ltb _ _ l) (lt→ltb _ _ m) in
+      let go : x ≤ steps M a e → steps M a e < steps M a b → T goes =
+      λ l m. both (leb x (steps M a e)) _ (le→leb _ _ l) (lt→ltb _ _ m) in
       ⊎-elim
       (λ k.
-      let w = inside (a + 1) (a + steps M a b) e k in
+      let w = inside (a + x) (a + steps M a b) e k in
       ⊎-elim (λ u. go (omega arith) (omega arith)) (λ u. absurd (let z : ⊥ = omega arith in z)) (steps-cases ea ee))
       (λ k.
-      let w = inside (a + 1) (a + steps M a b) (M + e) k in
+      let w = inside (a + x) (a + steps M a b) (M + e) k in
       ⊎-elim (λ u. absurd (let z : ⊥ = omega arith in z)) (λ u. go (omega arith) (omega arith)) (steps-cases ea ee))
       (or-cases (here e) (here (M + e)) h)
 
-  here-through : T goes → T (here e || here (M + e))
-  here-through h =
-      let l : 0 < steps M a e = ltb→lt _ _ (fst (ltb 0 (steps M a e)) _ h) in
-      let m : steps M a e < steps M a b = ltb→lt _ _ (snd (ltb 0 (steps M a e)) _ h) in
+  here-goes : T goes → T (here e || here (M + e))
+  here-goes h =
+      let l : x ≤ steps M a e = leb→le _ _ (fst (leb x (steps M a e)) _ h) in
+      let m : steps M a e < steps M a b = ltb→lt _ _ (snd (leb x (steps M a e)) _ h) in
       ⊎-elim
       (λ u. orl (here e) (here (M + e)) (stands e (omega arith) (omega arith)))
       (λ u. orr (here e) (here (M + e)) (stands (M + e) (omega arith) (omega arith)))
       (steps-cases ea ee)
 
-pub stretch-shows : {M a b w : ℕ} → Element M a → Element M b → Stretch (a + 1) (a + steps M a b) w → Shows M w (routeThrough M a b)
-stretch-shows {M} ea eb S = record {
-  element = λ e ee. ap₂ _||_ (S .bits e) (S .bits (M + e)) ∙ same _ _ (through-here ea eb ee) (here-through ea eb ee);
+pub stretch-shows : (x : ℕ) {M a b w : ℕ} → Element M a → Element M b → Stretch (a + x) (a + steps M a b) w
+    → Shows M w (λ e. leb x (steps M a e) && ltb (steps M a e) (steps M a b))
+stretch-shows x {M} ea eb S = record {
+  element = λ e ee. ap₂ _||_ (S .bits e) (S .bits (M + e)) ∙ same _ _ (goes-here x ea eb ee) (here-goes x ea eb ee);
+}
+
+pub uses-shows : {M a b w : ℕ} → Element M a → Element M b → Stretch a (a + steps M a b) w → Shows M w (routeUses M a b)
+uses-shows {M} {a} {b} {w} ea eb S = record {
+  element = λ e ee.
+      let z : a + 0 ≡ a = omega arith in
+      stretch-shows 0 ea eb (rw z S) .element e ee
+      ∙ ap (λ (c : Bool). c && routeUses M a b e) (is-true (leb 0 (steps M a e)) (le→leb 0 (steps M a e) (omega arith)));
 }
 
 -- ---- the search for it, from element 1 up

@@ -2,4 +2,5 @@ pub mod Clockwise
 pub mod Routes
 pub mod Rows
 pub mod Cut
+pub mod Words
 pub mod OnLine

@@ -3,14 +3,15 @@
 --
 --   Element M e            e is one of the elements 1 to M; segments have the same numbers
 --   Shows M w p            word w shows the elements that have p: element e by bit e, or by bit M + e
+--   segments M a b         the word of the segments that the route from a to b uses, bit s − 1 for segment s (#102)
 --   lineElement M c e      element e's number on the line, clockwise from the cut c as 1, 2, and so on
 --   lineEnd M c e          the same for a second end: M + 1 at the cut
 use mathlib.Core.Path.{_≡_}
 use mathlib.Core.Bool.{Bool, _||_, cond}
 use Prim.Native.Nat.{ℕ, suc, _+_, _≤_}
 use lib.Dec.{eqb}
-use Rattle.numbers.specs.Word.{bit}
-use Rattle.rules.specs.Bus.{steps}
+use Rattle.numbers.specs.Word.{bit, word}
+use Rattle.rules.specs.Bus.{steps, routeUses}
 
 pub record Element (M e : ℕ) : Type 0 where
   pub low : 1 ≤ e
@@ -18,6 +19,9 @@ pub record Element (M e : ℕ) : Type 0 where
 
 pub record Shows (M w : ℕ) (p : ℕ → Bool) : Type 0 where
   pub element : (e : ℕ) → Element M e → (bit w e || bit w (M + e)) ≡ p e
+
+unfoldable pub segments : (M a b : ℕ) → ℕ
+segments M a b = word M (λ s. routeUses M a b (suc s))
 
 unfoldable pub lineElement : ℕ → ℕ → ℕ → ℕ
 lineElement M c e = suc (steps M c e)

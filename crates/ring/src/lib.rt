@@ -9,6 +9,7 @@ ghost use Rattle.numbers.specs.Word.{bit};
 ghost use Rattle.rules.specs.Bounds.{max-elements};
 ghost use Rattle.rules.specs.Bus as bus;
 ghost use Rattle.rules.specs.Line as line;
+ghost use Rattle.table.specs.Columns.{ByRow};
 ghost use Rattle.ring.specs.Route as route;
 ghost use Rattle.ring.specs.Route.{Element, Shows};
 ghost use Rattle.ring.specs.Rows.{Routes, onRing, Renumbered};
@@ -34,6 +35,23 @@ fn through(m: usize, from: usize, to: usize) -> u64
     ensures { λ r. ⌜ Shows m r (bus.routeThrough m from to) ⌝ }
 {
     numbers::stretch(from + 1, from + steps(m, from, to))
+}
+
+// The segments that this route uses, shown in the same way.
+fn uses(m: usize, from: usize, to: usize) -> u64
+    requires { ⌜ (m ≤ max-elements) × Element m from × Element m to ⌝ }
+    ensures { λ r. ⌜ Shows m r (bus.routeUses m from to) ⌝ }
+{
+    numbers::stretch(from, from + steps(m, from, to))
+}
+
+// The word of these segments: bit s - 1 for segment s.
+pub fn segments(m: usize, from: usize, to: usize) -> u32
+    requires { ⌜ (m ≤ max-elements) × Element m from × Element m to ⌝ }
+    ensures { λ r. ⌜ r ≡ route.segments m from to ⌝ }
+{
+    let word = uses(m, from, to);
+    (((word | (word >> m)) >> 1usize) & numbers::stretch(0, m)) as u32
 }
 
 // Element `e`'s number on the line that begins at `cut`.
@@ -95,6 +113,42 @@ pub fn find_cut<'a>(
         e += 1;
     }
     e
+}
+
+// The word of every row's segments, 0 past the last row, for those who ask of many rows.
+pub fn lay_segments<'a>(
+    elements: usize,
+    rows: usize,
+    first: &'a [u8; Table::ROWS],
+    second: &'a [u8; Table::ROWS],
+) -> [u32; Table::ROWS]
+    requires { ⌜ Routes elements rows (at (now first)) (at (now second)) ⌝ }
+    ensures { λ r. ⌜ ByRow rows (λ i. route.segments elements (at (now (first .entry)) i) (at (now (second .entry)) i)) r ⌝ }
+{
+    let mut words = [0u32; Table::ROWS];
+    let mut i: usize = 0;
+    while i < rows {
+        words[i] = segments(elements, table::end_at(first, i), table::end_at(second, i));
+        i += 1;
+    }
+    words
+}
+
+// The word of the segments that rows `i` and `j` share: those that are in both words.
+pub fn shared<'a>(
+    elements: usize,
+    rows: usize,
+    first: &'a [u8; Table::ROWS],
+    second: &'a [u8; Table::ROWS],
+    i: usize,
+    j: usize,
+) -> u32
+    requires { ⌜ Routes elements rows (at (now first)) (at (now second)) × (i < rows) × (j < rows) ⌝ }
+    ensures { λ r. ⌜ r ≡ bus.shared (onRing elements rows (at (now (first .entry))) (at (now (second .entry)))) i j ⌝ }
+{
+    let one = segments(elements, table::end_at(first, i), table::end_at(second, i));
+    let other = segments(elements, table::end_at(first, j), table::end_at(second, j));
+    one & other
 }
 
 // The rows laid on the line that begins at element `cut`.

@@ -1,6 +1,7 @@
 pub mod Answers
 pub mod Calls
 pub mod Small
+pub mod Shared
 pub mod Interval
 pub mod Lags
 pub mod Sets

@@ -17,11 +17,11 @@ use lib.Dec.{T, ltb, eqb, lt→ltb, eqb→eq, eqb-refl}
 use lib.ListN.{length}
 use lib.Seq.{ext-getD}
 use Rattle.numbers.specs.Finite.{any}
-use Rattle.numbers.specs.Word.{bit}
+use Rattle.numbers.specs.Word.{bit, word}
 use Rattle.numbers.specs.Lists.{at}
 use Rattle.numbers.proofs.Truth.{both, fst, snd, same, decide, le-or-lt}
 use Rattle.numbers.proofs.Finite.{any-of, least}
-use Rattle.numbers.proofs.Word.{word, bit-word, bit-lt, lt-of-bits}
+use Rattle.numbers.proofs.Word.{bit-word, bit-lt, lt-of-bits}
 use Rattle.rules.specs.Bus.{Table, overlap}
 use Rattle.rules.specs.Line.{OverlapSet, Least, SetList, Sets, lineSecond}
 use Rattle.numbers.proofs.Tests.{Test, holds-test, lt-test, eq-test, as-test, and-test, three-test, if-test, every-test, any-test}

@@ -12,7 +12,7 @@ use Rattle.rules.specs.TableFile.{fileTable}
 use Rattle.rules.specs.Loads.{hyperperiod}
 use Rattle.rules.specs.Refusals.{Check, Answers, last-number, faults, pasted-row, light-row, over-bound, short-output}
 use Rattle.rules.specs.Refusals.{header-checks, row-checks, file-checks, pasted-checks, given-checks, line-checks, bound-checks}
-use Rattle.rules.specs.Refusals.{verdict-checks, plan-checks}
+use Rattle.rules.specs.Refusals.{no-row, shared-checks, verdict-checks, plan-checks}
 use Rattle.rules.proofs.Answers.{None, Fit, answers-split, answers-fit, fit-join, fit-each}
 
 -- places are rows, or sets, of which there are no more than rows
@@ -40,15 +40,19 @@ small-by f cs n p fit r =
 abbrev past-header : Table → List Check
 past-header t = row-checks t ++ (pasted-checks t ++ (line-checks t ++ bound-checks t))
 
+rows-fit : (t : Table) → t .rows ≤ max-rows → Fit last-number last-place (row-checks t)
+unfolding row-checks Fit
+rows-fit t few =
+    fit-each last-number last-place (faults t) (t .rows)
+    (λ i l. (lit≤ tt, omega arith, (lit≤ tt, omega arith, (lit≤ tt, omega arith, tt))))
+
 table-fit : (t : Table) → t .rows ≤ max-rows → Fit last-number last-place (past-header t)
-unfolding row-checks pasted-checks line-checks bound-checks Fit
+unfolding pasted-checks line-checks bound-checks Fit
 table-fit t few =
-    let rows = fit-each last-number last-place (faults t) (t .rows)
-    (λ i l. (lit≤ tt, omega arith, (lit≤ tt, omega arith, (lit≤ tt, omega arith, tt)))) in
     let pasted = fit-each last-number last-place (λ i. pasted-row t i ∷ []) (t .rows) (λ i l. (lit≤ tt, omega arith, tt)) in
     let light = fit-each last-number last-place (λ i. light-row t i ∷ []) (t .rows) (λ i l. (lit≤ tt, omega arith, tt)) in
     let over = fit-each last-number last-place (λ k. over-bound t k ∷ []) (t .rows) (λ k l. (lit≤ tt, omega arith, tt)) in
-    fit-join last-number last-place (row-checks t) (pasted-checks t ++ (line-checks t ++ bound-checks t)) rows
+    fit-join last-number last-place (row-checks t) (pasted-checks t ++ (line-checks t ++ bound-checks t)) (rows-fit t few)
     (fit-join last-number last-place (pasted-checks t) (line-checks t ++ bound-checks t) pasted
     (fit-join last-number last-place (line-checks t) (bound-checks t) (lit≤ tt, lit≤ tt, (lit≤ tt, lit≤ tt, tt))
     (fit-join last-number last-place (each (t .rows) (λ i. light-row t i ∷ [])) (each (t .rows) (λ k. over-bound t k ∷ [])) light over)))
@@ -57,6 +61,21 @@ pub verdict-small : (f : List ℕ) (n p : ℕ) → Answers (verdict-checks f) n 
 unfolding verdict-checks given-checks file-checks
 verdict-small f n p r =
     small-by f (past-header (fileTable f)) n p (table-fit (fileTable f)) (rw (append-assoc, append-assoc, append-assoc) at r)
+
+-- so has what is answered of two rows
+pub shared-small : (f : List ℕ) (i j n p : ℕ) → Answers (shared-checks f i j) n p → (n ≤ last-number) × (p ≤ last-place)
+unfolding shared-checks file-checks row-checks Fit
+shared-small f i j n p r = small-by f (row-checks t ++ rest) n p fit (rw append-assoc at r)
+  where
+    t : Table
+    t = fileTable f
+
+    rest : List Check
+    rest = no-row t 0 i ∷ no-row t 1 j ∷ []
+
+    fit : t .rows ≤ max-rows → Fit last-number last-place (row-checks t ++ rest)
+    fit few =
+        fit-join last-number last-place (row-checks t) rest (rows-fit t few) (lit≤ tt, lit≤ tt, (lit≤ tt, lit≤ tt, tt))
 
 abbrev room-check : List ℕ → ℕ → List Check
 room-check f room = short-output (room < hyperperiod (fileTable f)) ∷ []

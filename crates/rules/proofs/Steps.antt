@@ -18,12 +18,12 @@ use lib.Dec.{T, ltb, eqb, eqb→eq, lt→ltb}
 use lib.IntN.{pos, _-ℤ_}
 use lib.ListN.{length, List·getD-eq-default}
 use Rattle.numbers.specs.Finite.{sumIn, count}
-use Rattle.numbers.specs.Word.{bit}
+use Rattle.numbers.specs.Word.{bit, word}
 use Rattle.numbers.specs.Lists.{at}
 use Rattle.numbers.specs.Rounding.{down, up, Rounded}
 use Rattle.numbers.proofs.Truth.{both, snd, along, eqb-of}
 use Rattle.numbers.proofs.Finite.{sumIn-eq}
-use Rattle.numbers.proofs.Word.{word, bit-word, word-lt, bit-lt, lt-of-bits}
+use Rattle.numbers.proofs.Word.{bit-word, word-lt, bit-lt, lt-of-bits}
 use Rattle.rules.specs.Bus.{Table, overlap}
 use Rattle.rules.specs.Line.{OverlapSet, Sets, lineFirst}
 use Rattle.rules.specs.Loads.{hyperperiod, start, end, share}

@@ -7,13 +7,16 @@
 --   routeThrough M a b e   that route goes through element e
 --   through t i e      row i goes through element e
 --   overlap t i j      rows i and j overlap: their routes share a segment
+--   shared t i j       the word of the segments that they share, bit s − 1 for segment s (#102)
+--   common t D         the word of the segments that all rows of the set D use, likewise
 --   pasted t i         an earlier row has row i's ends and period (#104)
 --
 -- Elements and segments are numbered 1 to M; segment s joins element s to the next one, and segment M joins M to 1.
-use mathlib.Core.Bool.{Bool, _&&_}
+use mathlib.Core.Bool.{Bool, not, _&&_, _||_}
 use Prim.Native.Nat.{ℕ, suc, _+_, _-_, _%_}
 use lib.Dec.{ltb, eqb}
-use Rattle.numbers.specs.Finite.{any}
+use Rattle.numbers.specs.Finite.{any, every}
+use Rattle.numbers.specs.Word.{word}
 
 -- A row is one periodic transfer: cost in slots, period in slots, first and second element. Its first job arrives at slot 0, and each job's
 -- deadline is the next arrival: job j arrives at slot j × period and is due at slot (j + 1) × period.
@@ -44,6 +47,13 @@ through t i e = routeThrough (t .elements) (t .first i) (t .second i) e
 
 unfoldable pub overlap : Table → ℕ → ℕ → Bool
 overlap t i j = any (t .elements) (λ s. uses t i (suc s) && uses t j (suc s))
+
+-- The segments are the ring's own, so no cut is needed. The word is 0 exactly if the rows don't overlap (specs/Shared).
+unfoldable pub shared : Table → ℕ → ℕ → ℕ
+shared t i j = word (t .elements) (λ s. uses t i (suc s) && uses t j (suc s))
+
+unfoldable pub common : Table → (ℕ → Bool) → ℕ
+common t D = word (t .elements) (λ s. every (t .rows) (λ i. not (D i) || uses t i (suc s)))
 
 -- An earlier row has its first end, its second end and its period, whatever the costs.
 unfoldable pub pasted : Table → ℕ → Bool

@@ -3,6 +3,8 @@
 --   Call cs n p D R     a call with checks cs answers with number n and place p; D holds of it where it is done, R where it refuses
 --   lent ws was         a lent slice that held `was`, with ws written to its front: past them it is unchanged
 --   Read, Written       the reader and the writer
+--   Met                 where two rows meet: the segments that they share
+--   Crowded             an overlap set's rows, and the segments that all of them use
 --   Judged              the verdict
 --   Listed              the list of sets
 --   Ask                 what the planner's calls are asked about: a table, and the checks before their own
@@ -20,10 +22,11 @@ use mathlib.Core.List.{List, _++_}
 use Prim.Native.Nat.{ℕ, _+_, _*_, _≤_, _<_}
 use lib.IntN.{ℤ, pos}
 use lib.ListN.{length, drop}
+use Rattle.numbers.specs.Lists.{at}
 use Rattle.rules.specs.Bounds.{max-rows}
-use Rattle.rules.specs.Bus.{Table}
+use Rattle.rules.specs.Bus.{Table, shared, common}
 use Rattle.rules.specs.TableFile.{fileTable, memoryTable, numbers, bytes}
-use Rattle.rules.specs.Line.{cut, Sets}
+use Rattle.rules.specs.Line.{cut, setAt, Sets}
 use Rattle.rules.specs.Loads.{hyperperiod, shortest, reported}
 use Rattle.rules.specs.Planner.{Planner, standing, Step, WholePlan}
 use Rattle.rules.specs.Refusals.{
@@ -31,8 +34,10 @@ use Rattle.rules.specs.Refusals.{
   Answers,
   reader-checks,
   writer-checks,
+  shared-checks,
   verdict-checks,
   sets-checks,
+  set-checks,
   plan-checks,
   step-checks,
   standings-checks,
@@ -57,6 +62,18 @@ Read file was now number place elements rows =
 abbrev pub Written : (elements rows : ℕ) (xs was now : List ℕ) (number place : ℕ) → Type 0
 Written elements rows xs was now number place =
     Call (writer-checks elements rows xs (length was)) number place (now ≡ lent (bytes (memoryTable elements rows xs)) was) (now ≡ was)
+
+-- Returns the word of the segments that rows i and j share (#102).
+abbrev pub Met : (file : List ℕ) (i j number place word : ℕ) → Type 0
+Met file i j number place word =
+    Call (shared-checks file i j) number place (word ≡ shared (fileTable file) i j) (word ≡ 0)
+
+-- Returns the word of the rows of set number k, and the word of the segments that all of them use (#102).
+abbrev pub Crowded : (file : List ℕ) (k number place rows segments : ℕ) → Type 0
+Crowded file k number place rows segments =
+    Call (set-checks file k) number place
+    ((ws : List ℕ) × Sets (fileTable file) ws × (k < length ws) × (rows ≡ at ws k) × (segments ≡ common (fileTable file) (setAt ws k)))
+    ((rows ≡ 0) × (segments ≡ 0))
 
 -- When admitted, the verdict also returns cut, L, h, reported load and the number of sets.
 pub record Admitted (t : Table) (cut′ interval hyper load sets : ℕ) : Type 0 where

@@ -1,6 +1,7 @@
 -- The rules of the bus as definitions, in the order of document 01. docs/LEGEND.md says how to read them.
 pub mod Bounds
 pub mod Bus
+pub mod Shared
 pub mod TableFile
 pub mod Line
 pub mod Ties

@@ -1,4 +1,4 @@
--- Document 01, "The program and one whole output".
+-- Document 01, "The program and one whole output", and #102's program that says where rows meet.
 --
 --   verdict, cut, interval, hyper, load, set, slot    the program's lines, each with its numbers
 --   values c l h x     the lines of cut, L, h and reported load
@@ -6,12 +6,20 @@
 --   slot-lines ws      the lines of the slots whose words are ws
 --   max-input          it reads at most so many bytes
 --   Printed input ls   the program prints the lines ls for what stands on its standard input
+--   shared, row, segment    the lines of the program that says where rows meet
+--   row-lines w        the lines of the rows whose word is w, ascending
+--   segment-lines w    the lines of the segments whose word is w, ascending
+--   MeetingPrinted file i j ls   it prints the lines ls for rows i and j of the table on its standard input
+--   CrowdPrinted file k ls       it prints the lines ls for set number k
 use mathlib.Core.Path.{_≡_}
 use mathlib.Core.Logic.{_≢_}
+use mathlib.Core.Bool.{cond}
 use mathlib.Core.List.{List, [], _∷_, _++_}
-use Prim.Native.Nat.{ℕ}
+use Prim.Native.Nat.{ℕ, suc}
 use lib.ListN.{length, take}
 use Rattle.numbers.specs.Lists.{at, each}
+use Rattle.numbers.specs.Word.{bit}
+use Rattle.rules.specs.Bounds.{max-elements, max-rows}
 use Rattle.rules.specs.Bus.{Table}
 use Rattle.rules.specs.TableFile.{fileTable}
 use Rattle.rules.specs.Line.{Sets}
@@ -19,6 +27,7 @@ use Rattle.rules.specs.Line as line
 use Rattle.rules.specs.Loads.{hyperperiod, shortest, reported}
 use Rattle.rules.specs.Planner.{WholePlan}
 use Rattle.rules.specs.Refusals.{Answers, verdict-checks}
+use Rattle.rules.specs.Calls.{Met, Crowded}
 use Rattle.rules.specs.Text.{Line, says}
 
 -- ---- its lines
@@ -67,3 +76,35 @@ pub data Printed (input : List ℕ) : List Line → Type 0 where
       → Sets t sets → WholePlan t plan
       → Printed input
       (verdict 0 0 ∷ (values (line.cut t) (shortest t) (hyperperiod t) (reported t sets) ++ (set-lines sets ++ slot-lines plan)))
+
+-- ---- where rows meet (#102): number and place, a line for each row of a set, and one for each segment that the rows share
+
+abbrev pub shared : ℕ → ℕ → Line
+shared number place = says "shared" (number ∷ place ∷ [])
+
+abbrev pub row : ℕ → Line
+row number = says "row" (number ∷ [])
+
+abbrev pub segment : ℕ → Line
+segment number = says "segment" (number ∷ [])
+
+abbrev pub row-lines : ℕ → List Line
+row-lines w = each max-rows (λ i. cond (bit w i) (row i ∷ []) [])
+
+abbrev pub segment-lines : ℕ → List Line
+segment-lines w = each max-elements (λ s. cond (bit w s) (segment (suc s) ∷ []) [])
+
+pub record MeetingPrinted (file : List ℕ) (i j : ℕ) (ls : List Line) : Type 0 where
+  pub number : ℕ
+  pub place : ℕ
+  pub word : ℕ
+  pub met : Met file i j number place word
+  pub lines : ls ≡ shared number place ∷ segment-lines word
+
+pub record CrowdPrinted (file : List ℕ) (k : ℕ) (ls : List Line) : Type 0 where
+  pub number : ℕ
+  pub place : ℕ
+  pub rows : ℕ
+  pub segments : ℕ
+  pub crowded : Crowded file k number place rows segments
+  pub lines : ls ≡ shared number place ∷ (row-lines rows ++ segment-lines segments)

@@ -32,7 +32,7 @@ Answers (c ∷ cs) n p = (c .applies × (n ≡ c .number) × (p ≡ c .place)) �
 
 -- the highest number of the table below
 abbrev pub last-number : ℕ
-last-number = 18
+last-number = 32
 
 -- x is one of a, a + 1, .., b
 abbrev In : ℕ → ℕ → ℕ → Type 0
@@ -108,6 +108,14 @@ short-output A = refuse 17 0 A
 abbrev pub pasted-row : Table → ℕ → Check
 pasted-row t i = refuse 18 i (T (pasted t i))
 
+-- a row that is asked for is past the last (#102); the place is 0 for the first of the two rows, 1 for the second
+abbrev pub no-row : Table → (place i : ℕ) → Check
+no-row t place i = refuse 32 place (t .rows ≤ i)
+
+-- or an overlap set
+abbrev pub no-set : Table → ℕ → Check
+no-set t k = refuse 32 0 ((ws : List ℕ) × Sets t ws × (length ws ≤ k))
+
 -- ---- the orders of checking: rows are taken in ascending order, within a row 7, 8, 9, and the lowest row or set is the place
 
 -- 4 to 6, of a table whose file or slice has `has` places and is to have `wants`
@@ -158,6 +166,10 @@ memory-checks M n xs = size-checks (memoryTable M n xs) (length xs) (rowNumbers 
 unfoldable pub writer-checks : ℕ → ℕ → List ℕ → ℕ → List Check
 writer-checks M n xs room = memory-checks M n xs ++ (short-output (room < headerSize + rowSize * n) ∷ [])
 
+-- the segments that rows i and j share: 1 to 9, then 32 (#102)
+unfoldable pub shared-checks : List ℕ → (i j : ℕ) → List Check
+shared-checks f i j = file-checks f ++ (no-row (fileTable f) 0 i ∷ no-row (fileTable f) 1 j ∷ [])
+
 -- the verdict 1 to 9, 18, 10 to 14
 unfoldable pub verdict-checks : List ℕ → List Check
 verdict-checks f = given-checks f ++ line-checks (fileTable f) ++ bound-checks (fileTable f)
@@ -167,6 +179,10 @@ unfoldable pub sets-checks : List ℕ → ℕ → List Check
 sets-checks f room =
     given-checks f ++ line-checks (fileTable f)
     ++ (short-output ((ws : List ℕ) × Sets (fileTable f) ws × (room < length ws)) ∷ [])
+
+-- set number k and where its rows meet: 1 to 9, 18, 10 and 11, then 32 (#102)
+unfoldable pub set-checks : List ℕ → ℕ → List Check
+set-checks f k = given-checks f ++ line-checks (fileTable f) ++ (no-set (fileTable f) k ∷ [])
 
 -- the whole plan the verdict's, here cs, then 17
 unfoldable pub plan-checks : List Check → Table → ℕ → List Check

@@ -13,11 +13,11 @@ use native.Mathlib.Omega.{arith}
 use lib.Dec.{T, ltb, eqb, lt→ltb, eqb→eq, eqb-refl}
 use lib.ListN.{length, length-map}
 use Rattle.numbers.specs.Finite.{only, sum, sumIn, count}
-use Rattle.numbers.specs.Word.{bit}
+use Rattle.numbers.specs.Word.{bit, word}
 use Rattle.numbers.specs.Lists.{at}
 use Rattle.numbers.proofs.Truth.{both, fst, snd, same, along}
 use Rattle.numbers.proofs.Finite.{any-le, sum-le, sum-swap, sum-const, sum-term, sumIn-eq, only-le}
-use Rattle.numbers.proofs.Word.{word, bit-word, bit-ext}
+use Rattle.numbers.proofs.Word.{bit-word, bit-ext}
 use Rattle.rules.specs.Line.{meet, OverlapSet, Least, SetList}
 use Rattle.rules.proofs.Sets.{set-in, sets-only}
 use Rattle.sets.specs.Walk.{across, endsAt}

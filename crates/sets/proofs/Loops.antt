@@ -17,11 +17,11 @@ use lib.Bits.{bitOr, bitXor}
 use lib.Dec.{T, eqb, ltb, eqb→eq, ltb→lt, lt→ltb}
 use lib.ListN.{length, set, replicate, length-append, length-set, length-replicate}
 use lib.Seq.{getD-set-same, getD-set-other}
-use Rattle.numbers.specs.Word.{bit}
+use Rattle.numbers.specs.Word.{bit, word}
 use Rattle.numbers.specs.Lists.{at}
 use Rattle.numbers.proofs.Truth.{both, fst, snd, decide, is-true, is-false, of-false, same, eqb-of, le-or-lt}
 use Rattle.numbers.proofs.Finite.{any-of, any-none}
-use Rattle.numbers.proofs.Word.{word, word-in, word-out, bit-word, bit-zero, bit-or, bit-xor, bit-ext}
+use Rattle.numbers.proofs.Word.{word-in, word-out, bit-word, bit-zero, bit-or, bit-xor, bit-ext}
 use Rattle.numbers.proofs.Lists.{Filled, filled-start, filled-put, filled-take, filled-rest, zeros-at}
 use Rattle.rules.specs.Bounds.{max-rows}
 use Rattle.sets.specs.Walk.{line-size, across, endsAt, RowsAt}

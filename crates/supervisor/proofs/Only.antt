@@ -4,7 +4,7 @@ use mathlib.Core.List.{List}
 use Prim.Native.Nat.{ℕ}
 use native.Mathlib.Decide.{ℕ-discrete}
 use lib.ListN.{length}
-use Rattle.rules.specs.Refusals.{verdict-checks}
+use Rattle.rules.specs.Refusals.{shared-checks, verdict-checks}
 use Rattle.rules.specs.Calls.{lent, c-answer, fileAsk}
 use Rattle.rules.proofs.Answers.{None, answered, answers-only}
 use Rattle.table.specs.declared.Answer.{Answer}
@@ -14,7 +14,7 @@ use Rattle.verdict.specs.declared.Verdict.the-variants.{Admitted}
 use Rattle.verdict.specs.Verdict.{cutOf, intervalOf, hyperOf, loadOf, setsOf, IsVerdict}
 use Rattle.verdict.proofs.Judging.{judged-only}
 use Rattle.planner.proofs.Only.{plan-only}
-use Rattle.supervisor.specs.ToC.{VerdictToC, values, values-checks, Valued, ValuesToC, SetsToC, PlanToC}
+use Rattle.supervisor.specs.ToC.{VerdictToC, values, values-checks, Valued, ValuesToC, SharedToC, SetsToC, PlanToC}
 use Rattle.supervisor.proofs.Values.{values-none}
 
 pub verdict-to-c-only : (f : List ℕ) (r s : ℕ) → VerdictToC f r → VerdictToC f s → r ≡ s
@@ -51,6 +51,18 @@ values-to-c-only f was now then r s A B =
         ∙ ap (λ (v : Verdict). lent (values (cutOf v) (intervalOf v) (hyperOf v) (loadOf v) (setsOf v)) was) e
         ∙ sym (b .written)
     go (no z) = A .called .refused z ∙ sym (B .called .refused (λ e. z (same .0 ∙ e)))
+
+pub shared-to-c-only : (f : List ℕ) (i j was now then r s : ℕ) → SharedToC f i j was now r → SharedToC f i j was then s
+    → (r ≡ s) × (now ≡ then)
+shared-to-c-only f i j was now then r s A B =
+    (A .as-one ∙ ap₂ c-answer (same .0) (same .1) ∙ sym (B .as-one), go (ℕ-discrete (A .number) 0))
+  where
+    same : (A .number ≡ B .number) × (A .place ≡ B .place)
+    same = answers-only (shared-checks f i j) _ _ _ _ (A .called .answers) (B .called .answers)
+
+    go : Dec (A .number ≡ 0) → now ≡ then
+    go (yes z) = A .called .done z ∙ sym (B .called .done (sym (same .0) ∙ z))
+    go (no h) = A .called .refused h ∙ sym (B .called .refused (λ z. h (same .0 ∙ z)))
 
 pub sets-to-c-only : (f was now then : List ℕ) (r s : ℕ) → SetsToC f was now r → SetsToC f was then s → (r ≡ s) × (now ≡ then)
 sets-to-c-only f was now then r s A B =

@@ -1,9 +1,11 @@
--- What the functions for C answer: number and place of the verdict, its values, the list of sets and the whole plan, as one number.
+-- What the functions for C answer: number and place of the verdict, its values, shared segments, the list of sets and the whole plan, as
+-- one number.
 --
 --   VerdictToC f r            r is the verdict on file f
 --   values c i h l s          the values of an admitted table in the order in which C gets them
 --   values-checks f room      the checks of the values: the verdict's, then 17
 --   ValuesToC f was now r     r answers for the values of file f's table, and a slice that held `was` now holds `now`
+--   SharedToC f i j was now r   r answers for the segments that rows i and j share, and a number that was `was` is now `now`
 --   SetsToC f was now r       r answers for the list of its sets
 --   PlanToC f was now r       r answers for its whole plan
 use mathlib.Core.Path.{_≡_}
@@ -11,7 +13,8 @@ use mathlib.Core.List.{List, [], _∷_, _++_}
 use Prim.Native.Nat.{ℕ, _<_}
 use lib.ListN.{length}
 use Rattle.rules.specs.TableFile.{fileTable}
-use Rattle.rules.specs.Refusals.{Check, Answers, short-output, verdict-checks}
+use Rattle.rules.specs.Bus.{shared}
+use Rattle.rules.specs.Refusals.{Check, Answers, short-output, shared-checks, verdict-checks}
 use Rattle.rules.specs.Calls.{Call, lent, Admitted, Listed, fileAsk, c-answer}
 use Rattle.table.specs.declared.Answer.{Answer}
 use Rattle.planner.specs.Answers.{PlanAnswer}
@@ -48,6 +51,14 @@ pub record ValuesToC (f was now : List ℕ) (r : ℕ) : Type 0 where
   pub number : ℕ
   pub place : ℕ
   pub called : Call (values-checks f (length was)) number place (Valued f was now) (now ≡ was)
+  pub as-one : r ≡ c-answer number place
+
+-- ---- where two rows meet
+
+pub record SharedToC (f : List ℕ) (i j was now r : ℕ) : Type 0 where
+  pub number : ℕ
+  pub place : ℕ
+  pub called : Call (shared-checks f i j) number place (now ≡ shared (fileTable f) i j) (now ≡ was)
   pub as-one : r ≡ c-answer number place
 
 -- ---- lists and plans

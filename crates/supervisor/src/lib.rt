@@ -1,5 +1,5 @@
-// The functions for the supervisor, a C program: verdict, its values, list of sets and whole plan, each answering 256 × number + place
-// (include/ringplan.h).
+// The functions for the supervisor, a C program: verdict, its values, shared segments, list of sets and whole plan, each answering
+// 256 × number + place (include/ringplan.h).
 use table::Answer;
 use verdict::Verdict;
 ghost use mathlib.Core.Path.{_≡_};
@@ -7,7 +7,7 @@ ghost use Prim.Native.Nat.{_≤_};
 ghost use lib.ListN.{length};
 ghost use Rattle.rules.specs.Refusals.{last-number};
 ghost use Rattle.rules.specs.Calls.{lent, c-answer};
-ghost use Rattle.supervisor.specs.ToC.{VerdictToC, values, value-count, ValuesToC, SetsToC, PlanToC};
+ghost use Rattle.supervisor.specs.ToC.{VerdictToC, values, value-count, ValuesToC, SharedToC, SetsToC, PlanToC};
 
 // Number and place as one number.
 fn joined(number: u32, place: u32) -> u32
@@ -65,6 +65,20 @@ pub extern "C" fn ring_values(file: &[u8], out: &mut [u32]) -> u32
     }
     write_values(out, cut, interval, hyper, load, sets);
     joined(Answer::DONE, 0)
+}
+
+// ---- where two rows meet
+
+// Fills in the word of the segments that two rows share.
+#[no_mangle]
+pub extern "C" fn ring_shared(file: &[u8], i: usize, j: usize, word: &mut u32) -> u32
+    ensures { λ r. ⌜ SharedToC (now (file .entry)) i j (now (word .entry)) (now (word .exit)) r ⌝ }
+{
+    let found = meeting::meet(file, i, j);
+    if found.answer.number == Answer::DONE {
+        *word = found.word;
+    }
+    joined(found.answer.number, found.answer.place)
 }
 
 // ---- lists and plans

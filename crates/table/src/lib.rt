@@ -147,6 +147,8 @@ impl Answer {
 
     pub const PASTED_ROW: u32 = 18;
 
+    pub const NO_ROW: u32 = 32;
+
     pub fn done() -> Answer
         ensures { λ r. ⌜ (r .number ≡ 0) × (r .place ≡ 0) ⌝ }
     {

@@ -5,8 +5,8 @@ use Prim.Native.Nat.{ℕ, _-_, _≤_}
 use native.Mathlib.Omega.{arith}
 use lib.Dec.{ltb}
 use Rattle.numbers.specs.Lists.{at}
-use Rattle.numbers.specs.Word.{bit}
-use Rattle.numbers.proofs.Word.{word, bit-word}
+use Rattle.numbers.specs.Word.{bit, word}
+use Rattle.numbers.proofs.Word.{bit-word}
 use Rattle.loads.proofs.Comparing.{word-zero, word-more}
 use Rattle.choice.proofs.parted_rows.Statement.{statement}
 use Rattle.choice.proofs.parted_rows.Tie as tie

@@ -6,7 +6,7 @@ use native.Mathlib.Omega.{arith}
 use lib.Bits.{bitAnd, and-le-l}
 use lib.Count.{ones, ones-le}
 use Rattle.numbers.specs.Lists.{at}
-use Rattle.numbers.proofs.Word.{word}
+use Rattle.numbers.specs.Word.{word}
 use Rattle.rules.specs.Bounds.{max-rows, max-slots}
 use Rattle.loads.proofs.Comparing.{takes, gives, lacks, takes-next, compared-of, word-one, word-zero, word-more}
 use Rattle.loads.proofs.compare.Statement.{statement}

@@ -5,7 +5,7 @@ use Prim.Native.Nat.{ℕ, _-_, _<_}
 use native.Mathlib.Omega.{arith}
 use lib.Dec.{eqb}
 use Rattle.numbers.specs.Lists.{at}
-use Rattle.numbers.proofs.Word.{word}
+use Rattle.numbers.specs.Word.{word}
 use Rattle.numbers.proofs.Finite.{Sought, sought-start, sought-next, sought-found, sought-end}
 use Rattle.rules.specs.Bus.{Table, pasted}
 use Rattle.table.specs.Columns.{columnTable}

@@ -1,13 +1,13 @@
 -- put_sets: line by line; the first k are put.
 use native.Mathlib.Omega.{arith}
-use mathlib.Core.Path.{_≡_}
+use mathlib.Core.Path.{_≡_, refl}
 use mathlib.Core.List.{[], _∷_}
 use Prim.Native.Nat.{_-_, _≤_}
 use lib.ListN.{length}
 use Rattle.numbers.specs.Lists.{at, each}
 use Rattle.rules.specs.Program.{set}
-use Rattle.report.specs.Rendered.{PutsLines}
-use Rattle.report.proofs.Text.{lines-none, lines-next}
+use Rattle.decimal.specs.Puts.{PutsLines}
+use Rattle.decimal.proofs.Text.{lines-none, lines-next}
 use Rattle.report.proofs.put_sets.Statement.{statement}
 use Rattle.report.proofs.put_sets.Tie as tie
 
@@ -19,7 +19,7 @@ abbrev μ-loop : tie.MeasureT-loop
 μ-loop words out₀ at₀ next₀ k₀ out next k = length words - k
 
 loop-holds : tie.Need-loop-holds Inv-loop μ-loop
-loop-holds c = let words = c .before .before .args .words .now in (omega arith, lines-none (λ i. set (at words i)) _ _)
+loop-holds c = let words = c .before .before .args .words .now in (omega arith, lines-none (λ i. set (at words i) ∷ []) _ _)
 
 mul-put-set : tie.Need-mul-put-set Inv-loop μ-loop
 mul-put-set c = omega arith
@@ -40,7 +40,7 @@ loop-again : tie.Need-loop-again Inv-loop μ-loop
 loop-again c =
     let z = c .before .before .before .before .before .before in
     let words = z .before .before .before .args .words .now in
-    (omega arith, lines-next (λ i. set (at words i)) (z .loop .k) (z .loop .inv .1) (c .before .before .put-set .ensures))
+    (omega arith, lines-next (λ i. set (at words i) ∷ []) (z .loop .k) (z .loop .inv .1) _ refl (c .before .before .put-set .ensures))
 
 same-length : tie.Need-same-length Inv-loop μ-loop
 same-length c = c .before .loop .inv .1 .0 .same

@@ -1,13 +1,13 @@
 -- put_slots: line by line; the first s are put.
 use native.Mathlib.Omega.{arith}
-use mathlib.Core.Path.{_≡_}
+use mathlib.Core.Path.{_≡_, refl}
 use mathlib.Core.List.{[], _∷_}
 use Prim.Native.Nat.{_-_, _≤_}
 use lib.ListN.{length}
 use Rattle.numbers.specs.Lists.{at, each}
 use Rattle.rules.specs.Program.{slot}
-use Rattle.report.specs.Rendered.{PutsLines}
-use Rattle.report.proofs.Text.{lines-none, lines-next}
+use Rattle.decimal.specs.Puts.{PutsLines}
+use Rattle.decimal.proofs.Text.{lines-none, lines-next}
 use Rattle.report.proofs.put_slots.Statement.{statement}
 use Rattle.report.proofs.put_slots.Tie as tie
 
@@ -19,7 +19,7 @@ abbrev μ-loop : tie.MeasureT-loop
 μ-loop words out₀ at₀ next₀ s₀ out next s = length words - s
 
 loop-holds : tie.Need-loop-holds Inv-loop μ-loop
-loop-holds c = let words = c .before .before .args .words .now in (omega arith, lines-none (λ i. slot i (at words i)) _ _)
+loop-holds c = let words = c .before .before .args .words .now in (omega arith, lines-none (λ i. slot i (at words i) ∷ []) _ _)
 
 mul-put-slot : tie.Need-mul-put-slot Inv-loop μ-loop
 mul-put-slot c = omega arith
@@ -40,7 +40,7 @@ loop-again : tie.Need-loop-again Inv-loop μ-loop
 loop-again c =
     let z = c .before .before .before .before .before .before in
     let words = z .before .before .before .args .words .now in
-    (omega arith, lines-next (λ i. slot i (at words i)) (z .loop .s) (z .loop .inv .1) (c .before .before .put-slot .ensures))
+    (omega arith, lines-next (λ i. slot i (at words i) ∷ []) (z .loop .s) (z .loop .inv .1) _ refl (c .before .before .put-slot .ensures))
 
 same-length : tie.Need-same-length Inv-loop μ-loop
 same-length c = c .before .loop .inv .1 .0 .same

@@ -20,7 +20,7 @@ stretch-requires c κs = omega arith
 returns : tie.Need-returns
 returns c =
     let p = c .before .before .pre in
-    stretch-shows (p .1) (p .2) (rw (c .before .steps .ensures .0) at (c .stretch .ensures))
+    stretch-shows 1 (p .1) (p .2) (rw (c .before .steps .ensures .0) at (c .stretch .ensures))
 
 pub through-spec : {M : Type 1} → statement M
 through-spec = tie.close (tie.spec add-stretch steps-requires add-stretch-2 stretch-requires returns)

@@ -1,0 +1,4 @@
+pub mod Left
+pub mod Meet
+pub mod Asked
+pub mod Only
