@@ -15,7 +15,7 @@ ghost use mathlib.Core.Path.{_≡_};
 ghost use Prim.Native.Nat.{_+_, _*_, _≤_, _<_};
 ghost use lib.ListN.{length};
 ghost use Rattle.rules.specs.Bounds.{max-rows};
-ghost use Rattle.rules.specs.TableFile.{table-mark, headerSize, rowSize, mark, version, fileTable, fileLabelled};
+ghost use Rattle.rules.specs.TableFile.{table-mark, version-2, headerSize, rowSize, mark, version, fileTable, fileLabelled};
 ghost use Rattle.rules.specs.Refusals.{Answers, header-checks, row-checks, file-checks};
 ghost use Rattle.table.specs.Columns.{Whole, columnTable, Holds, HoldsLabels};
 ghost use Rattle.decoding.specs.Decoded.{refusal, Decodes};
@@ -32,6 +32,23 @@ fn is_marked(file: &[u8]) -> bool
         return false;
     }
     file[2] == Table::MARK[2]
+}
+
+// Whether a file has a header with the mark and version 2.
+pub fn is_labelled(file: &[u8]) -> bool
+    ensures { λ r. ⌜ Decides ((headerSize ≤ length (now (file .entry))) × (mark (now (file .entry)) ≡ table-mark)
+        × (version (now (file .entry)) ≡ version-2)) r ⌝ }
+{
+    if file.len() < Table::HEADER {
+        return false;
+    }
+    if !is_marked(file) {
+        return false;
+    }
+    if version_of(file) == Table::VERSION_2 {
+        return true;
+    }
+    false
 }
 
 // Checks 1 to 6.
