@@ -12,7 +12,7 @@ use Rattle.rules.specs.Planner.{due, next, reached}
 use Rattle.lags.proofs.Intervals.{start-in, start-strict, start-last, end-next}
 use Rattle.lags.proofs.States.{next-due, next-finished}
 use Rattle.table.specs.Sound.{Sound}
-use Rattle.outline.specs.Time.{Timed}
+use Rattle.time.specs.Time.{Timed}
 use Rattle.verdict.specs.declared.Analysis.{Analysis}
 use Rattle.verdict.specs.Analysed.{Accepted}
 use Rattle.steady.proofs.Steady.{Shown}

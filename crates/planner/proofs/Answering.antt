@@ -19,7 +19,7 @@ use Rattle.rules.specs.Refusals.{Answers, plan-checks, step-checks, standings-c
 use Rattle.rules.specs.Calls.{Ask}
 use Rattle.table.specs.declared.Answer.{Answer}
 use Rattle.outline.proofs.Outlined.{answers-at}
-use Rattle.outline.specs.Time.{Begins}
+use Rattle.time.specs.Time.{Begins}
 use Rattle.verdict.specs.declared.Analysis.{Analysis}
 use Rattle.verdict.specs.Analysed.{Accepted}
 use Rattle.interval.proofs.Moved.{step-of-moved}

@@ -20,7 +20,7 @@ use Rattle.rules.specs.Planner.{Stage, due, finished, Run, none, more}
 use Rattle.lags.specs.Lags.{Admissible, Steady}
 use Rattle.lags.proofs.Intervals.{shortest-positive, end-next, end-far, end-le, start-mono, start-below, start-same, intervals-positive}
 use Rattle.table.specs.Sound.{Sound}
-use Rattle.outline.specs.Time.{Begins}
+use Rattle.time.specs.Time.{Begins}
 use Rattle.verdict.specs.declared.Analysis.{Analysis}
 use Rattle.interval.specs.Interval.{Moved}
 use Rattle.interval.specs.Ready.{Due, Advanced}

@@ -14,7 +14,7 @@ use Rattle.rules.specs.Planner.{due, Off}
 use Rattle.lags.proofs.Intervals.{start-first, start-last, end-next, end-far}
 use Rattle.lags.proofs.Lags.{steady-eq, steady-fresh}
 use Rattle.lags.proofs.States.{not-off}
-use Rattle.outline.specs.Time.{Begins}
+use Rattle.time.specs.Time.{Begins}
 use Rattle.verdict.specs.declared.Analysis.{Analysis}
 use Rattle.verdict.specs.Analysed.{Accepted}
 use Rattle.slots.specs.Chained.{all-heads}

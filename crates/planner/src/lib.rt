@@ -7,9 +7,9 @@
 // its spare totals, and then its totals row by row, before any product is taken. Arrays are lent where they can be: the supervisor's
 // stack is small.
 use loads::Size;
-use outline::Time;
 use table::Answer;
 use table::Table;
+use time::Time;
 use verdict::Analysis;
 ghost use mathlib.Core.Path.{_≡_};
 ghost use Prim.Native.Nat.{ℕ};
@@ -18,7 +18,7 @@ ghost use Rattle.rules.specs.Bus as bus;
 ghost use Rattle.rules.specs.Planner.{Off};
 ghost use Rattle.rules.specs.Calls.{fileAsk};
 ghost use Rattle.numbers.specs.Decides.{Decides};
-ghost use Rattle.outline.specs.Time.{Timed};
+ghost use Rattle.time.specs.Time.{Timed};
 ghost use Rattle.verdict.specs.Analysed.{Accepted};
 ghost use Rattle.planner.specs.State.{plannerOf, freshPlanner, slotOf, lateAt, stageAfter, unmovedOf, noStandings};
 ghost use Rattle.planner.specs.Plannable.{Plannable};

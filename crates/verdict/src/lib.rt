@@ -1,8 +1,8 @@
 // The verdict: whether the bus can carry a table (document 01, "Loads and bound"), and what is found of a table that is planned.
 use outline::Outline;
-use outline::Time;
 use table::Answer;
 use table::Table;
+use time::Time;
 ghost use mathlib.Core.Path.{_≡_};
 ghost use mathlib.Core.List.{List};
 ghost use Prim.Native.Nat.{ℕ, _+_};
