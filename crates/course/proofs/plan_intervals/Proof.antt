@@ -1,4 +1,4 @@
--- `planner::plan_intervals` meets its contract: `Planning` says what its loop keeps.
+-- `course::plan_intervals` meets its contract: `Planning` says what its loop keeps.
 use mathlib.Core.Path.{_≡_}
 use Prim.Native.Nat.{ℕ, _+_, _-_, _≤_, _<_}
 use native.Mathlib.Omega.{arith}
@@ -7,13 +7,13 @@ use Rattle.rules.specs.Bounds.{max-slots}
 use Rattle.rules.specs.Bus.{Table}
 use Rattle.rules.specs.Loads.{end}
 use Rattle.interval.specs.Ready.{Due}
-use Rattle.planner.specs.Plannable.{Plannable}
-use Rattle.planner.proofs.Accepted.{timed, few-rows, few-elements}
-use Rattle.planner.proofs.Laying.{low-sets, firsts-low, ready-of}
-use Rattle.planner.proofs.Course.{Planning, planning-start, planning-begins, planning-due, planning-low, planning-room}
-use Rattle.planner.proofs.Course.{planning-next, planning-end}
-use Rattle.planner.proofs.plan_intervals.Statement.{statement}
-use Rattle.planner.proofs.plan_intervals.Tie as tie
+use Rattle.course.specs.Plannable.{Plannable}
+use Rattle.course.proofs.Accepted.{timed, few-rows, few-elements}
+use Rattle.course.proofs.Laying.{low-sets, firsts-low, ready-of}
+use Rattle.course.proofs.Course.{Planning, planning-start, planning-begins, planning-due, planning-low, planning-room}
+use Rattle.course.proofs.Course.{planning-next, planning-end}
+use Rattle.course.proofs.plan_intervals.Statement.{statement}
+use Rattle.course.proofs.plan_intervals.Tie as tie
 
 abbrev Inv-loop : tie.InvT-loop
 Inv-loop from until plan₀ table rows sets top time places size after₀ slot₀ at₀ plan after slot at =

@@ -25,8 +25,8 @@ use Rattle.verdict.specs.declared.Analysis.{Analysis}
 use Rattle.interval.specs.Interval.{Moved}
 use Rattle.interval.specs.Ready.{Due, Advanced}
 use Rattle.interval.proofs.Moved.{step-of-moved, moved-steady}
-use Rattle.planner.specs.Course.{Course, Coursed}
-use Rattle.planner.specs.Plannable.{Plannable}
+use Rattle.course.specs.Course.{Course, Coursed}
+use Rattle.course.specs.Plannable.{Plannable}
 
 -- ---- the loop over the intervals
 
