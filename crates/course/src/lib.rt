@@ -31,6 +31,8 @@ pub fn plan_intervals(
         sets,
         hyper: time.hyper,
     };
+    let mut load = [0u64; Table::ROWS];
+    let mut part = [0u32; Table::ROWS];
     let mut after = totals;
     let mut slot = from;
     let mut at: usize = 0;
@@ -50,6 +52,8 @@ pub fn plan_intervals(
             &places.into,
             &places.heads,
             &places.next,
+            &mut load,
+            &mut part,
             &mut after,
             &mut plan[at..],
         );

@@ -1,9 +1,9 @@
 -- `course::plan_intervals` meets its contract: `Planning` says what its loop keeps.
-use mathlib.Core.Path.{_≡_}
+use mathlib.Core.Path.{_≡_, refl}
 use Prim.Native.Nat.{ℕ, _+_, _-_, _≤_, _<_}
 use native.Mathlib.Omega.{arith}
 use lib.ListN.{length, length-take, length-drop}
-use Rattle.rules.specs.Bounds.{max-slots}
+use Rattle.rules.specs.Bounds.{max-rows, max-slots}
 use Rattle.rules.specs.Bus.{Table}
 use Rattle.rules.specs.Loads.{end}
 use Rattle.interval.specs.Ready.{Due}
@@ -16,11 +16,12 @@ use Rattle.course.proofs.plan_intervals.Statement.{statement}
 use Rattle.course.proofs.plan_intervals.Tie as tie
 
 abbrev Inv-loop : tie.InvT-loop
-Inv-loop from until plan₀ table rows sets top time places size after₀ slot₀ at₀ plan after slot at =
-    ((t : Table) (k m : ℕ) → Plannable t table k m from until after₀ (length plan₀) → Planning t k m after₀ plan₀ slot at after plan)
+Inv-loop from until plan₀ table rows sets top time places size load₀ part₀ after₀ slot₀ at₀ plan load part after slot at =
+    (length load ≡ max-rows) × (length part ≡ max-rows)
+    × ((t : Table) (k m : ℕ) → Plannable t table k m from until after₀ (length plan₀) → Planning t k m after₀ plan₀ slot at after plan)
 
 abbrev μ-loop : tie.MeasureT-loop
-μ-loop from until plan₀ table rows sets top time places size after₀ slot₀ at₀ plan after slot at = until - slot
+μ-loop from until plan₀ table rows sets top time places size load₀ part₀ after₀ slot₀ at₀ plan load part after slot at = until - slot
 
 -- ---- what the intervals share
 
@@ -39,7 +40,7 @@ lay-requires c κs =
 -- ---- where the loop begins
 
 loop-holds : tie.Need-loop-holds Inv-loop μ-loop
-loop-holds c = λ t k m P. planning-start (entry c .args .plan .now) P
+loop-holds c = (refl, refl, λ t k m P. planning-start (entry c .args .plan .now) P)
 
 -- ---- a turn: an interval of the table begins, and there is room for it
 
@@ -57,13 +58,13 @@ given c = begun c .pre .3
 next-end-requires : tie.Need-next-end-requires Inv-loop μ-loop
 next-end-requires c κs =
     let P = given c in
-    let L = c .before .loop .inv _ _ _ P in
+    let L = c .before .loop .inv .2 _ _ _ P in
     (begun c .pre .0, L .number, timed (P .accepted), planning-begins (begun c .args .plan .now) P L (c .loop-test .taken))
 
 module _ (c : tie.After-next-end Inv-loop μ-loop) {t : Table} {k m : ℕ} (P : Given (begun (c .before)) t k m) where
   abbrev done : Planning t k m (begun (c .before) .args .totals) (begun (c .before) .args .plan .now) (c .before .before .loop .slot)
       (c .before .before .loop .at) (c .before .before .loop .after) (c .before .before .loop .plan)
-  done = c .before .before .loop .inv t k m P
+  done = c .before .before .loop .inv .2 t k m P
 
   ends : c .next-end .result ≡ end t (done .number)
   ends =
@@ -86,7 +87,7 @@ module _ (c : tie.After-next-end Inv-loop μ-loop) {t : Table} {k m : ℕ} (P : 
 
 -- the turn, from where all is lent to the interval
 abbrev lending : tie.After-after Inv-loop μ-loop → tie.After-next-end Inv-loop μ-loop
-lending c = c .before .before .before .before .before .before .before .before .before .before .before .before
+lending c = c .before .before .before .before .before .before .before .before .before .before .before .before .before .before
 
 mul-advance : tie.Need-mul-advance Inv-loop μ-loop
 mul-advance c = let I = lending c in omega (arith, place-low I (given (I .before)))
@@ -111,6 +112,8 @@ advance-requires c κs =
         ready-of (P .accepted) (N .lay .ensures),
         due I P,
       ),
+      I .before .before .loop .inv .0,
+      I .before .before .loop .inv .1,
       done I P .size,
       simp (length-take, length-drop) (omega (arith, roomy I P)),
     )
@@ -133,20 +136,23 @@ loop-again c =
     let I = turn c in
     let N = I .before .before .before in
     let D = c .before .before .advance in
-    let last = D .last .1 .1 .1 .1 .1 .1 .1 .1 .1 .1 .1 .1 .1 in
-    λ t k m P.
-    planning-next (begun (I .before) .args .plan .now) P (done I P) (I .before .loop-test .taken) _ (ends I P) (last .0)
-    (last .1 .0) (D .ensures t (done I P .number) (ready-of (P .accepted) (N .lay .ensures)) (due I P))
+    let last = D .last .1 .1 .1 .1 .1 .1 .1 .1 .1 .1 .1 .1 .1 .1 .1 in (
+      D .ensures .0,
+      D .ensures .1,
+      λ t k m P.
+          planning-next (begun (I .before) .args .plan .now) P (done I P) (I .before .loop-test .taken) _ (ends I P) (last .0)
+          (last .1 .0) (D .ensures .2 t (done I P .number) (ready-of (P .accepted) (N .lay .ensures)) (due I P)),
+    )
 
 -- ---- the end
 
 same-length : tie.Need-same-length Inv-loop μ-loop
-same-length c = let S = entry (c .before .before) in c .before .loop .inv _ _ _ (S .pre .3) .filled .same
+same-length c = let S = entry (c .before .before) in c .before .loop .inv .2 _ _ _ (S .pre .3) .filled .same
 
 returns : tie.Need-returns Inv-loop μ-loop
 returns c t k m P =
     let S = entry (c .before .before) in
-    planning-end (S .args .plan .now) P (c .before .loop .inv t k m P) (c .loop-test .left)
+    planning-end (S .args .plan .now) P (c .before .loop .inv .2 t k m P) (c .loop-test .left)
 
 pub plan-intervals-spec : {M : Type 1} → statement M
 plan-intervals-spec =
