@@ -31,16 +31,14 @@ use Rattle.rules.proofs.Answers.{
 use Rattle.rules.proofs.Sets.{sets-only}
 use Rattle.table.specs.Sound.{Passed}
 use Rattle.ring.proofs.Cut.{cut-high, cut-none}
-use Rattle.sets.specs.Sets.{OnLine, Listed}
-use Rattle.sets.proofs.Listed.{listed-only}
+use Rattle.sets.specs.Sets.{OnLine, SetWords}
+use Rattle.sets.proofs.SetWords.{set-words-only}
 use Rattle.table.specs.declared.Answer.{Answer}
 use Rattle.table.proofs.ByRow.{by-row-only}
-use Rattle.outline.specs.declared.time.Time.{Time}
 use Rattle.outline.specs.declared.Outline.{Outline}
-use Rattle.outline.specs.Time.{Timed}
+use Rattle.time.proofs.Periods.{time-only}
 use Rattle.outline.specs.Outlined.{Found, blank, outline-checks, Outlined}
 use Rattle.pasted.proofs.AsGiven.{given-numbered, given-passed}
-use Rattle.outline.proofs.Periods.{leading-only}
 use Rattle.outline.proofs.Sets.{Ends, own-ends, ends-on-line, line-list}
 
 -- ---- one shape for number and place
@@ -147,8 +145,8 @@ module _ {t : Table} {o : Outline} (F : Found t o) where
     pub found-on-line : OnLine (t .rows) first second (t .elements + 1)
     found-on-line = ends-on-line t (F .timed .sound) (F .clear) first second ends
 
-    pub found-listed : Listed (t .rows) first second (o .sets) (o .words)
-    found-listed = record {
+    pub found-words : SetWords (t .rows) first second (o .sets) (o .words)
+    found-words = record {
       size = F .size;
       few = F .few;
       sets = line-list t (F .timed .sound) (F .clear) first second ends (take (o .sets) (o .words)) (F .list);
@@ -157,22 +155,12 @@ module _ {t : Table} {o : Outline} (F : Found t o) where
 
 -- ---- only one outline fits
 
-pub time-only : {t : Table} {c d : Time} → Timed t c → Timed t d → c ≡ d
-time-only C D =
-    let e = leading-only (C .leads) (D .leads) in
-    λ k. record {
-      hyper = (C .hyper ∙ sym (D .hyper)) k;
-      interval = (C .interval ∙ sym (D .interval)) k;
-      count = e .0 k;
-      period = e .1 k;
-    }
-
 pub found-only : {t : Table} {o u : Outline} → o .answer ≡ u .answer → Found t o → Found t u → o ≡ u
 found-only {t} {o} {u} e F G =
     let ends = own-ends t in
     let w =
-    listed-only (found-on-line F (lineFirst t) (lineSecond t) ends)
-    (found-listed F (lineFirst t) (lineSecond t) ends) (found-listed G (lineFirst t) (lineSecond t) ends) in
+    set-words-only (found-on-line F (lineFirst t) (lineSecond t) ends)
+    (found-words F (lineFirst t) (lineSecond t) ends) (found-words G (lineFirst t) (lineSecond t) ends) in
     λ k. record {
       answer = e k;
       elements = (F .elements ∙ sym (G .elements)) k;
