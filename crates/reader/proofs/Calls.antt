@@ -73,10 +73,16 @@ module _ (f : List ℕ) where
   unfolding reader-checks version-1-checks file-checks header-checks Answers
   version-1-answers room n p h a =
       ⊎-elim inl
-      (λ s. inr (s .0, ⊎-elim inl
-      (λ m. inr (m .0, ⊎-elim (λ w. inl (w .0 .0, w .1, w .2))
-      (λ v. inr ((λ other. ⊎-elim other (two (s .0) (m .0)) (known (version f) (v .0))), a)) (m .1)))
-      (s .1)))
+      (λ s. inr (
+        s .0,
+        ⊎-elim inl
+            (λ m. inr (
+              m .0,
+              ⊎-elim (λ w. inl (w .0 .0, w .1, w .2))
+                  (λ v. inr ((λ other. ⊎-elim other (two (s .0) (m .0)) (known (version f) (v .0))), a)) (m .1),
+            ))
+            (s .1),
+      ))
       a
     where
       two : (length f < headerSize → ⊥) → (mark f ≢ table-mark → ⊥) → version f ≡ version-2 → ⊥

@@ -235,8 +235,13 @@ unfolding each
 header-whole f l m b =
     sym
     (places headerSize 0 f l
-    ∙ rw (mark-at f 0 (omega arith) m, mark-at f 1 (omega arith) m, mark-at f 2 (omega arith) m,
-    low-of (at f 3) (at f 4) (b 3), high-of (at f 3) (at f 4) (b 3)))
+    ∙ rw (
+      mark-at f 0 (omega arith) m,
+      mark-at f 1 (omega arith) m,
+      mark-at f 2 (omega arith) m,
+      low-of (at f 3) (at f 4) (b 3),
+      high-of (at f 3) (at f 4) (b 3),
+    ))
 
 pub bytes-whole : (f : List ℕ) → Bytes f → None (file-checks f) → bytes (version f) (fileLabelled f) ≡ f
 unfolding file-checks bytes

@@ -43,7 +43,8 @@ impl Table {
     pub const ROW_NUMBERS: usize = 5;
 
     // bytes of the longest file
-    pub const FILE_BYTES: usize = Table::HEADER + (Table::ROW_BYTES + Table::LABEL_BYTES) * Table::ROWS;
+    pub const FILE_BYTES: usize = Table::HEADER
+        + (Table::ROW_BYTES + Table::LABEL_BYTES) * Table::ROWS;
     // the header: the mark, and where the version, the elements and the rows stand
     pub const MARK: [u8; 3] = [b'R', b'B', b'T'];
 

@@ -21,8 +21,11 @@ version-of-requires c κs = search needs
 returns-3 : tie.Need-returns-3
 returns-3 c =
     let z = c .before .before in
-    decides-yes (z .before .before .if1 .left, granted (z .before .is-marked .ensures) (z .if2 .left),
-    sym (c .before .version-of .ensures) ∙ c .if3 .taken)
+    decides-yes (
+      z .before .before .if1 .left,
+      granted (z .before .is-marked .ensures) (z .if2 .left),
+      sym (c .before .version-of .ensures) ∙ c .if3 .taken,
+    )
 
 returns-4 : tie.Need-returns-4
 returns-4 c = decides-no (λ w. c .if3 .left (c .before .version-of .ensures ∙ w .2))

@@ -86,8 +86,8 @@ returns-3 c =
     let was = z .before .before .before .before .before .before .args .out .now in
     let found = z .before .before .before .decode in
     let t : columnLabelled (found .result .columns .elements) (found .result .columns .rows) (found .result .columns .cost)
-        (found .result .columns .period) (found .result .columns .first) (found .result .columns .second) (found .result .labels)
-        ≡ fileLabelled f =
+    (found .result .columns .period) (found .result .columns .first) (found .result .columns .second) (found .result .labels)
+    ≡ fileLabelled f =
     λ k. record { table = held z .table k; label = found .ensures .labelled (z .if1 .left) .labels k } in
     read-done f was _ _ _ _ _ _ (found .ensures .answers) (z .if1 .left)
     (λ l. let q : ⊥ = omega (arith, y .if2 .left, rows z) in q) (c .version-of .ensures)

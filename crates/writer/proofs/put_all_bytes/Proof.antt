@@ -27,9 +27,11 @@ loop-holds c =
     let a = c .before .before .args in
     let e : headerSize ≡ headerSize + rowSize (a .version) * 0 = omega arith in
     let front = take headerSize (a .out .now) in
-    let rows = fileRow (labelSize (a .version)) (memoryLabelled 0 (a .rows) (a .numbers .now)) in
-    (omega arith, subst (λ (n : ℕ). Filled (a .out .now) (a .out .now) n (front ++ each 0 rows)) e
-    (filled-rows front rows (filled-front (a .out .now) headerSize (omega (arith, c .before .before .pre .2)))))
+    let rows = fileRow (labelSize (a .version)) (memoryLabelled 0 (a .rows) (a .numbers .now)) in (
+      omega arith,
+      subst (λ (n : ℕ). Filled (a .out .now) (a .out .now) n (front ++ each 0 rows)) e
+          (filled-rows front rows (filled-front (a .out .now) headerSize (omega (arith, c .before .before .pre .2)))),
+    )
 
 row-of-requires : tie.Need-row-of-requires Inv-loop μ-loop
 row-of-requires c κs = omega (arith, c .before .before .before .before .pre .1)
@@ -65,9 +67,11 @@ loop-again c =
     let q = file-row k (r .ensures 0 (a .rows)) in
     let more = mul-le-mul-left (rowSize (a .version)) (c .before .before .before .before .before .before .loop-test .taken) in
     let room : headerSize + rowSize (a .version) * (u .i + 1) ≤ length (a .out .now) = omega (arith, z .pre .2, more) in
-    let e = rw (c .before .before .before .before .row-place .ensures) at (c .before .before .put-row .ensures) in
-    (omega arith, filled-row {i = u .i} (take headerSize (a .out .now)) rows _ _ (u .inv .1) e q
-    (omega (arith, row-length k (r .result))) room)
+    let e = rw (c .before .before .before .before .row-place .ensures) at (c .before .before .put-row .ensures) in (
+      omega arith,
+      filled-row {i = u .i} (take headerSize (a .out .now)) rows _ _ (u .inv .1) e q
+          (omega (arith, row-length k (r .result))) room,
+    )
 
 same-length : tie.Need-same-length Inv-loop μ-loop
 same-length c = c .before .loop .inv .1 .same
