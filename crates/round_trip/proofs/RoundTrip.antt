@@ -16,13 +16,12 @@ use lib.Seq.{getD-append-add}
 use Rattle.numbers.specs.Lists.{at, each}
 use Rattle.numbers.specs.Codec.{readLow, writeLow}
 use Rattle.numbers.proofs.Lists.{each-eq, each-length, each-join}
-use Rattle.numbers.proofs.Codec.{places, row-place, rows-whole, low-high, low-of, high-of, low-length, low-eq, low-back, low-again}
+use Rattle.numbers.proofs.Codec.{places, row-place, rows-whole, low-high, low-of, high-of, low-eq, low-back, low-again}
 use Rattle.numbers.proofs.Truth.{equals}
-use Rattle.rules.specs.Bus.{Table, Labelled}
+use Rattle.rules.specs.Bus.{Labelled}
 use Rattle.rules.specs.TableFile.{
   table-mark,
   version-1,
-  version-2,
   headerSize,
   labelSize,
   rowWith,
@@ -34,7 +33,6 @@ use Rattle.rules.specs.TableFile.{
   labelledWith,
   fileTable,
   fileLabelled,
-  memoryTable,
   memoryLabelled,
   memoryRow,
   numbers,
@@ -49,7 +47,7 @@ use Rattle.rules.proofs.Answers.{None, Numbered, none-join, none-left, numbered
 use Rattle.table.specs.Sound.{Sound}
 use Rattle.table.proofs.Faults.{Known, known-right, mark-at, header-split, passed-none, none-passed, file-numbered}
 use Rattle.table.proofs.Faults.{memory-sound, memory-none, version-numbered, version-none, version-known}
-use Rattle.table.proofs.RowSizes.{label-none}
+use Rattle.table.proofs.RowSizes.{label-none, row-length}
 use Rattle.rules.proofs.Calls.{lent-take, call-none, call-must}
 
 pub record Alike (s t : Labelled) : Type 0 where
@@ -120,9 +118,6 @@ sound-alike {s} {t} q h = record {
 -- the bytes of a row before its label
 abbrev front : Labelled → ℕ → List ℕ
 front t i = write16 (t .table .cost i) ++ write16 (t .table .period i) ++ (t .table .first i ∷ t .table .second i ∷ [])
-
-pub row-length : (k : ℕ) (t : Labelled) (i : ℕ) → length (fileRow k t i) ≡ rowWith k
-row-length k t i = length-append (front t i) (writeLow k (t .label i)) ∙ ap (λ (n : ℕ). 6 + n) (low-length k (t .label i))
 
 module _ (t : Labelled) (i : ℕ) (l : i < t .table .rows) where
   file-at : (k : ℕ) (h : List ℕ) → length h ≡ headerSize

@@ -8,7 +8,6 @@ use native.Mathlib.Omega.{arith}
 use lib.ListN.{length, take, drop, set, length-append}
 use lib.Seq.{sets, drop-drop}
 use Rattle.numbers.specs.Codec.{writeLow}
-use Rattle.numbers.proofs.Codec.{low-length}
 use Rattle.numbers.proofs.Lists.{Filled, filled-start, filled-take, filled-drop, filled-sets}
 use Rattle.rules.specs.Bus.{Labelled}
 use Rattle.rules.specs.TableFile.{headerSize, rowWith, rowSize, write16, memoryLabelled, fileRow, bytes}
@@ -52,11 +51,6 @@ pub row-join : (k : ℕ) (r : Row) (l : List ℕ) (i : ℕ)
 unfolding writeLow
 row-join k r l i =
     sets-join l i (write16 (r .cost) ++ write16 (r .period) ++ (r .first ∷ r .second ∷ [])) (writeLow k (r .label))
-
-pub row-length : (k : ℕ) (r : Row) → length (inFile k r) ≡ rowWith k
-row-length k r =
-    length-append (write16 (r .cost) ++ write16 (r .period) ++ (r .first ∷ r .second ∷ [])) (writeLow k (r .label))
-    ∙ ap (λ (n : ℕ). 6 + n) (low-length k (r .label))
 
 -- ---- the answer
 

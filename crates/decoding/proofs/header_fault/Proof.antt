@@ -1,5 +1,5 @@
 -- `decoding::header_fault` meets its contract.
-use mathlib.Core.Path.{refl, sym, _∙_}
+use mathlib.Core.Path.{refl}
 use native.Mathlib.Omega.{arith}
 use Rattle.rules.specs.Refusals.{header-checks}
 use Rattle.rules.proofs.Answers.{applied, passed}

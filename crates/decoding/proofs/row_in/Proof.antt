@@ -1,7 +1,5 @@
 -- `decoding::row_in` meets its contract.
 use native.Mathlib.Omega.{arith}
-use mathlib.Core.Path.{_≡_, _∙_}
-use Rattle.rules.specs.TableFile.{headerSize, rowSize}
 use Rattle.table.proofs.RowSizes.{row-inside}
 use Rattle.decoding.proofs.row_in.Statement.{statement}
 use Rattle.decoding.proofs.row_in.Tie as tie

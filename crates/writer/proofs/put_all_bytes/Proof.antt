@@ -1,5 +1,5 @@
 -- `writer::put_all_bytes` meets its contract. The loop's invariant: the rows before row `i` are written.
-use mathlib.Core.Path.{_≡_, sym, ap, _∙_, subst}
+use mathlib.Core.Path.{_≡_, subst}
 use mathlib.Core.List.{_++_}
 use Prim.Native.Nat.{ℕ, _+_, _*_, _-_, _≤_}
 use native.Mathlib.Nat.{mul-le-mul-left}
@@ -10,7 +10,9 @@ use Rattle.numbers.proofs.Lists.{Filled, filled-front}
 use Rattle.rules.specs.TableFile.{headerSize, labelSize, rowSize, memoryLabelled, fileRow, rowBytes}
 use Rattle.rules.proofs.Calls.{filled-lent}
 use Rattle.numbers.proofs.Codec.{filled-rows, filled-row}
-use Rattle.writer.proofs.Calls.{file-row, row-length}
+use Rattle.writer.proofs.Calls.{file-row}
+use Rattle.table.specs.Rows.{alone}
+use Rattle.table.proofs.RowSizes.{row-length}
 use Rattle.writer.proofs.put_all_bytes.Statement.{statement}
 use Rattle.writer.proofs.put_all_bytes.Tie as tie
 
@@ -70,7 +72,7 @@ loop-again c =
     let e = rw (c .before .before .before .before .row-place .ensures) at (c .before .before .put-row .ensures) in (
       omega arith,
       filled-row {i = u .i} (take headerSize (a .out .now)) rows _ _ (u .inv .1) e q
-          (omega (arith, row-length k (r .result))) room,
+          (omega (arith, row-length k (alone (r .result)) 0)) room,
     )
 
 same-length : tie.Need-same-length Inv-loop μ-loop
