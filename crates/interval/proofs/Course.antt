@@ -17,8 +17,8 @@ use Rattle.loads.specs.Loads.{last, digit, none, share-most, Spans, Parts, Qual
 use Rattle.loads.specs.State.{Laid}
 use Rattle.loads.specs.declared.Size.{Size}
 use Rattle.loads.proofs.Choice.{greatest-shift}
-use Rattle.slots.specs.Chained.{ChainedRows}
-use Rattle.slots.specs.Filled.{FilledSlots}
+use Rattle.chains.specs.Chained.{ChainedRows}
+use Rattle.placing.specs.Filled.{FilledSlots}
 use Rattle.places.specs.declared.Places.{Places}
 use Rattle.interval.specs.Interval.{Given}
 use Rattle.interval.specs.Ready.{Ready, Due, Advanced}

@@ -21,7 +21,7 @@ use Rattle.rules.specs.Loads as loads
 use Rattle.table.specs.Columns.{ByRow}
 use Rattle.lags.specs.Lags.{Admissible, Steady}
 use Rattle.loads.specs.declared.Size.{Size}
-use Rattle.slots.specs.Filled.{Kept}
+use Rattle.placing.specs.Filled.{Kept}
 use Rattle.places.specs.PlacesOf.{PlacesOf}
 use Rattle.places.specs.declared.Places.{Places}
 use Rattle.interval.specs.Interval.{Moved}

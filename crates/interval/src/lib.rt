@@ -1,8 +1,8 @@
 // One planning interval of an admitted table: from totals that keep step at its first slot to its loads, its words and the totals after it
 // (document 01, "Loads of one interval, and its slots").
+use chains::Chains;
 use flow::PLACES;
 use loads::Size;
-use slots::Chains;
 use table::Table;
 ghost use mathlib.Core.Path.{_≡_};
 ghost use Prim.Native.Nat.{ℕ, _-_, _*_, _/_, _%_, _≤_, _<_};

@@ -17,7 +17,7 @@ use Rattle.lags.proofs.States.{not-off}
 use Rattle.outline.specs.Time.{Begins}
 use Rattle.verdict.specs.declared.Analysis.{Analysis}
 use Rattle.verdict.specs.Analysed.{Accepted}
-use Rattle.slots.specs.Chained.{all-heads}
+use Rattle.chains.specs.Chained.{all-heads}
 use Rattle.places.specs.declared.Places.{Places}
 use Rattle.places.specs.PlacesOf.{PlacesOf}
 use Rattle.interval.specs.Ready.{Ready}
