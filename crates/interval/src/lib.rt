@@ -19,7 +19,7 @@ ghost use Rattle.interval.specs.Ready.{Ready, Due, Advanced};
 
 // Each row's share of so many slots: its whole slots, and the part above them.
 fn part_shares(
-    rate: &[u64; Table::ROWS],
+    rate: &[u16; Table::ROWS],
     slots: u64,
     size: Size,
     whole: &mut [u64; Table::ROWS],
@@ -34,7 +34,7 @@ fn part_shares(
     let h = size.hyper;
     let mut i: usize = 0;
     while i < size.rows {
-        let share = rate[i] * slots;
+        let share = table::slots_at(rate, i) * slots;
         whole[i] = share / h;
         part[i] = (share % h) as u32;
         i += 1;
@@ -63,14 +63,14 @@ fn give(top: u64, rows: usize, load: &mut [u64; Table::ROWS], totals: &mut [u64;
 // ---- the interval
 
 // Does one interval of a table, which runs from slot `start` up to slot `end`: writes its words to the front of `plan`, and takes the
-// totals on. From `tail` to `next` all is laid once for the table.
+// totals on. From `tail` to `next` all is laid once for the table; `load` and `part` are room to work in, whatever it holds.
 pub fn advance<'a>(
     start: usize,
     end: usize,
     size: Size,
     top: usize,
     second: &'a [u8; Table::ROWS],
-    rate: &'a [u64; Table::ROWS],
+    rate: &'a [u16; Table::ROWS],
     words: &'a [u64; Table::ROWS],
     tail: &'a [u8; Table::ROWS],
     head: &'a [u8; Table::ROWS],
@@ -78,6 +78,8 @@ pub fn advance<'a>(
     into: &'a [u64; PLACES],
     heads: &'a [u8; Chains::HEADS],
     next: &'a [u8; Table::ROWS],
+    load: &mut [u64; Table::ROWS],
+    part: &mut [u32; Table::ROWS],
     totals: &mut [u64; Table::ROWS],
     plan: &mut [u64],
 )
@@ -85,17 +87,17 @@ pub fn advance<'a>(
         × Ready t size top (now second) (now rate) (now words)
         (places (now tail) (now head) (now out) (now into) (now heads) (now next))
         × Due t k start end (now totals))
+        × (length (now load) ≡ max-rows) × (length (now part) ≡ max-rows)
         × (length (now totals) ≡ max-rows) × (end - start ≤ length (now plan)) ⌝ }
-    ensures { λ r. ⌜ ((t : bus.Table) (k : ℕ)
+    ensures { λ r. ⌜ (length (now (load .exit)) ≡ max-rows) × (length (now (part .exit)) ≡ max-rows)
+        × ((t : bus.Table) (k : ℕ)
         → Ready t size top (now (second .entry)) (now (rate .entry)) (now (words .entry))
         (places (now (tail .entry)) (now (head .entry)) (now (out .entry)) (now (into .entry)) (now (heads .entry)) (now (next .entry)))
         → Due t k start end (now (totals .entry))
         → Advanced t k (now (totals .entry)) (now (totals .exit)) (now (plan .entry)) (now (plan .exit))) ⌝ }
 {
-    let mut load = [0u64; Table::ROWS];
-    let mut part = [0u32; Table::ROWS];
-    part_shares(rate, end as u64, size, &mut load, &mut part);
-    let rounded = choice::choose(tail, head, out, into, words, size, &part);
-    give(rounded, size.rows, &mut load, totals);
-    slots::fill(second, heads, next, &load, top, end - start, plan);
+    part_shares(rate, end as u64, size, load, part);
+    let rounded = choice::choose(tail, head, out, into, words, size, part);
+    give(rounded, size.rows, load, totals);
+    slots::fill(second, heads, next, load, top, end - start, plan);
 }

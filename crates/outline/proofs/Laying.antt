@@ -19,7 +19,8 @@ use Rattle.outline.specs.declared.Outline.{Outline}
 use Rattle.outline.specs.Layout.{Lies, noLayout, LaidOut}
 use Rattle.outline.specs.Outlined.{blank, Outlined}
 use Rattle.outline.proofs.Sets.{Ends, ends-on-line, ring-list}
-use Rattle.outline.proofs.Outlined.{answer-only, line-none, outlined-refused, time-only}
+use Rattle.time.proofs.Periods.{time-only}
+use Rattle.outline.proofs.Outlined.{answer-only, line-none, outlined-refused}
 
 -- ---- the layout of each outcome
 

@@ -1,4 +1,3 @@
-pub mod Periods
 pub mod Sets
 pub mod Outlined
 pub mod Laying

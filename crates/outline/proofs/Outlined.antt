@@ -35,12 +35,10 @@ use Rattle.sets.specs.Sets.{OnLine, Listed}
 use Rattle.sets.proofs.Listed.{listed-only}
 use Rattle.table.specs.declared.Answer.{Answer}
 use Rattle.table.proofs.ByRow.{by-row-only}
-use Rattle.outline.specs.declared.time.Time.{Time}
 use Rattle.outline.specs.declared.Outline.{Outline}
-use Rattle.outline.specs.Time.{Timed}
+use Rattle.time.proofs.Periods.{time-only}
 use Rattle.outline.specs.Outlined.{Found, blank, outline-checks, Outlined}
 use Rattle.pasted.proofs.AsGiven.{given-numbered, given-passed}
-use Rattle.outline.proofs.Periods.{leading-only}
 use Rattle.outline.proofs.Sets.{Ends, own-ends, ends-on-line, line-list}
 
 -- ---- one shape for number and place
@@ -156,16 +154,6 @@ module _ {t : Table} {o : Outline} (F : Found t o) where
     }
 
 -- ---- only one outline fits
-
-pub time-only : {t : Table} {c d : Time} → Timed t c → Timed t d → c ≡ d
-time-only C D =
-    let e = leading-only (C .leads) (D .leads) in
-    λ k. record {
-      hyper = (C .hyper ∙ sym (D .hyper)) k;
-      interval = (C .interval ∙ sym (D .interval)) k;
-      count = e .0 k;
-      period = e .1 k;
-    }
 
 pub found-only : {t : Table} {o u : Outline} → o .answer ≡ u .answer → Found t o → Found t u → o ≡ u
 found-only {t} {o} {u} e F G =

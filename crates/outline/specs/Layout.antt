@@ -20,7 +20,7 @@ use Rattle.rules.specs.Refusals.{Answers, line-checks}
 use Rattle.table.specs.Columns.{ByRow}
 use Rattle.table.specs.declared.Answer.{Answer}
 use Rattle.outline.specs.declared.Layout.{Layout}
-use Rattle.outline.specs.Time.{Timed, noTime}
+use Rattle.time.specs.Time.{Timed, noTime}
 
 abbrev pub tableWith : (ℕ → ℕ) → ℕ → ℕ → (period first second : List ℕ) → Table
 tableWith cost elements rows period first second =

@@ -1,4 +1,3 @@
-pub mod Time
 pub mod Layout
 pub mod Outlined
 pub mod Ties

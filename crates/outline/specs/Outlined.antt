@@ -20,7 +20,7 @@ use Rattle.rules.specs.Refusals.{Check, Answers, given-checks, line-checks}
 use Rattle.table.specs.Columns.{ByRow}
 use Rattle.table.specs.declared.Answer.{Answer}
 use Rattle.outline.specs.declared.Outline.{Outline}
-use Rattle.outline.specs.Time.{Timed, noTime}
+use Rattle.time.specs.Time.{Timed, noTime}
 
 pub record Found (t : Table) (o : Outline) : Type 0 where
   pub timed : Timed t (o .time)

@@ -1,11 +1,8 @@
 // What a table is on the line: its cut, its rows' ends, its overlap sets, hyperperiod and interval, or a refusal of 1 to 11 and 18.
-mod time;
-
 use ring::Line;
 use table::Answer;
 use table::Table;
-pub use time::Time;
-use time::hyperperiod_of;
+use time::Time;
 ghost use mathlib.Core.Path.{_≡_};
 ghost use Prim.Native.Nat.{ℕ, _≤_};
 ghost use lib.ListN.{length};
@@ -57,7 +54,7 @@ pub fn layout_of<'a>(
     if cut > elements {
         return Layout::refused(Answer::at(Answer::NO_CUT, 0));
     }
-    let hyper = hyperperiod_of(rows, period);
+    let hyper = time::hyperperiod_of(rows, period);
     if hyper == 0 {
         return Layout::refused(Answer::at(Answer::LONG_HYPERPERIOD, 0));
     }

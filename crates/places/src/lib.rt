@@ -6,11 +6,12 @@ use table::Table;
 ghost use mathlib.Core.Path.{_≡_};
 ghost use Prim.Native.Nat.{ℕ, suc, _≤_, _<_};
 ghost use lib.Dec.{ltb};
-ghost use lib.ListN.{length};
+ghost use lib.ListN.{length, replicate};
 ghost use Rattle.numbers.specs.Lists.{at};
 ghost use Rattle.numbers.specs.Word.{bit};
 ghost use Rattle.rules.specs.Bounds.{max-elements, max-rows};
 ghost use Rattle.table.specs.Columns.{ByRow};
+ghost use Rattle.flow.specs.Network.{places-most};
 ghost use Rattle.flow.specs.Way.{ByPlace};
 ghost use Rattle.chains.specs.Chained.{all-heads};
 ghost use Rattle.places.specs.Ranges.{lowestSet, highestSet, Marked};
@@ -80,19 +81,18 @@ fn stops_of(rows: usize, sets: usize, words: &[u64; Table::ROWS]) -> [u8; Table:
 
 // ---- the rows of each place
 
-// The rows that have their end at each place.
-fn sort_rows(end: &[u8; Table::ROWS], rows: usize) -> [u64; PLACES]
-    requires { ⌜ (rows ≤ max-rows) × ((i : ℕ) → i < rows → at (now end) i ≤ max-elements) ⌝ }
-    ensures { λ r. ⌜ ByPlace rows max-elements (at (now (end .entry))) (at r) ⌝ }
+// Puts each row in the word of the place where it has its end; `words` are 0.
+fn sort_rows(end: &[u8; Table::ROWS], rows: usize, words: &mut [u64; PLACES])
+    requires { ⌜ (rows ≤ max-rows) × ((i : ℕ) → i < rows → at (now end) i ≤ max-elements)
+        × (now words ≡ replicate places-most 0) ⌝ }
+    ensures { λ _. ⌜ ByPlace rows max-elements (at (now (end .entry))) (at (now (words .exit))) ⌝ }
 {
-    let mut words = [0u64; PLACES];
     let mut i: usize = 0;
     while i < rows {
         let v = end[i] as usize;
         words[v] = words[v] | (1u64 << i);
         i += 1;
     }
-    words
 }
 
 // ---- all of it
@@ -119,8 +119,10 @@ pub fn lay<'a>(
 {
     let tail = starts_of(rows, sets, words);
     let head = stops_of(rows, sets, words);
-    let out = sort_rows(&tail, rows);
-    let into = sort_rows(&head, rows);
+    let mut out = [0u64; PLACES];
+    sort_rows(&tail, rows, &mut out);
+    let mut into = [0u64; PLACES];
+    sort_rows(&head, rows, &mut into);
     let chains = chains::chain(first, rows);
     let heads = chains.head;
     let next = chains.next;

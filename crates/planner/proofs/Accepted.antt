@@ -1,52 +1,31 @@
--- An admitted table as the code holds it: its numbers, and where a planner's stage stands in its time.
+-- An admitted table as the code holds it, and where a planner's stage stands in its time.
 use mathlib.Core.Path.{_≡_, refl, sym, _∙_}
 use mathlib.Core.Logic.{⊎-elim}
 use Prim.Native.Nat.{ℕ, _+_, _≤_, _<_}
 use native.Mathlib.Nat.{eq-or-lt-of-le, le-refl}
 use native.Mathlib.Omega.{arith}
 use borrow.Author.Tests.{eq-eqb, ne-eqb}
-use Rattle.rules.specs.Bounds.{max-elements, max-rows, max-slots}
 use Rattle.rules.specs.Bus.{Table}
 use Rattle.rules.specs.Loads.{hyperperiod, start, end, intervals}
 use Rattle.rules.specs.Planner.{due, next, reached}
 use Rattle.lags.proofs.Intervals.{start-in, start-strict, start-last, end-next}
 use Rattle.lags.proofs.States.{next-due, next-finished}
 use Rattle.table.specs.Sound.{Sound}
-use Rattle.outline.specs.Time.{Timed}
 use Rattle.verdict.specs.declared.Analysis.{Analysis}
 use Rattle.verdict.specs.Analysed.{Accepted}
+use Rattle.course.proofs.Accepted.{hyper-is, few-sets}
 use Rattle.steady.proofs.Steady.{Shown}
 use Rattle.planner.specs.declared.Stage.{Stage}
 use Rattle.planner.specs.declared.Stage.the-variants.{Due, Finished}
 use Rattle.planner.specs.State.{stageOf, slotOf, stageAfter}
 
 module _ {t : Table} {a : Analysis} (A : Accepted t a) where
-  -- ---- its numbers
-
-  pub timed : Timed t (a .outline .time)
-  timed = A .outline .timed
-
-  pub hyper-is : a .outline .time .hyper ≡ hyperperiod t
-  hyper-is = timed .hyper
-
-  pub few-rows : a .outline .rows ≤ max-rows
-  few-rows = let s = A .admissible .sound in omega (arith, A .outline .rows)
-
-  pub few-sets : a .outline .sets ≤ max-rows
-  few-sets = let s = A .admissible .sound in omega (arith, A .outline .few)
-
-  pub few-elements : a .outline .elements ≤ max-elements
-  few-elements = let s = A .admissible .sound in omega (arith, A .outline .elements)
-
-  pub hyper-short : a .outline .time .hyper ≤ max-slots
-  hyper-short = omega (arith, hyper-is, A .admissible .short)
-
   pub shown : Shown t (a .outline .rows) (a .outline .time .hyper) (a .rate) (a .outline .sets) (a .outline .words)
   shown = record {
     rows = A .outline .rows;
-    hyper = hyper-is;
+    hyper = hyper-is A;
     by-row = A .rate;
-    few = few-sets;
+    few = few-sets A;
     size = A .outline .size;
     list = A .outline .list;
   }

@@ -19,7 +19,7 @@ use Rattle.rules.specs.Refusals.{Answers, plan-checks, step-checks, standings-c
 use Rattle.rules.specs.Calls.{Ask}
 use Rattle.table.specs.declared.Answer.{Answer}
 use Rattle.outline.proofs.Outlined.{answers-at}
-use Rattle.outline.specs.Time.{Begins}
+use Rattle.time.specs.Time.{Begins}
 use Rattle.verdict.specs.declared.Analysis.{Analysis}
 use Rattle.verdict.specs.Analysed.{Accepted}
 use Rattle.interval.proofs.Moved.{step-of-moved}
@@ -28,11 +28,12 @@ use Rattle.steady.proofs.Steady.{standings-are}
 use Rattle.planner.specs.declared.Stage.the-variants.{Due}
 use Rattle.planner.specs.declared.Planner.{Planner}
 use Rattle.planner.specs.State.{stageOf, plannerOf, stageAfter, unmovedOf, noStandings}
-use Rattle.planner.specs.Course.{Course, Coursed}
+use Rattle.course.specs.Course.{Course, Coursed}
 use Rattle.planner.specs.Answers.{StepAnswer, StandingsAnswer, PlanAnswer}
 use Rattle.planner.specs.Analysed.{admitted}
-use Rattle.planner.proofs.Accepted.{hyper-is, shown, next-is}
-use Rattle.planner.proofs.Course.{course-one, course-run}
+use Rattle.course.proofs.Accepted.{hyper-is}
+use Rattle.planner.proofs.Accepted.{shown, next-is}
+use Rattle.course.proofs.Course.{course-one, course-run}
 
 nothing : (m i : ℕ) → getD (replicate m (pos 0)) i (pos 0) ≡ pos 0
 nothing zero i = refl

@@ -1,7 +1,6 @@
 pub mod State
 pub mod Accepted
 pub mod Off
-pub mod Course
 pub mod Checks
 pub mod Laying
 pub mod Answering

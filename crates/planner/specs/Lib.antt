@@ -1,6 +1,4 @@
 pub mod State
-pub mod Plannable
-pub mod Course
 pub mod Answers
 pub mod Analysed
 pub mod Proper

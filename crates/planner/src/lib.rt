@@ -4,25 +4,20 @@
 // whatever it was analysed from.
 //
 // A planner is kept by the caller and any state may be handed in. So the slot that it has reached is held to the hyperperiod first, then
-// its spare totals, and then its totals row by row, before any product is taken. Arrays are lent where they can be: the supervisor's
-// stack is small.
-use loads::Size;
-use outline::Time;
+// its spare totals, and then its totals row by row, before any product is taken.
 use table::Answer;
 use table::Table;
+use time::Time;
 use verdict::Analysis;
 ghost use mathlib.Core.Path.{_≡_};
 ghost use Prim.Native.Nat.{ℕ};
-ghost use lib.ListN.{length};
 ghost use Rattle.rules.specs.Bus as bus;
 ghost use Rattle.rules.specs.Planner.{Off};
 ghost use Rattle.rules.specs.Calls.{fileAsk};
 ghost use Rattle.numbers.specs.Decides.{Decides};
-ghost use Rattle.outline.specs.Time.{Timed};
+ghost use Rattle.time.specs.Time.{Timed};
 ghost use Rattle.verdict.specs.Analysed.{Accepted};
 ghost use Rattle.planner.specs.State.{plannerOf, freshPlanner, slotOf, lateAt, stageAfter, unmovedOf, noStandings};
-ghost use Rattle.planner.specs.Plannable.{Plannable};
-ghost use Rattle.planner.specs.Course.{Coursed};
 ghost use Rattle.planner.specs.Answers.{StepAnswer, StandingsAnswer, PlanAnswer};
 ghost use Rattle.planner.specs.Analysed.{Usable, SteppedOn, StandingsOn, PlannedOn};
 
@@ -81,59 +76,6 @@ fn stage_after(end: u64, hyper: u64, next: u64) -> Stage
         return Stage::Finished;
     }
     Stage::Due(next)
-}
-
-// ---- intervals
-
-// Plans the intervals from slot `from` up to slot `until` of an admitted table, for rows that have had `totals`: writes their words to the
-// front of `plan`, each interval's to its own stretch, and gives the totals after the last. What the intervals share is laid out once.
-fn plan_intervals(
-    table: Analysis,
-    from: u64,
-    until: u64,
-    totals: [u64; Table::ROWS],
-    plan: &mut [u64],
-) -> [u64; Table::ROWS]
-    requires { ⌜ ((t : bus.Table) × (k : ℕ) × (m : ℕ) × Plannable t table k m from until totals (length (now plan))) ⌝ }
-    ensures { λ r. ⌜ ((t : bus.Table) (k m : ℕ) → Plannable t table k m from until totals (length (now (plan .entry)))
-        → Coursed t k m totals r (now (plan .entry)) (now (plan .exit))) ⌝ }
-{
-    let rows = table.outline.rows;
-    let sets = table.outline.sets;
-    let top = table.outline.elements + 1;
-    let time = table.outline.time;
-    let places = places::lay(rows, sets, &table.outline.words, &table.outline.first);
-    let size = Size {
-        rows,
-        sets,
-        hyper: time.hyper,
-    };
-    let mut after = totals;
-    let mut slot = from;
-    let mut at: usize = 0;
-    while slot < until {
-        let end = time.next_end(slot);
-        interval::advance(
-            slot as usize,
-            end as usize,
-            size,
-            top,
-            &table.outline.second,
-            &table.rate,
-            &table.outline.words,
-            &places.tail,
-            &places.head,
-            &places.out,
-            &places.into,
-            &places.heads,
-            &places.next,
-            &mut after,
-            &mut plan[at..],
-        );
-        at += (end - slot) as usize;
-        slot = end;
-    }
-    after
 }
 
 // ---- standings
@@ -246,7 +188,7 @@ impl Planner {
             return self.unmoved(Answer::at(Answer::SHORT_OUTPUT, 0));
         }
         let totals = self.totals;
-        let after = plan_intervals(table, slot, end, totals, out);
+        let after = course::plan_intervals(table, slot, end, totals, out);
         self = Planner {
             stage: stage_after(end, time.hyper, k + 1),
             totals: after,
@@ -279,7 +221,7 @@ pub fn plan_on(table: Analysis, plan: &mut [u64]) -> Answer
         return Answer::at(Answer::SHORT_OUTPUT, 0);
     }
     let fresh = [0u64; Table::ROWS];
-    plan_intervals(table, 0, hyper, fresh, plan);
+    course::plan_intervals(table, 0, hyper, fresh, plan);
     Answer::done()
 }
 

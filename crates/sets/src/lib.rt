@@ -6,11 +6,9 @@ use table::Table;
 ghost use mathlib.Core.Path.{_≡_};
 ghost use mathlib.Core.Logic.{_≢_};
 ghost use mathlib.Core.Bool.{true};
-ghost use Prim.Native.Nat.{ℕ, _*_, _≤_, _<_};
-ghost use Rattle.numbers.specs.Finite.{sumIn};
+ghost use Prim.Native.Nat.{_<_};
 ghost use Rattle.numbers.specs.Word.{bit};
 ghost use Rattle.numbers.specs.Lists.{at};
-ghost use Rattle.rules.specs.Bounds.{max-rows, max-slots};
 ghost use Rattle.sets.specs.Sets.{OnLine, Listed};
 
 // The words of the overlap sets, by ascending least second end; those from `count` on are 0.
@@ -75,21 +73,4 @@ pub fn lowest_row(word: u64) -> usize
     ensures { λ r. ⌜ (r < 64) × (bit word r ≡ true) ⌝ }
 {
     u64::trailing_zeros(word) as usize
-}
-
-// The sum of `xs` over the rows of the set whose word is `word`. Only these are gone through.
-pub fn sum_in(rows: usize, word: u64, xs: &[u64; Table::ROWS]) -> u64
-    requires { ⌜ (rows ≤ max-rows) × ((i : ℕ) → i < rows → at (now xs) i ≤ max-slots) ⌝ }
-    ensures { λ r. ⌜ (r ≡ sumIn rows (bit word) (at (now (xs .entry)))) × (r ≤ max-rows * max-slots) ⌝ }
-{
-    let mut sum: u64 = 0;
-    let mut left = word;
-    while left != 0 {
-        let i = lowest_row(left);
-        if i < rows {
-            sum += xs[i];
-        }
-        left = left ^ (1u64 << i);
-    }
-    sum
 }

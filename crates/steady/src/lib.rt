@@ -4,7 +4,10 @@
 // nothing is divided. Any totals may be handed in: rows come first, and each row's total is held to the slot before any product is
 // taken; then no product and no set's sum can be too large.
 use table::Table;
-ghost use Prim.Native.Nat.{_*_, _<_, _≤_};
+ghost use mathlib.Core.Path.{_≡_};
+ghost use Prim.Native.Nat.{ℕ, _*_, _<_, _≤_};
+ghost use Rattle.numbers.specs.Finite.{sumIn};
+ghost use Rattle.numbers.specs.Word.{bit};
 ghost use Rattle.numbers.specs.Lists.{at};
 ghost use Rattle.numbers.specs.Rounding.{Rounded};
 ghost use Rattle.rules.specs.Bounds.{max-rows, max-slots};
@@ -35,7 +38,7 @@ fn rows_keep_step(
     rows: usize,
     hyper: u64,
     slot: u64,
-    rate: &[u64; Table::ROWS],
+    rate: &[u16; Table::ROWS],
     totals: &[u64; Table::ROWS],
 ) -> bool
     requires { ⌜ Bounded rows hyper slot (at (now rate)) ⌝ }
@@ -43,7 +46,7 @@ fn rows_keep_step(
 {
     let mut i: usize = 0;
     while i < rows {
-        if !row_keeps_step(hyper, slot, rate[i], totals[i]) {
+        if !row_keeps_step(hyper, slot, table::slots_at(rate, i), totals[i]) {
             return false;
         }
         i += 1;
@@ -51,12 +54,41 @@ fn rows_keep_step(
     true
 }
 
+// The rates and the totals of the rows of a set, summed.
+struct Sums {
+    rate: u64,
+    total: u64,
+}
+
+// The sums over the rows of the set whose word is `word`. Only these are gone through.
+fn sums_in(rows: usize, word: u64, rate: &[u16; Table::ROWS], totals: &[u64; Table::ROWS]) -> Sums
+    requires { ⌜ (rows ≤ max-rows) × ((i : ℕ) → i < rows → (at (now rate) i ≤ max-slots) × (at (now totals) i ≤ max-slots)) ⌝ }
+    ensures { λ r. ⌜ (r .rate ≡ sumIn rows (bit word) (at (now (rate .entry)))) × (r .rate ≤ max-rows * max-slots)
+        × (r .total ≡ sumIn rows (bit word) (at (now (totals .entry)))) × (r .total ≤ max-rows * max-slots) ⌝ }
+{
+    let mut rates: u64 = 0;
+    let mut all: u64 = 0;
+    let mut left = word;
+    while left != 0 {
+        let i = sets::lowest_row(left);
+        if i < rows {
+            rates += table::slots_at(rate, i);
+            all += totals[i];
+        }
+        left = left ^ (1u64 << i);
+    }
+    Sums {
+        rate: rates,
+        total: all,
+    }
+}
+
 // Each listed set's summed total is its summed share rounded down or up. Each row keeps step already, which keeps the sums small.
 fn sets_keep_step(
     rows: usize,
     hyper: u64,
     slot: u64,
-    rate: &[u64; Table::ROWS],
+    rate: &[u16; Table::ROWS],
     sets: usize,
     words: &[u64; Table::ROWS],
     totals: &[u64; Table::ROWS],
@@ -68,8 +100,8 @@ fn sets_keep_step(
 {
     let mut k: usize = 0;
     while k < sets {
-        let share = sets::sum_in(rows, words[k], rate) * slot;
-        if !is_rounded(sets::sum_in(rows, words[k], totals), share, hyper) {
+        let sums = sums_in(rows, words[k], rate, totals);
+        if !is_rounded(sums.total, sums.rate * slot, hyper) {
             return false;
         }
         k += 1;
@@ -82,7 +114,7 @@ pub fn keeps_step<'a>(
     rows: usize,
     hyper: u64,
     slot: u64,
-    rate: &'a [u64; Table::ROWS],
+    rate: &'a [u16; Table::ROWS],
     sets: usize,
     words: &'a [u64; Table::ROWS],
     totals: &'a [u64; Table::ROWS],
@@ -116,7 +148,7 @@ pub fn standings<'a>(
     rows: usize,
     hyper: u64,
     slot: u64,
-    rate: &'a [u64; Table::ROWS],
+    rate: &'a [u16; Table::ROWS],
     totals: &'a [u64; Table::ROWS],
 ) -> [i64; Table::ROWS]
     requires { ⌜ Bounded rows hyper slot (at (now rate)) × RowsKeep rows hyper slot (at (now rate)) (at (now totals)) ⌝ }
@@ -125,7 +157,7 @@ pub fn standings<'a>(
     let mut standing = [0i64; Table::ROWS];
     let mut i: usize = 0;
     while i < rows {
-        standing[i] = numbers::less(totals[i] * hyper, rate[i] * slot);
+        standing[i] = numbers::less(totals[i] * hyper, table::slots_at(rate, i) * slot);
         i += 1;
     }
     standing

@@ -23,7 +23,7 @@ use Rattle.table.specs.Sound.{Sound}
 use Rattle.sets.specs.Sets.{OnLine, Listed}
 use Rattle.lags.specs.Lags.{Admissible}
 use Rattle.lags.proofs.Intervals.{hyperperiod-positive}
-use Rattle.outline.specs.declared.time.Time.{Time}
+use Rattle.time.specs.declared.Time.{Time}
 use Rattle.outline.proofs.Sets.{Ends, ends-on-line, ring-list}
 use Rattle.outline.proofs.Outlined.{answers-at}
 use Rattle.weights.specs.Weights.{lightBy, weight, past, Weighed}

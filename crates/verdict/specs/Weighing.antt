@@ -11,8 +11,8 @@ use Rattle.rules.specs.Line as line
 use Rattle.rules.specs.Loads as loads
 use Rattle.rules.specs.Refusals.{Answers, bound-checks}
 use Rattle.table.specs.Columns.{ByRow}
-use Rattle.outline.specs.Time.{Timed}
-use Rattle.outline.specs.declared.time.Time.{Time}
+use Rattle.time.specs.Time.{Timed}
+use Rattle.time.specs.declared.Time.{Time}
 use Rattle.verdict.specs.declared.Loaded.{Loaded}
 
 pub record Weighable (t : Table) (c : Time) (starts ends xs : List ℕ) : Type 0 where

@@ -1,8 +1,8 @@
 // The verdict: whether the bus can carry a table (document 01, "Loads and bound"), and what is found of a table that is planned.
 use outline::Outline;
-use outline::Time;
 use table::Answer;
 use table::Table;
+use time::Time;
 ghost use mathlib.Core.Path.{_≡_};
 ghost use mathlib.Core.List.{List};
 ghost use Prim.Native.Nat.{ℕ, _+_};
@@ -43,7 +43,7 @@ fn weigh<'a>(
     period: &'a [u16; Table::ROWS],
     starts: &'a [u8; Table::ROWS],
     ends: &'a [u8; Table::ROWS],
-    rate: &'a [u64; Table::ROWS],
+    rate: &'a [u16; Table::ROWS],
 ) -> Loaded
     requires { ⌜ ((first : List ℕ) × (second : List ℕ)
         × Weighable (columnTable elements rows (now cost) (now period) first second) time (now starts) (now ends) (now rate)) ⌝ }
@@ -86,7 +86,7 @@ fn weigh<'a>(
 pub struct Analysis {
     pub outline: Outline,
     pub load: u64,
-    pub rate: [u64; Table::ROWS],
+    pub rate: [u16; Table::ROWS],
 }
 
 impl Analysis {

@@ -52,7 +52,8 @@ pub times-of : {t : Table} → Sound t → Times (t .rows) (t .cost) (t .period)
 times-of s = record {
   few = s .rows-high;
   period-low = λ i l. s .row i l .period-low;
-  cost-high = λ i l. let row = s .row i l in omega arith;
+  period-high = λ i l. s .row i l .period-high;
+  cost-high = λ i l. s .row i l .cost-high;
 }
 
 module _ {e : Bool} (l : ℕ) (cost period : ℕ → ℕ) (i : ℕ) where

@@ -26,7 +26,8 @@ use Rattle.sets.specs.Walk.{line-size}
 pub record Times (n : ℕ) (cost period : ℕ → ℕ) : Type 0 where
   pub few : n ≤ max-rows
   pub period-low : (i : ℕ) → i < n → 1 ≤ period i
-  pub cost-high : (i : ℕ) → i < n → cost i ≤ max-slots
+  pub period-high : (i : ℕ) → i < n → period i ≤ max-slots
+  pub cost-high : (i : ℕ) → i < n → cost i ≤ period i
 
 unfoldable pub lightBy : Bool → ℕ → (cost period : ℕ → ℕ) → ℕ → Bool
 lightBy e l cost period i = not e && ltb (cost i * l) (period i)

@@ -9,6 +9,7 @@ ghost use mathlib.Core.List.{List};
 ghost use mathlib.Core.Bool.{true, not, _&&_, _||_, cond};
 ghost use Prim.Native.Nat.{ℕ, _+_, _*_, _/_, _<_, _≤_, max};
 ghost use lib.Dec.{ltb, eqb};
+ghost use lib.ListN.{replicate};
 ghost use Rattle.numbers.specs.Lists.{at};
 ghost use Rattle.numbers.specs.Finite.{lowest};
 ghost use Rattle.numbers.specs.Rounding.{up};
@@ -31,17 +32,17 @@ fn jobs_in(hyper: u64, last: u64, jobs: u64, period: u64) -> u64
     hyper / period
 }
 
-// All rows' rates, the loads cost / period in units of 1 / h, and 0 past the last row.
+// All rows' rates, the loads cost / period in units of 1 / h, and 0 past the last row: a row has at most all h slots.
 pub fn rates<'a>(
     rows: usize,
     hyper: u64,
     cost: &'a [u16; Table::ROWS],
     period: &'a [u16; Table::ROWS],
-) -> [u64; Table::ROWS]
+) -> [u16; Table::ROWS]
     requires { ⌜ Times rows (at (now cost)) (at (now period)) × (hyper ≤ max-slots) ⌝ }
     ensures { λ r. ⌜ ByRow rows (λ i. hyper / at (now (period .entry)) i * at (now (cost .entry)) i) r ⌝ }
 {
-    let mut rate = [0u64; Table::ROWS];
+    let mut rate = [0u16; Table::ROWS];
     let mut last: u64 = 1;
     let mut jobs = hyper;
     let mut i: usize = 0;
@@ -49,7 +50,7 @@ pub fn rates<'a>(
         let next = table::slots_at(period, i);
         jobs = jobs_in(hyper, last, jobs, next);
         last = next;
-        rate[i] = jobs * table::slots_at(cost, i);
+        rate[i] = (jobs * table::slots_at(cost, i)) as u16;
         i += 1;
     }
     rate
@@ -165,23 +166,23 @@ fn goes_on(started: bool, starts: bool, ends: bool) -> bool
     started
 }
 
-// For each element of the line the summed rates of the rows that have this end there.
-fn rates_at<'a>(
-    ends: &'a [u8; Table::ROWS],
+// Adds up for each element of the line the rates of the rows that have this end there; `sums` are 0.
+fn rates_at(
+    ends: &[u8; Table::ROWS],
     rows: usize,
-    rate: &'a [u64; Table::ROWS],
-) -> [u64; Sets::LINE]
-    requires { ⌜ Rates (now rate) rows × ((i : ℕ) → i < rows → at (now ends) i < line-size) ⌝ }
-    ensures { λ r. ⌜ SumsAt rows (at (now (ends .entry))) (at (now (rate .entry))) r ⌝ }
+    rate: &[u16; Table::ROWS],
+    sums: &mut [u64; Sets::LINE],
+)
+    requires { ⌜ Rates (now rate) rows × ((i : ℕ) → i < rows → at (now ends) i < line-size)
+        × (now sums ≡ replicate line-size 0) ⌝ }
+    ensures { λ _. ⌜ SumsAt rows (at (now (ends .entry))) (at (now (rate .entry))) (now (sums .exit)) ⌝ }
 {
-    let mut sums = [0u64; Sets::LINE];
     let mut i: usize = 0;
     while i < rows {
         let e = table::end_at(ends, i);
-        sums[e] = sums[e] + rate[i];
+        sums[e] = sums[e] + table::slots_at(rate, i);
         i += 1;
     }
-    sums
 }
 
 // The sets of rows on a line whose last element is `top`, weighed by one walk up the line: their words are not needed.
@@ -190,7 +191,7 @@ pub fn weigh_line<'a>(
     top: usize,
     first: &'a [u8; Table::ROWS],
     second: &'a [u8; Table::ROWS],
-    rate: &'a [u64; Table::ROWS],
+    rate: &'a [u16; Table::ROWS],
     hyper: u64,
     interval: u64,
 ) -> Weights
@@ -199,8 +200,10 @@ pub fn weigh_line<'a>(
     ensures { λ r. ⌜ ((ws : List ℕ) × Listed rows (at (now (first .entry))) (at (now (second .entry))) (r .sets) ws
         × Weighed rows (now (rate .entry)) (r .sets) ws (eqb interval hyper) hyper interval (r .over) (r .largest)) ⌝ }
 {
-    let joining = rates_at(first, rows, rate);
-    let leaving = rates_at(second, rows, rate);
+    let mut joining = [0u64; Sets::LINE];
+    rates_at(first, rows, rate, &mut joining);
+    let mut leaving = [0u64; Sets::LINE];
+    rates_at(second, rows, rate, &mut leaving);
     let mut found = Weights {
         sets: 0,
         over: 0,

@@ -34,7 +34,7 @@ part-shares-requires : tie.Need-part-shares-requires
 part-shares-requires c κs =
     let p = c .before .before .before .pre in
     let R = p .0 .2 in
-    (few-rows R, hyper-some R, shares-fit R (p .0 .3), refl, refl)
+    (few-rows R, hyper-some R, shares-fit R (p .0 .3), p .1, p .2)
 
 choose-requires : tie.Need-choose-requires
 choose-requires c κs =
@@ -46,7 +46,7 @@ give-requires : tie.Need-give-requires
 give-requires c κs =
     let d = c .before .before .before .before in
     let p = start d .pre in
-    (few-rows (p .0 .2), whole-fit (p .0 .2) (p .0 .3) (whole d) (part d) (d .part-shares .ensures .2), d .part-shares .ensures .0, p .1)
+    (few-rows (p .0 .2), whole-fit (p .0 .2) (p .0 .3) (whole d) (part d) (d .part-shares .ensures .2), d .part-shares .ensures .0, p .3)
 
 sub-fill : tie.Need-sub-fill
 sub-fill c =
@@ -57,19 +57,24 @@ fill-requires : tie.Need-fill-requires
 fill-requires c κs =
     let p = start (c .before .before .before .before .before .before .before) .pre in
     let R = p .0 .2 in
-    ((_, _, rows-chained R), interval-short R (p .0 .3), p .2)
+    ((_, _, rows-chained R), interval-short R (p .0 .3), p .4)
 
 same-length : tie.Need-same-length
 same-length c = search needs
 
 returns : tie.Need-returns
-returns c t k R D =
+returns c =
     let f = c .before .before in
     let g = f .before .before .before in
     let h = g .before .before .before in
-    let d = h .before .before in
-    advanced-of R D (whole d) (part d) (d .part-shares .ensures .2) (h .choose .result) (at (g .give .last .1 .1 .0)) (at (g .give .last .1 .1 .1 .0)) (h .choose .ensures) (g .give .ensures .2) (λ i. refl)
-    (g .give .ensures .1) (f .fill .ensures _ _ (rows-chained R))
+    let d = h .before .before in (
+      g .give .ensures .0,
+      d .part-shares .ensures .1,
+      λ t k R D.
+          advanced-of R D (whole d) (part d) (d .part-shares .ensures .2) (h .choose .result) (at (g .give .last .1 .1 .0))
+          (at (g .give .last .1 .1 .1 .0)) (h .choose .ensures) (g .give .ensures .2) (λ i. refl)
+          (g .give .ensures .1) (f .fill .ensures _ _ (rows-chained R)),
+    )
 
 pub advance-spec : {M : Type 1} → statement M
 advance-spec =

@@ -6,6 +6,7 @@ use native.Mathlib.Omega.{arith}
 use lib.ListN.{length, set, length-set}
 use Rattle.numbers.specs.Lists.{at}
 use Rattle.rules.specs.Bounds.{max-rows}
+use Rattle.loads.specs.Loads.{share-most}
 use Rattle.flow.proofs.Network.{put-set}
 use Rattle.choice.proofs.Filling.{extend}
 use Rattle.interval.proofs.part_shares.Statement.{statement}
@@ -22,16 +23,19 @@ abbrev μ-loop : tie.MeasureT-loop
 loop-holds : tie.Need-loop-holds Inv-loop μ-loop
 loop-holds c = (c .pre .3, c .pre .4, omega arith, λ j l. absurd (omega arith))
 
-mul-share : tie.Need-mul-share Inv-loop μ-loop
-mul-share c = let z = c .before .before .before in omega (arith, z .pre .0)
+slots-at-requires : tie.Need-slots-at-requires Inv-loop μ-loop
+slots-at-requires c κs = let z = c .before .before .before in omega (arith, z .pre .0, c .if1 .taken)
 
-element-copy-out-share : tie.Need-element-copy-out-share Inv-loop μ-loop
-element-copy-out-share c = let z = c .before .before .before in omega (arith, z .pre .0)
-
-mul-share-2 : tie.Need-mul-share-2 Inv-loop μ-loop
-mul-share-2 c =
+-- the row's share, which the code has from its rate
+share-fits : (c : tie.After-slots-at Inv-loop μ-loop)
+    → c .slots-at .result * c .before .before .before .before .args .slots ≤ share-most
+share-fits c =
     let t = c .before in
-    omega (arith, t .before .before .before .pre .2 (t .before .before .loop .i) (t .if1 .taken))
+    let u = t .before .before in
+    rw (c .slots-at .ensures) (u .before .pre .2 (u .loop .i) (t .if1 .taken))
+
+mul-share : tie.Need-mul-share Inv-loop μ-loop
+mul-share c = omega (arith, share-fits c)
 
 div-whole : tie.Need-div-whole Inv-loop μ-loop
 div-whole c = omega (arith, c .before .before .before .before .pre .1)
@@ -47,14 +51,8 @@ rem-part c = omega (arith, c .before .before .before .before .pre .1)
 
 cast-part : tie.Need-cast-part Inv-loop μ-loop
 cast-part c =
-    let t = c .before in
-    let z = t .before .before .before in
-    let i = t .before .before .loop .i in
-    omega (
-      arith,
-      z .pre .2 i (t .if1 .taken),
-      mod-le (at (z .args .rate .now) i * z .args .slots) (z .args .size .hyper),
-    )
+    let z = c .before .before .before .before in
+    omega (arith, share-fits c, mod-le (c .slots-at .result * z .args .slots) (z .args .size .hyper))
 
 mul-part : tie.Need-mul-part Inv-loop μ-loop
 mul-part c = omega (arith, c .before .before .before .before .pre .0)
@@ -81,9 +79,9 @@ loop-again c =
       simp length-set (u .inv .0),
       simp length-set (u .inv .1),
       omega (arith, t .if1 .taken),
-      extend (λ j. (at (set (u .whole) (u .i) v) j ≡ at (a .rate .now) j * a .slots / a .size .hyper)
+      rw (c .slots-at .ensures) (extend (λ j. (at (set (u .whole) (u .i) v) j ≡ at (a .rate .now) j * a .slots / a .size .hyper)
           × (at (set (u .part) (u .i) w) j ≡ at (a .rate .now) j * a .slots % a .size .hyper)) (u .i)
-          (λ j l. (p .1 j (omega arith) ∙ u .inv .3 j l .0, q .1 j (omega arith) ∙ u .inv .3 j l .1)) (p .0, q .0),
+          (λ j l. (p .1 j (omega arith) ∙ u .inv .3 j l .0, q .1 j (omega arith) ∙ u .inv .3 j l .1)) (p .0, q .0)),
     )
 
 returns : tie.Need-returns Inv-loop μ-loop
@@ -99,9 +97,8 @@ part-shares-spec =
     Inv-loop
     μ-loop
     loop-holds
+    slots-at-requires
     mul-share
-    element-copy-out-share
-    mul-share-2
     div-whole
     mul-whole
     element-write-whole

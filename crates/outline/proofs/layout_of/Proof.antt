@@ -10,7 +10,7 @@ use Rattle.ring.proofs.Cut.{cut-low}
 use Rattle.numbers.proofs.Divisors.{least-gcd-only}
 use Rattle.lags.proofs.Intervals.{hyperperiod-positive, shortest-gcd}
 use Rattle.outline.specs.Layout.{tableWith}
-use Rattle.outline.proofs.Periods.{periods-of, capped-hyper, capped-some, capped-none}
+use Rattle.time.proofs.Periods.{periods-of, capped-hyper, capped-some, capped-none}
 use Rattle.outline.proofs.Outlined.{cut-refused, long-refused, answers-at}
 use Rattle.outline.proofs.Laying.{laid-refused, laid-found}
 use Rattle.outline.proofs.layout_of.Statement.{statement}

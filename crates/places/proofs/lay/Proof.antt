@@ -1,5 +1,6 @@
 -- `lay` lays out what its calls give.
 use borrow.Author.Needs.{needs}
+use mathlib.Core.Path.{refl}
 use native.Mathlib.Omega.{arith}
 use Rattle.numbers.specs.Lists.{at}
 use Rattle.numbers.specs.Word.{bit}
@@ -16,7 +17,7 @@ stops-of-requires c κs = search needs
 
 sort-rows-requires : tie.Need-sort-rows-requires
 sort-rows-requires c κs =
-    let e = c .before .before in
+    let e = c .before .before .before in
     let z = e .before in (
       z .pre .0,
       λ i l.
@@ -26,11 +27,12 @@ sort-rows-requires c κs =
             lowest-le (z .args .sets) (λ k. bit (at (z .args .words .now) k) i),
             z .pre .1,
           ),
+      refl,
     )
 
 sort-rows-requires-2 : tie.Need-sort-rows-requires-2
 sort-rows-requires-2 c κs =
-    let e = c .before .before .before in
+    let e = c .before .before .before .before .before in
     let z = e .before .before in (
       z .pre .0,
       λ i l.
@@ -39,6 +41,7 @@ sort-rows-requires-2 c κs =
             e .stops-of .ensures .row i l,
             highest-after (z .args .sets) 31 (λ k. bit (at (z .args .words .now) k) i) (z .pre .1),
           ),
+      refl,
     )
 
 chain-requires : tie.Need-chain-requires

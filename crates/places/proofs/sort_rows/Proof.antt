@@ -2,6 +2,7 @@
 use borrow.Author.Needs.{needs}
 use mathlib.Core.Path.{_≡_, refl, sym, ap, _∙_}
 use mathlib.Core.Bool.{Bool, _&&_}
+use mathlib.Core.List.{List}
 use Prim.Native.Nat.{ℕ, _-_, _<_, _≤_}
 use native.Mathlib.Omega.{arith}
 use lib.Dec.{eqb}
@@ -33,8 +34,8 @@ here l = l .before .before .pre .1 (l .before .loop .i) (l .loop-test .taken)
 loop-holds : tie.Need-loop-holds Inv-loop μ-loop
 loop-holds c = (
   omega arith,
-  refl,
-  λ v i l. ap (λ (w : ℕ). bit w i) (zeros-at places-most v) ∙ bit-zero i ∙ sym
+  rw (c .pre .2) refl,
+  λ v i l. ap (λ (ws : List ℕ). bit (at ws v) i) (c .pre .2) ∙ ap (λ (w : ℕ). bit w i) (zeros-at places-most v) ∙ bit-zero i ∙ sym
       (ap (λ (b : Bool). b && eqb (at (c .args .end .now) i) v) (le-ltb i 0 (omega arith))),
 )
 
@@ -47,17 +48,17 @@ cast-v c = omega (arith, here (c .before))
 mul-words : tie.Need-mul-words Inv-loop μ-loop
 mul-words c = omega (arith, here (c .before))
 
-array-read-words : tie.Need-array-read-words Inv-loop μ-loop
-array-read-words c = omega (arith, here (c .before), c .before .before .loop .inv .1)
+element-copy-out-words : tie.Need-element-copy-out-words Inv-loop μ-loop
+element-copy-out-words c = omega (arith, here (c .before), c .before .before .loop .inv .1)
 
 shl-words : tie.Need-shl-words Inv-loop μ-loop
-shl-words c = omega (arith, c .before .before .before .pre .0)
+shl-words c = omega (arith, c .before .before .before .before .pre .0)
 
 mul-words-2 : tie.Need-mul-words-2 Inv-loop μ-loop
-mul-words-2 c = omega (arith, here (c .before))
+mul-words-2 c = omega (arith, here (c .before .before))
 
-array-write-words : tie.Need-array-write-words Inv-loop μ-loop
-array-write-words c = omega (arith, here (c .before), c .before .before .loop .inv .1)
+element-write-words : tie.Need-element-write-words Inv-loop μ-loop
+element-write-words c = let l = c .before .before in omega (arith, here l, l .before .loop .inv .1)
 
 add-i : tie.Need-add-i Inv-loop μ-loop
 add-i c = search needs
@@ -67,7 +68,7 @@ loop-less c = search needs
 
 loop-again : tie.Need-loop-again Inv-loop μ-loop
 loop-again c =
-    let l = c .before in
+    let l = c .before .before in
     let u = l .before .loop in
     let z = l .before .before in
     let e = at (z .args .end .now) in
@@ -95,10 +96,10 @@ sort-rows-spec =
     element-copy-out-v
     cast-v
     mul-words
-    array-read-words
+    element-copy-out-words
     shl-words
     mul-words-2
-    array-write-words
+    element-write-words
     add-i
     loop-less
     loop-again

@@ -1,9 +1,11 @@
 -- rows_keep_step: row after row keeps step.
-use Prim.Native.Nat.{_-_, _≤_}
+use Prim.Native.Nat.{_-_, _*_, _≤_}
 use native.Mathlib.Omega.{arith}
 use borrow.Author.Count.{below-more}
 use borrow.Author.Tests.{not-true, not-false}
+use Rattle.numbers.specs.Decides.{Decides}
 use Rattle.numbers.specs.Lists.{at}
+use Rattle.numbers.specs.Rounding.{Rounded}
 use Rattle.numbers.proofs.Truth.{decides-no}
 use Rattle.numbers.proofs.Truth.{decides-yes}
 use Rattle.steady.specs.Step.{RowsKeep}
@@ -19,28 +21,33 @@ abbrev μ-loop : tie.MeasureT-loop
 loop-holds : tie.Need-loop-holds Inv-loop μ-loop
 loop-holds c = (omega arith, λ i l. absurd (omega arith))
 
+slots-at-requires : tie.Need-slots-at-requires Inv-loop μ-loop
+slots-at-requires c κs = omega arith
+
 mul-row-keeps-step : tie.Need-mul-row-keeps-step Inv-loop μ-loop
 mul-row-keeps-step c = omega arith
 
 element-copy-out-row-keeps-step : tie.Need-element-copy-out-row-keeps-step Inv-loop μ-loop
 element-copy-out-row-keeps-step c = omega arith
 
-mul-row-keeps-step-2 : tie.Need-mul-row-keeps-step-2 Inv-loop μ-loop
-mul-row-keeps-step-2 c = omega arith
-
-element-copy-out-row-keeps-step-2 : tie.Need-element-copy-out-row-keeps-step-2 Inv-loop μ-loop
-element-copy-out-row-keeps-step-2 c = omega arith
-
 row-keeps-step-requires : tie.Need-row-keeps-step-requires Inv-loop μ-loop
 row-keeps-step-requires c κs =
-    let z = c .before .before .before in
+    let s = c .before in
+    let z = s .before .before in
     let b = z .before .pre in
-    (b .some, b .short, b .inside, b .light (z .loop .i) (omega arith))
+    (b .some, b .short, b .inside, rw (s .slots-at .ensures) (b .light (z .loop .i) (omega arith)))
+
+-- what the test says of the row
+row-keeps : (c : tie.After-row-keeps-step Inv-loop μ-loop)
+    → let z = c .before .before .before .before in
+    let a = z .before .args in
+    Decides (Rounded (at (a .totals .now) (z .loop .i)) (at (a .rate .now) (z .loop .i) * a .slot) (a .hyper)) (c .row-keeps-step .result)
+row-keeps c = rw (c .before .before .slots-at .ensures) at (c .row-keeps-step .ensures)
 
 returns : tie.Need-returns Inv-loop μ-loop
 returns c =
     let z = c .before .before .before .before .before in
-    decides-no (λ k. c .before .row-keeps-step .ensures .fails (not-true _ (c .if1 .taken)) (k (z .loop .i) (omega arith)))
+    decides-no (λ k. row-keeps (c .before) .fails (not-true _ (c .if1 .taken)) (k (z .loop .i) (omega arith)))
 
 add-i : tie.Need-add-i Inv-loop μ-loop
 add-i c = omega arith
@@ -51,7 +58,7 @@ loop-less c = omega arith
 loop-again : tie.Need-loop-again Inv-loop μ-loop
 loop-again c =
     let z = c .before .before .before .before .before in
-    (omega arith, below-more _ _ (z .loop .inv .1) (c .before .row-keeps-step .ensures .holds (not-false _ (c .if1 .left))))
+    (omega arith, below-more _ _ (z .loop .inv .1) (row-keeps (c .before) .holds (not-false _ (c .if1 .left))))
 
 returns-2 : tie.Need-returns-2 Inv-loop μ-loop
 returns-2 c = decides-yes (λ i l. c .before .loop .inv .1 i (omega arith))
@@ -63,10 +70,9 @@ rows-keep-step-spec =
     Inv-loop
     μ-loop
     loop-holds
+    slots-at-requires
     mul-row-keeps-step
     element-copy-out-row-keeps-step
-    mul-row-keeps-step-2
-    element-copy-out-row-keeps-step-2
     row-keeps-step-requires
     returns
     add-i

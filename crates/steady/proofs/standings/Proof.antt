@@ -31,25 +31,22 @@ mul-less-2 c =
     let fits = products-le (p .0) (at (z .before .args .totals .now)) (p .1) (z .loop .i) (omega arith) in
     omega arith
 
+slots-at-requires : tie.Need-slots-at-requires Inv-loop μ-loop
+slots-at-requires c κs = omega arith
+
 mul-less-3 : tie.Need-mul-less-3 Inv-loop μ-loop
-mul-less-3 c = omega arith
-
-element-copy-out-less-2 : tie.Need-element-copy-out-less-2 Inv-loop μ-loop
-element-copy-out-less-2 c = omega arith
-
-mul-less-4 : tie.Need-mul-less-4 Inv-loop μ-loop
-mul-less-4 c =
+mul-less-3 c =
     let z = c .before .before .before in
     let p = z .before .pre in
     let fits = products-le (p .0) (at (z .before .args .totals .now)) (p .1) (z .loop .i) (omega arith) in
-    omega arith
+    rw (c .slots-at .ensures) (omega (arith, fits))
 
 less-requires : tie.Need-less-requires Inv-loop μ-loop
 less-requires c κs =
     let z = c .before .before .before in
     let p = z .before .pre in
     let fits = products-le (p .0) (at (z .before .args .totals .now)) (p .1) (z .loop .i) (omega arith) in
-    (omega arith, omega arith)
+    (omega (arith, fits), rw (c .slots-at .ensures) (omega (arith, fits)))
 
 mul-standing : tie.Need-mul-standing Inv-loop μ-loop
 mul-standing c = omega arith
@@ -67,7 +64,7 @@ loop-again : tie.Need-loop-again Inv-loop μ-loop
 loop-again c =
     let z = c .before .before .before .before in
     standing-next _ _ _ _ _ _ (z .loop .inv) (omega arith) (z .before .pre .0 .few)
-    (toZ-ofZ w64 (c .less .result) (record { sfits = c .less .ok }) ∙ c .less .ensures)
+    (toZ-ofZ w64 (c .less .result) (record { sfits = c .less .ok }) ∙ (rw (c .before .slots-at .ensures) at (c .less .ensures)))
 
 returns : tie.Need-returns Inv-loop μ-loop
 returns c = standing-end _ _ _ _ _ (c .before .loop .inv) (omega arith)
@@ -82,9 +79,8 @@ standings-spec =
     mul-less
     element-copy-out-less
     mul-less-2
+    slots-at-requires
     mul-less-3
-    element-copy-out-less-2
-    mul-less-4
     less-requires
     mul-standing
     array-set-from-standing

@@ -43,7 +43,9 @@ slots-at-requires-2 c κs = omega arith
 
 is-light-requires : tie.Need-is-light-requires Inv-loop μ-loop
 is-light-requires c κs =
-    omega (arith, c .before .before .before .before .before .pre .0 .cost-high (c .before .before .before .loop .i) (omega arith))
+    let z = c .before .before .before in
+    let T = z .before .before .pre .0 in
+    omega (arith, T .period-high (z .loop .i) (omega arith), T .cost-high (z .loop .i) (omega arith))
 
 returns-2 : tie.Need-returns-2 Inv-loop μ-loop
 returns-2 c = sought-found (c .before .before .before .before .before .loop .inv) (omega arith) (found (c .before) ∙ c .if2 .taken)

@@ -1,7 +1,7 @@
 -- rates: row after row's rate is put in its place; the jobs are those of the period before.
 use mathlib.Core.Path.{_≡_, sym, ap, ap₂, _∙_}
 use Prim.Native.Nat.{ℕ, _-_, _*_, _/_, _≤_}
-use native.Mathlib.Nat.{div-one, div-le-self, mul-le-mul}
+use native.Mathlib.Nat.{div-one, div-mul-le-self, mul-le-mul-left}
 use native.Mathlib.Omega.{arith}
 use Rattle.numbers.specs.Lists.{at}
 use Rattle.rules.specs.Bounds.{max-slots}
@@ -31,16 +31,29 @@ jobs-in-requires c κs =
 slots-at-requires-2 : tie.Need-slots-at-requires-2 Inv-loop μ-loop
 slots-at-requires-2 c κs = omega arith
 
-mul-rate : tie.Need-mul-rate Inv-loop μ-loop
-mul-rate c =
+-- a row has no more than all h slots
+rate-low : (c : tie.After-slots-at2 Inv-loop μ-loop) → c .before .jobs-in .result * c .slots-at2 .result ≤ max-slots
+rate-low c =
     let j = c .before in
     let s = j .before in
     let u = s .before .before in
     let a = u .before .args in
-    let few : j .jobs-in .result ≤ max-slots = omega (arith, j .jobs-in .ensures, div-le-self (a .hyper) (s .slots-at .result)) in
-    let high : c .slots-at2 .result ≤ max-slots =
-    omega (arith, c .slots-at2 .ensures, u .before .pre .0 .cost-high (u .loop .i) (omega arith)) in
-    omega (arith, mul-le-mul few high)
+    let high : c .slots-at2 .result ≤ s .slots-at .result =
+    omega (arith, c .slots-at2 .ensures, s .slots-at .ensures, u .before .pre .0 .cost-high (u .loop .i) (omega arith)) in
+    let few : j .jobs-in .result * c .slots-at2 .result ≤ a .hyper / s .slots-at .result * s .slots-at .result =
+    rw (j .jobs-in .ensures) (mul-le-mul-left (a .hyper / s .slots-at .result) high) in
+    omega (
+      arith,
+      few,
+      div-mul-le-self (a .hyper) (s .slots-at .result),
+      u .before .pre .1,
+    )
+
+mul-rate : tie.Need-mul-rate Inv-loop μ-loop
+mul-rate c = omega (arith, rate-low c)
+
+cast-rate : tie.Need-cast-rate Inv-loop μ-loop
+cast-rate c = omega (arith, rate-low c)
 
 mul-rate-2 : tie.Need-mul-rate-2 Inv-loop μ-loop
 mul-rate-2 c = omega arith
@@ -82,6 +95,7 @@ rates-spec =
     jobs-in-requires
     slots-at-requires-2
     mul-rate
+    cast-rate
     mul-rate-2
     array-write-rate
     add-i

@@ -1,5 +1,4 @@
 -- rates_at: row after row is added to the sum at its end.
-use mathlib.Core.Path.{refl}
 use Prim.Native.Nat.{_-_, _≤_, _<_}
 use native.Mathlib.Omega.{arith}
 use Rattle.numbers.specs.Lists.{at}
@@ -22,7 +21,7 @@ on-line c =
     omega (arith, c .end-at .ensures, u .before .pre .1 (u .loop .i) (omega arith))
 
 loop-holds : tie.Need-loop-holds Inv-loop μ-loop
-loop-holds c = (omega arith, sums-start _ _)
+loop-holds c = (omega arith, rw (c .pre .2) (sums-start _ _))
 
 end-at-requires : tie.Need-end-at-requires Inv-loop μ-loop
 end-at-requires c κs = omega (arith, c .before .before .pre .0 .few)
@@ -30,32 +29,30 @@ end-at-requires c κs = omega (arith, c .before .before .pre .0 .few)
 mul-sums : tie.Need-mul-sums Inv-loop μ-loop
 mul-sums c = omega (arith, on-line c)
 
-array-read-sums : tie.Need-array-read-sums Inv-loop μ-loop
-array-read-sums c = omega (arith, on-line c, c .before .before .loop .inv .1 .size)
-
-mul-sums-2 : tie.Need-mul-sums-2 Inv-loop μ-loop
-mul-sums-2 c = omega (arith, c .before .before .before .pre .0 .few)
-
 element-copy-out-sums : tie.Need-element-copy-out-sums Inv-loop μ-loop
-element-copy-out-sums c = omega (arith, c .before .before .before .pre .0 .few)
+element-copy-out-sums c = omega (arith, on-line c, c .before .before .loop .inv .1 .size)
+
+slots-at-requires : tie.Need-slots-at-requires Inv-loop μ-loop
+slots-at-requires c κs = omega (arith, c .before .before .before .before .pre .0 .few)
 
 add-sums : tie.Need-add-sums Inv-loop μ-loop
 add-sums c =
-    let d = c .before in
+    let d = c .before .before in
     let u = d .before .before in
     let R = u .before .pre .0 in
     omega (
       arith,
       sums-small (u .loop .inv .1) (λ j m. R .small j (omega arith)) (d .end-at .result) (on-line d),
+      c .slots-at .ensures,
       R .small (u .loop .i) (omega arith),
       R .few,
     )
 
-mul-sums-3 : tie.Need-mul-sums-3 Inv-loop μ-loop
-mul-sums-3 c = omega (arith, on-line (c .before))
+mul-sums-2 : tie.Need-mul-sums-2 Inv-loop μ-loop
+mul-sums-2 c = omega (arith, on-line (c .before .before))
 
-array-write-sums : tie.Need-array-write-sums Inv-loop μ-loop
-array-write-sums c = let d = c .before in omega (arith, on-line d, d .before .before .loop .inv .1 .size)
+element-write-sums : tie.Need-element-write-sums Inv-loop μ-loop
+element-write-sums c = let d = c .before .before in omega (arith, on-line d, d .before .before .loop .inv .1 .size)
 
 add-i : tie.Need-add-i Inv-loop μ-loop
 add-i c = omega arith
@@ -65,8 +62,8 @@ loop-less c = omega arith
 
 loop-again : tie.Need-loop-again Inv-loop μ-loop
 loop-again c =
-    let d = c .before in
-    (omega arith, sums-next _ _ (d .before .before .loop .inv .1) (d .end-at .ensures) refl (on-line d))
+    let d = c .before .before in
+    (omega arith, sums-next _ _ (d .before .before .loop .inv .1) (d .end-at .ensures) (c .slots-at .ensures) (on-line d))
 
 returns : tie.Need-returns Inv-loop μ-loop
 returns c = sums-end (omega arith) (c .before .loop .inv .1)
@@ -80,12 +77,11 @@ rates-at-spec =
     loop-holds
     end-at-requires
     mul-sums
-    array-read-sums
-    mul-sums-2
     element-copy-out-sums
+    slots-at-requires
     add-sums
-    mul-sums-3
-    array-write-sums
+    mul-sums-2
+    element-write-sums
     add-i
     loop-less
     loop-again

@@ -1,0 +1,64 @@
+// The planning intervals of an admitted table, one after the other. Arrays are lent where they can be: the supervisor's stack is small.
+use loads::Size;
+use table::Table;
+use verdict::Analysis;
+ghost use Prim.Native.Nat.{ℕ};
+ghost use lib.ListN.{length};
+ghost use Rattle.rules.specs.Bus as bus;
+ghost use Rattle.course.specs.Plannable.{Plannable};
+ghost use Rattle.course.specs.Course.{Coursed};
+
+// Plans the intervals from slot `from` up to slot `until` of an admitted table, for rows that have had `totals`: writes their words to the
+// front of `plan`, each interval's to its own stretch, and gives the totals after the last. What the intervals share is laid out once.
+pub fn plan_intervals(
+    table: Analysis,
+    from: u64,
+    until: u64,
+    totals: [u64; Table::ROWS],
+    plan: &mut [u64],
+) -> [u64; Table::ROWS]
+    requires { ⌜ ((t : bus.Table) × (k : ℕ) × (m : ℕ) × Plannable t table k m from until totals (length (now plan))) ⌝ }
+    ensures { λ r. ⌜ ((t : bus.Table) (k m : ℕ) → Plannable t table k m from until totals (length (now (plan .entry)))
+        → Coursed t k m totals r (now (plan .entry)) (now (plan .exit))) ⌝ }
+{
+    let rows = table.outline.rows;
+    let sets = table.outline.sets;
+    let top = table.outline.elements + 1;
+    let time = table.outline.time;
+    let places = places::lay(rows, sets, &table.outline.words, &table.outline.first);
+    let size = Size {
+        rows,
+        sets,
+        hyper: time.hyper,
+    };
+    let mut load = [0u64; Table::ROWS];
+    let mut part = [0u32; Table::ROWS];
+    let mut after = totals;
+    let mut slot = from;
+    let mut at: usize = 0;
+    while slot < until {
+        let end = time.next_end(slot);
+        interval::advance(
+            slot as usize,
+            end as usize,
+            size,
+            top,
+            &table.outline.second,
+            &table.rate,
+            &table.outline.words,
+            &places.tail,
+            &places.head,
+            &places.out,
+            &places.into,
+            &places.heads,
+            &places.next,
+            &mut load,
+            &mut part,
+            &mut after,
+            &mut plan[at..],
+        );
+        at += (end - slot) as usize;
+        slot = end;
+    }
+    after
+}
