@@ -91,11 +91,11 @@ read-input input k e =
 -- the verdict r on the file f, and its line
 module _ (f : List ℕ) (r : Verdict) (J : IsVerdict f r) where
   module _ (m q : ℕ) (e : r ≡ Refused m q) where
-    refusal : IsVerdict f (Refused m q)
+    pub refusal : IsVerdict f (Refused m q)
     refusal = subst (λ (v : Verdict). IsVerdict f v) e J
 
     -- a table that is admitted has a cut
-    refuses : m ≢ 0
+    pub refuses : m ≢ 0
     unfolding line.cut
     refuses z = omega (arith, refusal .done z .cut-is)
 
