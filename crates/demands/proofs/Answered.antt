@@ -3,12 +3,12 @@ use mathlib.Core.Path.{_≡_, refl, subst}
 use mathlib.Core.Logic.{_≢_, ⊎-elim}
 use mathlib.Core.Bool.{true, false}
 use mathlib.Core.List.{List, _++_, append-assoc}
-use Prim.Native.Nat.{ℕ, _+_, _*_, _<_}
+use Prim.Native.Nat.{ℕ, _+_, _*_, _≤_, _<_}
 use native.Mathlib.Decide.{ℕ-discrete}
 use native.Mathlib.Omega.{arith}
 use lib.ListN.{length}
 use Rattle.numbers.proofs.Truth.{decide}
-use Rattle.numbers.proofs.Tests.{Test, lt-test, eq-test, as-test, not-test}
+use Rattle.numbers.proofs.Tests.{Test, lt-test, le-test, eq-test, as-test, not-test}
 use Rattle.rules.specs.Bounds.{max-elements, max-rows}
 use Rattle.rules.specs.Bus.{Table}
 use Rattle.rules.specs.TableFile.{headerSize, rowSize, rowNumbers, fileTable, memoryTable}
@@ -24,6 +24,8 @@ use Rattle.rules.specs.Refusals.{
   reader-checks,
   memory-checks,
   writer-checks,
+  shared-checks,
+  set-checks,
   verdict-checks,
   sets-checks,
   plan-checks,
@@ -84,6 +86,12 @@ written-answered M n xs room =
     then not-test (eq-test (length xs) (rowNumbers * n))
     then none) (row-tests (memoryTable M n xs))) (lt-test room (headerSize + rowSize * n) then none))
 
+pub met-answered : (f : List ℕ) (i j : ℕ) → Answered (shared-checks f i j)
+unfolding shared-checks
+met-answered f i j =
+    let t = fileTable f in
+    by-tests (tests-join (file-tests f) (le-test (t .rows) i then le-test (t .rows) j then none))
+
 -- ---- 10 and 11, and what is decided by the list of sets
 
 line-answered : (t : Table) → Sound t → (ds : List Check) → ((ws : List ℕ) → Sets t ws → Tests ds) → Answered (line-checks t ++ ds)
@@ -119,6 +127,19 @@ module _ (f : List ℕ) where
       short-list some ws A =
           as-test (lt-test room (length ws)) (λ h. (ws, A, h))
           (λ w. subst (λ (vs : List ℕ). room < length vs) (sets-only some (w .1) A) (w .2))
+
+  pub crowded-answered : (k : ℕ) → Answered (set-checks f k)
+  unfolding set-checks
+  crowded-answered k =
+      rw append-assoc
+      (past-given (line-checks (fileTable f) ++ _)
+      (λ S. line-answered (fileTable f) S _ (λ ws A. past-list (S .rows-low) ws A then none)))
+    where
+      past-list : 0 < fileTable f .rows → (ws : List ℕ) → Sets (fileTable f) ws
+          → Test ((vs : List ℕ) × Sets (fileTable f) vs × (length vs ≤ k))
+      past-list some ws A =
+          as-test (le-test (length ws) k) (λ h. (ws, A, h))
+          (λ w. subst (λ (vs : List ℕ). length vs ≤ k) (sets-only some (w .1) A) (w .2))
 
   pub planned-answered : (room : ℕ) → Answered (plan-checks (verdict-checks f) (fileTable f) room)
   unfolding plan-checks

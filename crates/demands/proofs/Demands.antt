@@ -27,6 +27,8 @@ use Rattle.demands.specs.Demands.{Demand-1, Demand-2, Demand-3, Demands}
 use Rattle.demands.proofs.Answered.{
   read-answered,
   written-answered,
+  met-answered,
+  crowded-answered,
   judged-answered,
   listed-answered,
   planned-answered,
@@ -40,6 +42,8 @@ first : Demand-1
 first = record {
   read = read-answered;
   written = written-answered;
+  met = met-answered;
+  crowded = crowded-answered;
   judged = judged-answered;
   listed = listed-answered;
   planned = planned-answered;
@@ -48,6 +52,8 @@ first = record {
   one = answers-only;
   read-refused = λ f was now number place elements rows c h. c .refused h;
   write-refused = λ elements rows xs was now number place c h. c .refused h;
+  met-refused = λ f i j number place word c h. c .refused h;
+  crowd-refused = λ f k number place rows segments c h. c .refused h;
   verdict-refused = λ f r c h. c .refused h;
   list-refused = λ f was now number place sets c h. c .refused h;
   plan-refused = λ f r was now c h. c .planned .refused h;
@@ -62,6 +68,8 @@ second = record {
   admits = demand-2;
   values = λ f r c h. c .done h;
   sets = λ f was now number place sets c h. c .done h;
+  met = λ f i j number place word c h. c .done h;
+  crowded = λ f k number place rows segments c h. c .done h;
   steps = λ f p r was now c h. c .stepped .done h;
   lags = qualify-by-lags;
   standings = λ f p r c h. c .stood .done h;

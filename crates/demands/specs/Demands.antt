@@ -3,13 +3,13 @@
 --
 --   Answered cs        some number and place answer the checks cs
 --   Demand-1           every input is answered, and a refusal changes nothing
---   Demand-2           verdict, loads, sets and standings are document 01's, and tables are read and written back
+--   Demand-2           verdict, loads, sets, shared segments and standings are the documents', and tables are read and written back
 --   Demand-3           every admitted table gets a plan that carries it
 --
--- Each call's contract (`Read`, `Written`, `IsVerdict`, `Listed`, `PlanAnswer`, `StepAnswer`, `StandingsAnswer`, `MovedInPlace`) relates
--- what the call is given to what it answers. That the call returns, and that its answer stands in this relation, is proved of its
--- function; a clause below speaks of every answer that the contract allows. `was` and `now` are what a lent slice holds before and after,
--- `f` is the file.
+-- Each call's contract (`Read`, `Written`, `Met`, `Crowded`, `IsVerdict`, `Listed`, `PlanAnswer`, `StepAnswer`, `StandingsAnswer`,
+-- `MovedInPlace`) relates what the call is given to what it answers. That the call returns, and that its answer stands in this relation, is
+-- proved of its function; a clause below speaks of every answer that the contract allows. `was` and `now` are what a lent slice holds
+-- before and after, `f` is the file.
 use mathlib.Core.Path.{_≡_}
 use mathlib.Core.Logic.{_↔_, _≢_}
 use mathlib.Core.List.{List}
@@ -18,8 +18,9 @@ use lib.IntN.{pos}
 use lib.ListN.{length, take, getD}
 use Rattle.numbers.specs.Lists.{at}
 use Rattle.rules.specs.Bounds.{max-rows}
+use Rattle.rules.specs.Bus.{shared, common}
 use Rattle.rules.specs.TableFile.{headerSize, rowSize, rowNumbers, fileTable}
-use Rattle.rules.specs.Line.{Sets}
+use Rattle.rules.specs.Line.{Sets, setAt}
 use Rattle.rules.specs.Loads.{start, end}
 use Rattle.rules.specs.Interval.{Qualify-by-lags}
 use Rattle.rules.specs.Planner as rules
@@ -28,13 +29,15 @@ use Rattle.rules.specs.Refusals.{
   Answers,
   reader-checks,
   writer-checks,
+  shared-checks,
+  set-checks,
   verdict-checks,
   sets-checks,
   plan-checks,
   step-checks,
   standings-checks,
 }
-use Rattle.rules.specs.Calls.{lent, Read, Written, Admitted, Listed, fileAsk}
+use Rattle.rules.specs.Calls.{lent, Read, Written, Met, Crowded, Admitted, Listed, fileAsk}
 use Rattle.table.specs.declared.Answer.{Answer}
 use Rattle.verdict.specs.declared.Verdict.{Verdict}
 use Rattle.verdict.specs.Verdict.{numberOf, cutOf, intervalOf, hyperOf, loadOf, setsOf, IsVerdict}
@@ -58,6 +61,8 @@ pub record Demand-1 : Type 1 where
   -- its list that applies, or 0 and 0 where none does.
   pub read : (f : List ℕ) (room : ℕ) → Answered (reader-checks f room)
   pub written : (elements rows : ℕ) (xs : List ℕ) (room : ℕ) → Answered (writer-checks elements rows xs room)
+  pub met : (f : List ℕ) (i j : ℕ) → Answered (shared-checks f i j)
+  pub crowded : (f : List ℕ) (k : ℕ) → Answered (set-checks f k)
   pub judged : (f : List ℕ) → Answered (verdict-checks f)
   pub listed : (f : List ℕ) (room : ℕ) → Answered (sets-checks f room)
   pub planned : (f : List ℕ) (room : ℕ) → Answered (plan-checks (verdict-checks f) (fileTable f) room)
@@ -70,6 +75,9 @@ pub record Demand-1 : Type 1 where
       → (elements ≡ 0) × (rows ≡ 0) × (now ≡ was)
   pub write-refused : (elements rows : ℕ) (xs was now : List ℕ) (number place : ℕ) → Written elements rows xs was now number place
       → number ≢ 0 → now ≡ was
+  pub met-refused : (f : List ℕ) (i j number place word : ℕ) → Met f i j number place word → number ≢ 0 → word ≡ 0
+  pub crowd-refused : (f : List ℕ) (k number place rows segments : ℕ) → Crowded f k number place rows segments → number ≢ 0
+      → (rows ≡ 0) × (segments ≡ 0)
   pub verdict-refused : (f : List ℕ) (r : Verdict) → IsVerdict f r → numberOf r ≢ 0
       → (cutOf r ≡ 0) × (intervalOf r ≡ 0) × (hyperOf r ≡ 0) × (loadOf r ≡ 0) × (setsOf r ≡ 0)
   pub list-refused : (f was now : List ℕ) (number place sets : ℕ) → Listed f was now number place sets → number ≢ 0
@@ -89,6 +97,10 @@ pub record Demand-2 : Type 1 where
   -- The list of sets is the document's list of the overlap sets.
   pub sets : (f was now : List ℕ) (number place sets : ℕ) → Listed f was now number place sets → number ≡ 0
       → (ws : List ℕ) × Sets (fileTable f) ws × (sets ≡ length ws) × (now ≡ lent ws was)
+  -- Two rows meet on the segments that both use, and the rows of an overlap set on those that all of them use (#102).
+  pub met : (f : List ℕ) (i j number place word : ℕ) → Met f i j number place word → number ≡ 0 → word ≡ shared (fileTable f) i j
+  pub crowded : (f : List ℕ) (k number place rows segments : ℕ) → Crowded f k number place rows segments → number ≡ 0
+      → (ws : List ℕ) × Sets (fileTable f) ws × (k < length ws) × (rows ≡ at ws k) × (segments ≡ common (fileTable f) (setAt ws k))
   -- A step is the document's: its loads are the greatest that qualify, its words are the loads' slots, and its totals are the slots had.
   pub steps : (f : List ℕ) (p : Planner) (r : MovedOn) (was now : List ℕ) → StepAnswer (fileAsk f) p r was now → r .answer .number ≡ 0
       → (ws : List ℕ) × rules.Step (fileTable f) (plannerOf p) (plannerOf (r .planner)) ws × (now ≡ lent ws was)
