@@ -22,7 +22,7 @@ abbrev hyper : tie.After-plan-by → ℕ
 hyper z = entry z .args .hyper
 
 abbrev plan : tie.After-plan-by → List ℕ
-plan z = take (hyper z) (z .plan-by .last .1 .0)
+plan z = take (hyper z) (z .plan-by .last .1 .1 .0)
 
 found : (z : tie.After-plan-by) → WholePlan (fileTable (file z)) (plan z) × (length (plan z) ≡ hyper z) × (hyper z ≤ max-slots)
 found z = planned (file z) (entry z .pre .0) (omega arith) (entry z .pre .1) (z .plan-by .ensures)
@@ -36,7 +36,7 @@ plan-by-requires c κs = search needs
 array-share-prefix-plan : tie.Need-array-share-prefix-plan
 array-share-prefix-plan c =
     let z = c .before in
-    omega (arith, length-take (hyper z) (z .plan-by .last .1 .0), found z .1)
+    omega (arith, length-take (hyper z) (z .plan-by .last .1 .1 .0), found z .1)
 
 slice-aggregate-put-slots : tie.Need-slice-aggregate-put-slots
 slice-aggregate-put-slots c = sym (found (c .before .before) .1)
