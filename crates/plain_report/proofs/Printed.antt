@@ -1,8 +1,7 @@
 -- The lines that `render` writes are those that the program prints, and only one answer fits.
-use mathlib.Core.Path.{_≡_, refl, sym, ap, ap₂, subst, _∙_}
-use mathlib.Core.Logic.{_≢_}
+use mathlib.Core.Path.{_≡_, sym, ap, ap₂, subst, _∙_}
 use mathlib.Core.List.{List, [], _∷_, _++_}
-use Prim.Native.Nat.{ℕ, _+_, _≤_, _<_}
+use Prim.Native.Nat.{ℕ, _+_}
 use native.Mathlib.Omega.{arith}
 use lib.ListN.{length}
 use lib.Seq.{sets}
@@ -10,7 +9,7 @@ use Rattle.rules.specs.Bounds.{max-slots}
 use Rattle.rules.specs.TableFile.{fileTable}
 use Rattle.rules.specs.Line as line
 use Rattle.rules.specs.Planner.{WholePlan}
-use Rattle.rules.specs.Refusals.{Answers, verdict-checks}
+use Rattle.rules.specs.Refusals.{verdict-checks}
 use Rattle.rules.specs.Text.{Line, text}
 use Rattle.rules.specs.Program.{verdict, slot-lines}
 use Rattle.rules.proofs.Answers.{answers-only}

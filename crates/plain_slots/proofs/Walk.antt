@@ -1,6 +1,5 @@
 -- The plain walk: rows are given their slots one after another, element by element.
 --
---   unsaid, said          what a test is that its `not` says
 --   cleared-more          one more word is 0
 --   Placing n f g i x l was s left now
 --                         row i goes through the slots: it has come to slot s, with `left` of its load to place
@@ -13,16 +12,15 @@
 --   coming-start, coming-end, along-start, along-more, along-end
 --                         no row has its slots; all have; the walk comes to an element; one more row there has; all there have
 use mathlib.Core.Path.{_≡_, refl, sym, ap, _∙_, subst}
-use mathlib.Core.Logic.{_⊎_, inl, inr, ⊎-elim}
+use mathlib.Core.Logic.{_⊎_, ⊎-elim}
 use mathlib.Core.List.{List}
-use mathlib.Core.Bool.{Bool, true, false, not, _&&_, _||_, or-false}
+use mathlib.Core.Bool.{Bool, true, false, _&&_, _||_, or-false}
 use Prim.Native.Nat.{ℕ, _+_, _-_, _^_, _≤_, _<_}
 use native.Mathlib.Omega.{arith}
 use lib.Bits.{bitOr}
 use lib.Dec.{T, ltb, eqb, eqb→eq}
 use lib.ListN.{length, set}
 use lib.Seq.{getD-set-same, getD-set-other}
-use Rattle.numbers.specs.Finite.{count}
 use Rattle.numbers.specs.Lists.{at}
 use Rattle.numbers.specs.Word.{bit}
 use Rattle.numbers.proofs.Truth.{fst, decide, is-true, is-false, along, eqb-of}
@@ -32,21 +30,11 @@ use Rattle.rules.specs.Interval.{before, free}
 use Rattle.rules.proofs.Interval.{chosen-eq}
 use Rattle.chains.specs.Chained.{Link}
 use Rattle.placing.specs.Filled.{Kept, FilledSlots}
-use Rattle.placing.proofs.Kept.{kept-none, kept-trans, kept-set}
+use Rattle.placing.proofs.Kept.{kept-none, kept-set}
 use Rattle.placing.proofs.Upto.{has, chosen, Upto, upto-none, upto-eq, upto-step, upto-words}
 use Rattle.placing.proofs.Scan.{within, within-is, within-of, Scan, scan-start, scan-skip, scan-take, scan-end}
 use Rattle.placing.proofs.Order.{taken, taken-ahead, taken-more, taken-skip, taken-next, taken-none, taken-all, free-among}
 use Rattle.plain_slots.specs.Plain.{isOpen, openAt, RowPlaced, Cleared}
-
--- ---- a test turned round
-
-pub unsaid : (b : Bool) → not b ≡ true → b ≡ false
-unsaid true q = sym q
-unsaid false q = refl
-
-pub said : (b : Bool) → not b ≡ false → b ≡ true
-said true q = refl
-said false q = sym q
 
 -- ---- clearing
 

@@ -12,7 +12,7 @@ use native.Mathlib.Omega.{arith}
 use lib.Dec.{T, leb, eqb, leb→le, le→leb, eqb→eq, eqb-refl}
 use Rattle.numbers.specs.Finite.{any}
 use Rattle.numbers.proofs.Truth.{both, fst, snd, orr, or-cases, refuted, refutes, same, along, of-false, le-or-lt}
-use Rattle.numbers.proofs.Finite.{any-of, any-eq, least}
+use Rattle.numbers.proofs.Finite.{any-of, least}
 use Rattle.rules.specs.Line.{meet}
 use Rattle.rules.specs.Interval.{before, free}
 use Rattle.rules.proofs.Interval.{before-le}

@@ -9,19 +9,18 @@
 --                         the turn begins, past slots that are not free; a stretch is not free; row i takes it; the turn is over, at the
 --                         last slot or with no load left
 --   walk-start, walk-end  no row is taken; all are
-use mathlib.Core.Path.{_≡_, refl, sym, ap, _∙_, subst}
-use mathlib.Core.Logic.{_⊎_, inl, inr, ⊎-elim}
+use mathlib.Core.Path.{_≡_, refl, sym, ap, _∙_}
+use mathlib.Core.Logic.{_⊎_, ⊎-elim}
 use mathlib.Core.List.{List}
 use mathlib.Core.Bool.{Bool, false, _&&_, _||_, or-false}
 use Prim.Native.Nat.{ℕ, _+_, _-_, _≤_, _<_}
-use native.Mathlib.Nat.{not-suc-le-zero}
 use native.Mathlib.Omega.{arith}
-use lib.Dec.{T, ltb, leb, eqb, ltb→lt, lt→ltb, eqb→eq}
+use lib.Dec.{T, ltb, leb, eqb}
 use lib.ListN.{length}
 use borrow.Author.Tests.{le-leb, lt-leb}
 use Rattle.numbers.specs.Lists.{at}
 use Rattle.numbers.specs.Word.{bit}
-use Rattle.numbers.proofs.Truth.{both, fst, snd, orl, orr, or-cases, decide, same, is-true, is-false, along, eqb-of, le-or-lt}
+use Rattle.numbers.proofs.Truth.{fst, decide, is-true, is-false, along, le-or-lt}
 use Rattle.numbers.proofs.Word.{bit-zero}
 use Rattle.rules.specs.Line.{meet}
 use Rattle.rules.specs.Interval.{before, free}

@@ -2,7 +2,6 @@
 use Prim.Native.Nat.{_-_, _≤_, _<_}
 use Rattle.chains.specs.Chained.{all-heads}
 use native.Mathlib.Omega.{arith}
-use borrow.Author.Needs.{needs}
 use Rattle.numbers.specs.Lists.{at}
 use Rattle.chains.specs.Chained.{ChainedFrom}
 use Rattle.chains.proofs.Chained.{chain-start, chain-more, chain-end}
