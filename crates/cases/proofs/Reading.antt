@@ -14,7 +14,7 @@ use Rattle.numbers.proofs.Lists.{drop-next}
 use Rattle.numbers.proofs.Truth.{is-true, is-false, le-or-lt}
 use Rattle.decimal.specs.Puts.{Puts}
 use Rattle.decimal.proofs.Puts.{puts-none, puts-more}
-use Rattle.cases.specs.Reading.{Found, largest, isDigit, grown, ended, numbersFrom, numbersIn}
+use Rattle.cases.specs.Reading.{FoundAt, largest, isDigit, grown, ended, numbersFrom, numbersIn}
 
 -- ---- digits
 
@@ -105,11 +105,11 @@ module _ {text was out : List ℕ} {i x k : ℕ} {o : Bool} (F : Front text was 
 -- ---- only one place fits
 
 -- a place where the byte stands is not before another first place
-not-before : {text : List ℕ} {from byte m n : ℕ} → Found text from byte m → Found text from byte n → n ≤ m
+not-before : {text : List ℕ} {from byte m n : ℕ} → FoundAt text from byte m → FoundAt text from byte n → n ≤ m
 not-before {text} {from} {byte} {m} {n} A B =
     ⊎-elim (λ (l : n ≤ m). l)
     (λ (l : m < n). absurd (B .none m (omega (arith, A .low, B .high)) l (A .there (omega (arith, B .high)))))
     (le-or-lt n m)
 
-pub found-only : {text : List ℕ} {from byte m n : ℕ} → Found text from byte m → Found text from byte n → m ≡ n
+pub found-only : {text : List ℕ} {from byte m n : ℕ} → FoundAt text from byte m → FoundAt text from byte n → m ≡ n
 found-only A B = omega (arith, not-before A B, not-before B A)

@@ -1,13 +1,13 @@
 -- What the reader of the case programs finds in a text.
 --
---   Found text from byte r    r is the first place at `from` or after it where the byte stands; the text's end where there is none
+--   FoundAt text from byte r    r is the first place at `from` or after it where the byte stands; the text's end where there is none
 --   isDigit b                 the byte is one of '0', .., '9'
 --   grown x b                 the number x with one digit more, 0 where the byte is none; no more than 64 bits hold
 --   ended e x                 the number x, where e says that it has ended
 --   numbersFrom o x bs        the numbers in bs, where a number that begins with x is open before it, if o says so
 --   numbersIn bs              the numbers in a text: whatever is no digit stands between them
 --
--- Only one place fits `Found` (proofs/Reading, `found-only`).
+-- Only one place fits `FoundAt` (proofs/Reading, `found-only`).
 use mathlib.Core.Path.{_≡_}
 use mathlib.Core.Logic.{_≢_}
 use mathlib.Core.List.{List, [], _∷_, _++_}
@@ -17,7 +17,7 @@ use lib.Dec.{leb}
 use lib.ListN.{length}
 use Rattle.numbers.specs.Lists.{at}
 
-pub record Found (text : List ℕ) (from byte r : ℕ) : Type 0 where
+pub record FoundAt (text : List ℕ) (from byte r : ℕ) : Type 0 where
   pub low : min from (length text) ≤ r
   pub high : r ≤ length text
   pub none : (k : ℕ) → from ≤ k → k < r → at text k ≢ byte

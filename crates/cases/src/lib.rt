@@ -9,7 +9,7 @@ ghost use Prim.Native.Nat.{_+_, _*_, _/_, _%_, _≤_, _<_, min};
 ghost use Rattle.numbers.specs.Lists.{at as item, each};
 ghost use Rattle.decimal.specs.Puts.{limit, Puts};
 ghost use Rattle.cases.specs.Tables.{low, high, rowBytes, fileBytes};
-ghost use Rattle.cases.specs.Reading.{Found, largest, isDigit, grown, ended, numbersIn};
+ghost use Rattle.cases.specs.Reading.{FoundAt, largest, isDigit, grown, ended, numbersIn};
 
 fn least(a: usize, b: usize) -> usize
     ensures { λ r. ⌜ r ≡ min a b ⌝ }
@@ -21,7 +21,7 @@ fn least(a: usize, b: usize) -> usize
 
 // The first place of `byte` in `text`, at `from` or after it; the end of the text where there is none.
 pub fn find(text: &[u8], from: usize, byte: u8) -> usize
-    ensures { λ r. ⌜ Found (now (text .entry)) from byte r ⌝ }
+    ensures { λ r. ⌜ FoundAt (now (text .entry)) from byte r ⌝ }
 {
     let mut i = least(from, text.len());
     while i < text.len() {

@@ -17,7 +17,7 @@ use Rattle.numbers.proofs.Word.{bit-zero, bit-and}
 use Rattle.flow.specs.declared.Arcs.{Arcs}
 use Rattle.flow.specs.Network.{Net, Circulation, Within, Put}
 use Rattle.flow.specs.Raised.{Pushed, Best}
-use Rattle.flow.specs.Way.{Step, Way, Shut, Toggled, With, Reached, Visited, Passed, Done, ByPlace, Wired, Narrow, Shown}
+use Rattle.flow.specs.Way.{Stride, Way, Shut, Toggled, With, Reached, Visited, Entered, Done, ByPlace, Wired, Narrow, Shown}
 use Rattle.flow.proofs.Network.{put, put-is, sum-put}
 use Rattle.flow.proofs.Cut.{closed-best}
 use Rattle.flow.proofs.Words.{or-left, or-not, or-same, or-right, and-both, and-left, one-of, unseen}
@@ -30,10 +30,10 @@ module _ (G : Net) (may : ℕ → Bool) (x : ℕ → ℕ) (s : ℕ) where
 
   module _ (seen seen' : ℕ → Bool) (x' : ℕ → ℕ) (v : ℕ) (wider : (u : ℕ) → seen u ≡ true → seen' u ≡ true)
       (w : Way G may seen x x' s v) where
-    same-or : (e : ℕ) → e < G .arcs → (x' e ≡ x e) ⊎ Step G may seen' x x' e
+    same-or : (e : ℕ) → e < G .arcs → (x' e ≡ x e) ⊎ Stride G may seen' x x' e
     same-or e l = go (w .arc e l)
       where
-        go : (x' e ≡ x e) ⊎ Step G may seen x x' e → (x' e ≡ x e) ⊎ Step G may seen' x x' e
+        go : (x' e ≡ x e) ⊎ Stride G may seen x x' e → (x' e ≡ x e) ⊎ Stride G may seen' x x' e
         go (inl q) = inl q
         go (inr t) = inr (record { free = t .free; begins = wider _ (t .begins); ends = wider _ (t .ends); one = t .one })
 
@@ -45,10 +45,10 @@ module _ (G : Net) (may : ℕ → Bool) (x : ℕ → ℕ) (s : ℕ) where
       -- the arcs after it is put to v
       arcs-put : (x'' : ℕ → ℕ) (u : ℕ) → Put x' c u x''
           → ((u ≡ x c + 1) × (x c < G .high c)) ⊎ ((x c ≡ u + 1) × (G .low c < x c))
-          → (e : ℕ) → e < G .arcs → (x'' e ≡ x e) ⊎ Step G may seen' x x'' e
+          → (e : ℕ) → e < G .arcs → (x'' e ≡ x e) ⊎ Stride G may seen' x x'' e
       arcs-put x'' u p o e k = go (ℕ-discrete e c) (same-or e k)
         where
-          go : Dec (e ≡ c) → (x' e ≡ x e) ⊎ Step G may seen' x x' e → (x'' e ≡ x e) ⊎ Step G may seen' x x'' e
+          go : Dec (e ≡ c) → (x' e ≡ x e) ⊎ Stride G may seen' x x' e → (x'' e ≡ x e) ⊎ Stride G may seen' x x'' e
           go (yes q) d = inr (rw q (record { free = m; begins = b; ends = h; one = rw (p .0) o }))
           go (no q) (inl d) = inl (p .1 e q ∙ d)
           go (no q) (inr d) =
@@ -92,7 +92,7 @@ module _ (G : Net) (may : ℕ → Bool) (x : ℕ → ℕ) (s : ℕ) where
       → (seen (G .tail c) ≡ false) ⊎ (seen (G .head c) ≡ false) → x' c ≡ x c
   way-fresh seen x' v c w l d = go (w .arc c l) d
     where
-      go : (x' c ≡ x c) ⊎ Step G may seen x x' c → (seen (G .tail c) ≡ false) ⊎ (seen (G .head c) ≡ false) → x' c ≡ x c
+      go : (x' c ≡ x c) ⊎ Stride G may seen x x' c → (seen (G .tail c) ≡ false) ⊎ (seen (G .head c) ≡ false) → x' c ≡ x c
       go (inl q) d = q
       go (inr t) (inl f) = absurd (true≢false (sym (t .begins) ∙ f))
       go (inr t) (inr f) = absurd (true≢false (sym (t .ends) ∙ f))
@@ -101,7 +101,7 @@ module _ (G : Net) (may : ℕ → Bool) (x : ℕ → ℕ) (s : ℕ) where
   pub way-kept : (seen : ℕ → Bool) (x' : ℕ → ℕ) (v c : ℕ) → Way G may seen x x' s v → c < G .arcs → may c ≡ false → x' c ≡ x c
   way-kept seen x' v c w l f = go (w .arc c l)
     where
-      go : (x' c ≡ x c) ⊎ Step G may seen x x' c → x' c ≡ x c
+      go : (x' c ≡ x c) ⊎ Stride G may seen x x' c → x' c ≡ x c
       go (inl q) = q
       go (inr t) = absurd (true≢false (sym (t .free) ∙ f))
 
@@ -115,7 +115,7 @@ module _ (G : Net) (may : ℕ → Bool) (x : ℕ → ℕ) (s : ℕ) where
       steps (inl o) = (λ k. omega (arith, o .0, o .1), λ k. omega (arith, o .0), λ k. omega (arith, o .0))
       steps (inr o) = (λ k. omega (arith, o .0), λ k. omega (arith, o .0, o .1), λ k. absurd (omega (arith, o .1)))
 
-      go : (x' c ≡ x c) ⊎ Step G may seen x x' c
+      go : (x' c ≡ x c) ⊎ Stride G may seen x x' c
           → (x c ≤ G .high c → x' c ≤ G .high c) × (G .low c ≤ x c → G .low c ≤ x' c) × (x c < G .low c → x c ≤ x' c)
       go (inl q) = (λ k. omega arith, λ k. omega arith, λ k. omega arith)
       go (inr t) = steps (t .one)
@@ -342,9 +342,9 @@ module _ (G : Net) (may : ℕ → Bool) (x : ℕ → ℕ) where
 -- ---- what a visit gives
 
 -- one place, by a set
-pub passed-visited : (m n k : ℕ) (on : Bool) (far : ℕ → ℕ) (p way seen seen' : ℕ) (by by' : ℕ → ℕ) → m ≤ n → far (n + k) ≡ p
-    → Passed on p way seen seen' by by' → Visited m (λ c. eqb c (n + k) && on) far way seen seen' by by'
-passed-visited m n k on far p way seen seen' by by' l f P = record {
+pub entered-visited : (m n k : ℕ) (on : Bool) (far : ℕ → ℕ) (p way seen seen' : ℕ) (by by' : ℕ → ℕ) → m ≤ n → far (n + k) ≡ p
+    → Entered on p way seen seen' by by' → Visited m (λ c. eqb c (n + k) && on) far way seen seen' by by'
+entered-visited m n k on far p way seen seen' by by' l f P = record {
   kept = P .kept;
   came = λ v e q.
       let w = P .came v e q in (
@@ -363,20 +363,20 @@ passed-visited m n k on far p way seen seen' by by' l f P = record {
     and-true false e = e
 
 module _ (seen : ℕ) (by : ℕ → ℕ) where
-  pub passed-seen : (p w : ℕ) → bit seen p ≡ true → Passed true p w seen seen by by
-  passed-seen p w q = record { kept = λ v e. (e, refl); came = λ v f t. absurd (true≢false (sym t ∙ f)); swept = λ _. q }
+  pub entered-seen : (p w : ℕ) → bit seen p ≡ true → Entered true p w seen seen by by
+  entered-seen p w q = record { kept = λ v e. (e, refl); came = λ v f t. absurd (true≢false (sym t ∙ f)); swept = λ _. q }
 
-  pub passed-not : (on : Bool) (p w : ℕ) → on ≡ false → Passed on p w seen seen by by
-  passed-not on p w q =
+  pub entered-not : (on : Bool) (p w : ℕ) → on ≡ false → Entered on p w seen seen by by
+  entered-not on p w q =
       record { kept = λ v e. (e, refl); came = λ v f t. absurd (true≢false (sym t ∙ f)); swept = λ t. absurd (true≢false (sym t ∙ q)) }
 
-  pub passed-on : (on : Bool) (p w seen' : ℕ) (by' : ℕ → ℕ) → on ≡ true → Passed true p w seen seen' by by' → Passed on p w seen seen' by
+  pub entered-on : (on : Bool) (p w seen' : ℕ) (by' : ℕ → ℕ) → on ≡ true → Entered true p w seen seen' by by' → Entered on p w seen seen' by
       by'
-  passed-on on p w seen' by' e P = rw e P
+  entered-on on p w seen' by' e P = rw e P
 
-  pub passed-new : (p w seen' : ℕ) (by' : ℕ → ℕ) → bit seen p ≡ false → ((v : ℕ) → bit seen' v ≡ (bit seen v || eqb v p)) → Put by p w by'
-      → Passed true p w seen seen' by by'
-  passed-new p w seen' by' f one pt = record {
+  pub entered-new : (p w seen' : ℕ) (by' : ℕ → ℕ) → bit seen p ≡ false → ((v : ℕ) → bit seen' v ≡ (bit seen v || eqb v p)) → Put by p w by'
+      → Entered true p w seen seen' by by'
+  entered-new p w seen' by' f one pt = record {
     kept = λ v e. (one v ∙ or-left (bit seen v) _ e, pt .1 v (λ q. true≢false (sym e ∙ ap (bit seen) q ∙ f)));
     came = λ v e t. go v e t (ℕ-discrete v p);
     swept = λ _. one p ∙ or-right (bit seen p) (eqb p p) (eq-eqb p p refl);
@@ -397,7 +397,7 @@ module _ (rows : ℕ) (far : ℕ → ℕ) (way seen : ℕ) (by : ℕ → ℕ) wh
 
   pub visit-next : (done done' i w seen' seen'' : ℕ) (by' by'' : ℕ → ℕ) → Visited 64 (bit done) far way seen seen' by by'
       → ((v : ℕ) → bit done' v ≡ (bit done v || eqb v i)) → ((e : ℕ) → bit w e ≡ (bit way e || eqb e i))
-      → Passed true (far i) w seen' seen'' by' by'' → Visited 64 (bit done') far way seen seen'' by by''
+      → Entered true (far i) w seen' seen'' by' by'' → Visited 64 (bit done') far way seen seen'' by by''
   visit-next done done' i w seen' seen'' by' by'' Z one j P = record {
     kept = λ v e. let a = Z .kept v e in let b = P .kept v (a .0) in (b .0, b .1 ∙ a .1);
     came = λ v f t. go v f t (bit seen' v) refl;
@@ -427,9 +427,9 @@ visited-line K m go far way seen seen' by by' Z on line v q = by-case (bit seen 
     by-case true e = line v e
     by-case false e = let w = Z .came v e q in omega (arith, on (w .0) (w .1), w .2)
 
-passed-line : (K : ℕ) (on : Bool) (p way seen seen' : ℕ) (by by' : ℕ → ℕ) → Passed on p way seen seen' by by' → (on ≡ true → p ≤ K)
+entered-line : (K : ℕ) (on : Bool) (p way seen seen' : ℕ) (by by' : ℕ → ℕ) → Entered on p way seen seen' by by' → (on ≡ true → p ≤ K)
     → ((v : ℕ) → bit seen v ≡ true → v ≤ K) → (v : ℕ) → bit seen' v ≡ true → v ≤ K
-passed-line K on p way seen seen' by by' Z l line v q = by-case (bit seen v) refl
+entered-line K on p way seen seen' by by' Z l line v q = by-case (bit seen v) refl
   where
     by-case : (b : Bool) → bit seen v ≡ b → v ≤ K
     by-case true e = line v e
@@ -464,11 +464,11 @@ module _ (n K : ℕ) (tail head out into : ℕ → ℕ) (W : Wired n K tail head
   pub leave-line : (A : Arcs) (N : Narrow K A) (u way seen one two three four : ℕ) (by by1 by2 by3 by4 : ℕ → ℕ) → u ≤ K
       → Visited 64 (bit (bitAnd (out u) (A .up))) head way seen one by by1 → Visited 64 (bit (bitAnd (into u) (A .down))) tail way one
       two by1 by2
-      → Passed (bit (A .more) u) (u - 1) way two three by2 by3 → Passed (bit (A .less) u) (u + 1) way three four by3 by4
+      → Entered (bit (A .more) u) (u - 1) way two three by2 by3 → Entered (bit (A .less) u) (u + 1) way three four by3 by4
       → ((v : ℕ) → bit seen v ≡ true → v ≤ K) → (v : ℕ) → bit four v ≡ true → v ≤ K
   leave-line A N u way seen one two three four by by1 by2 by3 by4 ul a b c d line =
-      passed-line K (bit (A .less) u) (u + 1) way three four by3 by4 d (λ q. omega (arith, N .less u q))
-      (passed-line K (bit (A .more) u) (u - 1) way two three by2 by3 c (λ q. omega arith)
+      entered-line K (bit (A .less) u) (u + 1) way three four by3 by4 d (λ q. omega (arith, N .less u q))
+      (entered-line K (bit (A .more) u) (u - 1) way two three by2 by3 c (λ q. omega arith)
       (visited-line K 64 (bit (bitAnd (into u) (A .down))) tail way one two by1 by2 b
       (λ i q. W .ends i (into-place u i (A .down) ul q .0) .0)
       (visited-line K 64 (bit (bitAnd (out u) (A .up))) head way seen one by by1 a (λ i q. W .ends i (out-place u i (A .up) ul q .0) .1)
@@ -478,8 +478,8 @@ module _ (n K : ℕ) (tail head out into : ℕ → ℕ) (W : Wired n K tail head
       (u way seen one two three four : ℕ) (by by1 by2 by3 by4 : ℕ → ℕ) (ul : u ≤ K) (us : bit seen u ≡ true) (wu : way ≡ by u)
       (a : Visited 64 (bit (bitAnd (out u) (A .up))) head way seen one by by1)
       (b : Visited 64 (bit (bitAnd (into u) (A .down))) tail way one two by1 by2)
-      (c : Passed (bit (A .more) u) (u - 1) way two three by2 by3)
-      (d : Passed (bit (A .less) u) (u + 1) way three four by3 by4) where
+      (c : Entered (bit (A .more) u) (u - 1) way two three by2 by3)
+      (d : Entered (bit (A .less) u) (u + 1) way three four by3 by4) where
     up-one : bit one u ≡ true
     up-one = a .kept u us .0
 
@@ -494,10 +494,10 @@ module _ (n K : ℕ) (tail head out into : ℕ → ℕ) (W : Wired n K tail head
 
     -- the sets at u, as arcs
     down-set : Visited n (λ e. eqb e (n + (u - 1)) && bit (A .more) u) (λ e. e - n) way two three by2 by3
-    down-set = passed-visited n n (u - 1) (bit (A .more) u) (λ e. e - n) (u - 1) way two three by2 by3 (omega arith) (omega arith) c
+    down-set = entered-visited n n (u - 1) (bit (A .more) u) (λ e. e - n) (u - 1) way two three by2 by3 (omega arith) (omega arith) c
 
     up-set : Visited n (λ e. eqb e (n + u) && bit (A .less) u) (λ e. suc (e - n)) way three four by3 by4
-    up-set = passed-visited n n u (bit (A .less) u) (λ e. suc (e - n)) (u + 1) way three four by3 by4 (omega arith) (omega arith) d
+    up-set = entered-visited n n u (bit (A .less) u) (λ e. suc (e - n)) (u + 1) way three four by3 by4 (omega arith) (omega arith) d
 
     pub leave-reached : Reached n G may x s seen by → Reached n G may x s four by4
     leave-reached R =

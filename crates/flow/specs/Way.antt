@@ -1,8 +1,8 @@
 -- Ways: one more is brought from one place to another, by arcs that take one more or one less. The first n arcs are rows, which carry 0
 -- or 1; the K arcs after them are sets, each from a place to the one before it.
 --
---   Step G may seen x x' e     arc e, which may change and lies between seen places, carries one more or one less, within its bounds
---   Way G may seen x x' s v    x' brings one more from place s to place v than x, by such steps; the other arcs carry what they did
+--   Stride G may seen x x' e   arc e, which may change and lies between seen places, carries one more or one less, within its bounds
+--   Way G may seen x x' s v    x' brings one more from place s to place v than x, by such strides; the other arcs carry what they did
 --   Shut G may seen x          no arc that may change leads out of the seen places
 --   Toggled n w x x'           of the first n arcs, those in the word w carry their other digit
 --   With n w c w'              the word w' is w with c, as far as the first n bits go
@@ -10,7 +10,7 @@
 --   Done G may x seen done     no arc that may change leads from places that are done out of the seen ones
 --   Visited n go far way seen seen' by by'
 --                              the far ends of the arcs in `go` are now seen, each by the way and the arc
---   Passed on p way seen seen' by by'
+--   Entered on p way seen seen' by by'
 --                              place p, if `on` says so, is now seen, by the way
 --   ByPlace n K end words      words v are the rows that have their end at place v
 --   Wired n K tail head out into
@@ -32,7 +32,7 @@ use Rattle.flow.specs.declared.Arcs.{Arcs}
 
 -- ---- ways
 
-pub record Step (G : Net) (may seen : ℕ → Bool) (x x' : ℕ → ℕ) (e : ℕ) : Type 0 where
+pub record Stride (G : Net) (may seen : ℕ → Bool) (x x' : ℕ → ℕ) (e : ℕ) : Type 0 where
   pub free : may e ≡ true
   pub begins : seen (G .tail e) ≡ true
   pub ends : seen (G .head e) ≡ true
@@ -41,7 +41,7 @@ pub record Step (G : Net) (may seen : ℕ → Bool) (x x' : ℕ → ℕ) (e : �
 pub record Way (G : Net) (may seen : ℕ → Bool) (x x' : ℕ → ℕ) (s v : ℕ) : Type 0 where
   pub owed : (r : ℕ → Bool)
       → sumIn (G .arcs) (λ e. r (G .tail e)) x' + only (r v) 1 ≡ sumIn (G .arcs) (λ e. r (G .head e)) x' + only (r s) 1
-  pub arc : (e : ℕ) → e < G .arcs → (x' e ≡ x e) ⊎ Step G may seen x x' e
+  pub arc : (e : ℕ) → e < G .arcs → (x' e ≡ x e) ⊎ Stride G may seen x x' e
 
 pub record Shut (G : Net) (may seen : ℕ → Bool) (x : ℕ → ℕ) : Type 0 where
   pub ahead : (e : ℕ) → e < G .arcs → may e ≡ true → seen (G .tail e) ≡ true → seen (G .head e) ≡ false → G .high e ≤ x e
@@ -69,7 +69,7 @@ pub record Visited (n : ℕ) (go : ℕ → Bool) (far : ℕ → ℕ) (way seen s
   pub came : (v : ℕ) → bit seen v ≡ false → bit seen' v ≡ true → (c : ℕ) × (go c ≡ true) × (far c ≡ v) × With n way c (by' v)
   pub swept : (c : ℕ) → go c ≡ true → bit seen' (far c) ≡ true
 
-pub record Passed (on : Bool) (p way seen seen' : ℕ) (by by' : ℕ → ℕ) : Type 0 where
+pub record Entered (on : Bool) (p way seen seen' : ℕ) (by by' : ℕ → ℕ) : Type 0 where
   pub kept : (v : ℕ) → bit seen v ≡ true → (bit seen' v ≡ true) × (by' v ≡ by v)
   pub came : (v : ℕ) → bit seen v ≡ false → bit seen' v ≡ true → (on ≡ true) × (v ≡ p) × (by' v ≡ way)
   pub swept : on ≡ true → bit seen' p ≡ true

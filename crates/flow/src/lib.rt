@@ -18,7 +18,7 @@ ghost use lib.ListN.{length};
 ghost use Rattle.numbers.specs.Lists.{at};
 ghost use Rattle.numbers.specs.Word.{bit};
 ghost use Rattle.flow.specs.Network.{places-most, Net, Circulation};
-ghost use Rattle.flow.specs.Way.{Wired, Narrow, Shown, Visited, Passed, Sought};
+ghost use Rattle.flow.specs.Way.{Wired, Narrow, Shown, Visited, Entered, Sought};
 
 // A line of so many sets has one place more.
 pub const PLACES: usize = Table::ELEMENTS + 1;
@@ -33,7 +33,7 @@ pub struct Arcs {
 }
 
 // Whether there is a way, and the rows that are toggled on it.
-pub struct Found {
+pub struct Outcome {
     pub found: bool,
     pub rows: u64,
 }
@@ -49,7 +49,7 @@ pub fn pick(v: u64, w: u64) -> usize
 // The places seen, with place p, which is reached by a way that toggles w unless it was seen before.
 fn reach(p: usize, w: u64, seen: u64, by: &mut [u64; PLACES]) -> u64
     requires { ⌜ (p < places-most) × (length (now by) ≡ places-most) ⌝ }
-    ensures { λ r. ⌜ (length (now (by .exit)) ≡ places-most) × Passed true p w seen r (at (now (by .entry))) (at (now (by .exit))) ⌝ }
+    ensures { λ r. ⌜ (length (now (by .exit)) ≡ places-most) × Entered true p w seen r (at (now (by .entry))) (at (now (by .exit))) ⌝ }
 {
     if (seen >> p) % 2 == 1 {
         return seen;
@@ -79,7 +79,7 @@ fn visit(far: &[u8; Table::ROWS], rows: u64, way: u64, seen: u64, by: &mut [u64;
 fn step_down(more: u64, u: usize, way: u64, seen: u64, by: &mut [u64; PLACES]) -> u64
     requires { ⌜ (u < places-most) × (bit more u ≡ true → 0 < u) × (length (now by) ≡ places-most) ⌝ }
     ensures { λ r. ⌜ (length (now (by .exit)) ≡ places-most)
-        × Passed (bit more u) (u - 1) way seen r (at (now (by .entry))) (at (now (by .exit))) ⌝ }
+        × Entered (bit more u) (u - 1) way seen r (at (now (by .entry))) (at (now (by .exit))) ⌝ }
 {
     if (more >> u) % 2 == 0 {
         return seen;
@@ -91,7 +91,7 @@ fn step_down(more: u64, u: usize, way: u64, seen: u64, by: &mut [u64; PLACES]) -
 fn step_up(less: u64, u: usize, way: u64, seen: u64, by: &mut [u64; PLACES]) -> u64
     requires { ⌜ (u < places-most) × (bit less u ≡ true → u + 1 < places-most) × (length (now by) ≡ places-most) ⌝ }
     ensures { λ r. ⌜ (length (now (by .exit)) ≡ places-most)
-        × Passed (bit less u) (u + 1) way seen r (at (now (by .entry))) (at (now (by .exit))) ⌝ }
+        × Entered (bit less u) (u + 1) way seen r (at (now (by .entry))) (at (now (by .exit))) ⌝ }
 {
     if (less >> u) % 2 == 0 {
         return seen;
@@ -109,7 +109,7 @@ pub fn find_way(
     arcs: Arcs,
     s: usize,
     t: usize,
-) -> Found
+) -> Outcome
     requires { ⌜ ((n : ℕ) × (K : ℕ) × Wired n K (at (now tail)) (at (now head)) (at (now out)) (at (now into)) × Narrow K arcs
         × (s ≤ K) × (t ≤ K)) ⌝ }
     ensures { λ r. ⌜ ((n K : ℕ) (G : Net) (may : ℕ → Bool) (x : ℕ → ℕ)
@@ -123,7 +123,7 @@ pub fn find_way(
     let mut done: u64 = 0;
     while seen != done {
         if (seen >> t) % 2 == 1 {
-            return Found {
+            return Outcome {
                 found: true,
                 rows: by[t],
             };
@@ -136,7 +136,7 @@ pub fn find_way(
         seen = step_up(arcs.less, u, way, lower, &mut by);
         done = done | (1u64 << u);
     }
-    Found {
+    Outcome {
         found: (seen >> t) % 2 == 1,
         rows: by[t],
     }

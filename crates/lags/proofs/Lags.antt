@@ -15,7 +15,7 @@ use Rattle.numbers.proofs.Finite.{sumIn-eq, sumIn-add, sumIn-scaled, sum-zero, 
 use Rattle.numbers.proofs.Rounding.{rounded-is, rounded-of, rounded-scaled, rounded-whole, rounded-shift}
 use Rattle.rules.specs.Bus.{Table, overlap}
 use Rattle.rules.specs.Line.{OverlapSet}
-use Rattle.rules.specs.Loads.{hyperperiod, shortest, start, end, intervals, rate, share, load, equalPeriods, light, over}
+use Rattle.rules.specs.Loads.{hyperperiod, shortest, start, end, intervals, rate, share, load, equalPeriods, light, past, over}
 use Rattle.rules.specs.Interval.{Qualify}
 use Rattle.table.specs.Sound.{Sound}
 use Rattle.lags.specs.Lags.{Admissible, lag, Steady}
@@ -85,7 +85,7 @@ module _ {t : Table} (A : Admissible t) where
 
     -- a set's share grows by L − 1 slots or less in L slots
     load-bound : (D : ℕ → Bool) → OverlapSet (t .rows) (overlap t) D → load t D * shortest t ≤ (shortest t - 1) * hyperperiod t
-    unfolding over
+    unfolding past over
     load-bound D o =
         ⊎-elim (λ h. h)
         (λ lt. absurd (A .bounded D o (rw (is-false (equalPeriods t) differ) (lt→ltb _ _ lt))))
@@ -118,7 +118,7 @@ module _ {t : Table} (A : Admissible t) where
         ap (start t) e ∙ start-first (A .sound)
 
     equal-bound : (D : ℕ → Bool) → OverlapSet (t .rows) (overlap t) D → load t D ≤ hyperperiod t
-    unfolding over
+    unfolding past over
     equal-bound D o =
         ⊎-elim (λ h. h)
         (λ lt. absurd (A .bounded D o (rw (is-true (equalPeriods t) equal) (lt→ltb _ _ lt))))

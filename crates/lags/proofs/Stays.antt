@@ -9,7 +9,7 @@ use lib.Dec.{T, ltb, ltb→lt, lt→ltb}
 use Rattle.numbers.proofs.Truth.{both, fst, snd, le-or-lt}
 use Rattle.numbers.proofs.Divisors.{gcd-divides, gcd-positive}
 use Rattle.rules.specs.Bus.{Table}
-use Rattle.rules.specs.Loads.{hyperperiod, shortest, load, equalPeriods, light, overOne, over}
+use Rattle.rules.specs.Loads.{hyperperiod, shortest, load, equalPeriods, light, past, over}
 use Rattle.table.specs.Sound.{Sound}
 use Rattle.lags.specs.Stays.{common, lightBefore, overBefore, Stays}
 use Rattle.lags.proofs.Intervals.{period-positive, shortest-positive, shortest-gcd}
@@ -46,7 +46,7 @@ module _ {t : Table} (S : Sound t) where
       omega (arith, ap (λ (k : ℕ). x * k) e, ap (λ (k : ℕ). k * h) f, mul-le-mul-right d small)
 
   over-before : (D : ℕ → Bool) → T (over t D) → T (overBefore t D)
-  unfolding over
+  unfolding past over
   over-before D =
       go (equalPeriods t)
     where
@@ -56,17 +56,17 @@ module _ {t : Table} (S : Sound t) where
       then : Bool
       then = ltb ((common t - 1) * hyperperiod t) (load t D * common t)
 
-      past : T now → T then
-      past k =
+      more : T now → T then
+      more k =
           ⊎-elim
           (λ (a : load t D * common t ≤ (common t - 1) * hyperperiod t).
           absurd (omega (arith, within (load t D) a, ltb→lt ((shortest t - 1) * hyperperiod t) (load t D * shortest t) k)))
           (λ a. lt→ltb ((common t - 1) * hyperperiod t) (load t D * common t) a)
           (le-or-lt (load t D * common t) ((common t - 1) * hyperperiod t))
 
-      go : (b : Bool) → T (cond b (overOne t D) now) → T (cond b (overOne t D) then)
+      go : (b : Bool) → T (cond b (ltb (hyperperiod t) (load t D)) now) → T (cond b (ltb (hyperperiod t) (load t D)) then)
       go true k = k
-      go false k = past k
+      go false k = more k
 
 pub stays : Stays
 stays t S = (light-before S, over-before S)

@@ -13,7 +13,7 @@ use Rattle.rules.specs.Refusals.{Answers, line-checks}
 use Rattle.rules.proofs.Answers.{answered}
 use Rattle.table.specs.declared.Answer.{Answer}
 use Rattle.table.proofs.ByRow.{by-row-only}
-use Rattle.sets.specs.Sets.{OnLine, Listed}
+use Rattle.sets.specs.Sets.{OnLine, SetWords}
 use Rattle.outline.specs.declared.Layout.{Layout}
 use Rattle.outline.specs.declared.Outline.{Outline}
 use Rattle.outline.specs.Layout.{Lies, noLayout, LaidOut}
@@ -60,7 +60,7 @@ module _ {t : Table} {l : Layout} (A : LaidOut t l) where
     pub lies-on-line : OnLine (t .rows) (at (l .line .first)) (at (l .line .second)) (t .elements + 1)
     lies-on-line = let L = A .found z in ends-on-line t (L .timed .sound) (L .clear) _ _ lies-ends
 
-    pub outlined-laid : (k : ℕ) (ws : List ℕ) → Listed (t .rows) (at (l .line .first)) (at (l .line .second)) k ws
+    pub outlined-laid : (k : ℕ) (ws : List ℕ) → SetWords (t .rows) (at (l .line .first)) (at (l .line .second)) k ws
         → Outlined (line-checks t) t (withSets t l k ws)
     outlined-laid k ws S = let L = A .found z in record {
       answers = A .answers;

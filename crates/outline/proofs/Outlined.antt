@@ -31,8 +31,8 @@ use Rattle.rules.proofs.Answers.{
 use Rattle.rules.proofs.Sets.{sets-only}
 use Rattle.table.specs.Sound.{Passed}
 use Rattle.ring.proofs.Cut.{cut-high, cut-none}
-use Rattle.sets.specs.Sets.{OnLine, Listed}
-use Rattle.sets.proofs.Listed.{listed-only}
+use Rattle.sets.specs.Sets.{OnLine, SetWords}
+use Rattle.sets.proofs.SetWords.{set-words-only}
 use Rattle.table.specs.declared.Answer.{Answer}
 use Rattle.table.proofs.ByRow.{by-row-only}
 use Rattle.outline.specs.declared.Outline.{Outline}
@@ -145,8 +145,8 @@ module _ {t : Table} {o : Outline} (F : Found t o) where
     pub found-on-line : OnLine (t .rows) first second (t .elements + 1)
     found-on-line = ends-on-line t (F .timed .sound) (F .clear) first second ends
 
-    pub found-listed : Listed (t .rows) first second (o .sets) (o .words)
-    found-listed = record {
+    pub found-words : SetWords (t .rows) first second (o .sets) (o .words)
+    found-words = record {
       size = F .size;
       few = F .few;
       sets = line-list t (F .timed .sound) (F .clear) first second ends (take (o .sets) (o .words)) (F .list);
@@ -159,8 +159,8 @@ pub found-only : {t : Table} {o u : Outline} → o .answer ≡ u .answer → Fou
 found-only {t} {o} {u} e F G =
     let ends = own-ends t in
     let w =
-    listed-only (found-on-line F (lineFirst t) (lineSecond t) ends)
-    (found-listed F (lineFirst t) (lineSecond t) ends) (found-listed G (lineFirst t) (lineSecond t) ends) in
+    set-words-only (found-on-line F (lineFirst t) (lineSecond t) ends)
+    (found-words F (lineFirst t) (lineSecond t) ends) (found-words G (lineFirst t) (lineSecond t) ends) in
     λ k. record {
       answer = e k;
       elements = (F .elements ∙ sym (G .elements)) k;

@@ -14,24 +14,26 @@ use Rattle.rules.specs.Text.{Line, text}
 use Rattle.rules.specs.Program.{verdict, slot-lines}
 use Rattle.rules.proofs.Answers.{answers-only}
 use Rattle.rules.proofs.Plans.{plan-only}
+use Rattle.table.specs.declared.Answer.{Answer}
 use Rattle.verdict.specs.declared.Verdict.{Verdict}
 use Rattle.verdict.specs.declared.Verdict.the-variants.{Admitted, Refused}
 use Rattle.verdict.specs.Verdict.{numberOf, placeOf, IsVerdict}
 use Rattle.decimal.specs.Puts.{Puts, PutsLine, PutsLines}
 use Rattle.decimal.proofs.Puts.{puts-more}
 use Rattle.decimal.proofs.Text.{text-join, text-one}
-use Rattle.report.proofs.Printed.{refusal, refuses, admits}
+use Rattle.verdict.proofs.Judging.{refused-number}
+use Rattle.report.proofs.Printed.{refusal, admits}
 use Rattle.plain_report.specs.Printed.{PlainPrinted, refused, admitted, PlainRendered}
 
 module _ (f : List ℕ) (r : Verdict) (J : IsVerdict f r) where
-  pub rendered-refused : (n p : ℕ) → n ≡ numberOf r → p ≡ placeOf r → (m q : ℕ) → r ≡ Refused m q → {was now : List ℕ} {size : ℕ}
+  pub rendered-refused : (n p : ℕ) → n ≡ numberOf r → p ≡ placeOf r → (x : Answer) → r ≡ Refused x → {was now : List ℕ} {size : ℕ}
       → PutsLine (verdict n p) was 0 now size → PlainRendered f was now size
-  rendered-refused n p en ep m q e F =
-      let z : n ≡ m = en ∙ ap numberOf e in
-      let y : p ≡ q = ep ∙ ap placeOf e in
+  rendered-refused n p en ep x e F =
+      let z : n ≡ x .number = en ∙ ap numberOf e in
+      let y : p ≡ x .place = ep ∙ ap placeOf e in
       record {
         lines = verdict n p ∷ [];
-        printed = rw (z, y) (refused m q (refusal f r J m q e .answers) (refuses f r J m q e));
+        printed = rw (z, y) (refused (x .number) (x .place) (refusal f r J x e .answers) (refused-number f x (refusal f r J x e)));
         puts = rw (text-one (verdict n p)) (F .0);
         fits = omega (arith, F .1);
       }

@@ -1,6 +1,6 @@
 -- The lines that `render` writes are those that the program prints.
 use mathlib.Core.Path.{_≡_, refl, sym, ap, subst, _∙_}
-use mathlib.Core.Logic.{⊎-elim, _≢_}
+use mathlib.Core.Logic.{⊎-elim}
 use mathlib.Core.List.{List, [], _∷_, _++_}
 use Prim.Native.Nat.{ℕ, _≤_, _<_, min}
 use native.Mathlib.Omega.{arith}
@@ -10,7 +10,6 @@ use Rattle.numbers.proofs.Truth.{le-or-lt}
 use Rattle.rules.specs.Bounds.{max-rows, max-slots}
 use Rattle.rules.specs.TableFile.{fileTable}
 use Rattle.rules.specs.Line.{Sets}
-use Rattle.rules.specs.Line as line
 use Rattle.rules.specs.Loads.{hyperperiod, reported}
 use Rattle.rules.specs.Planner.{WholePlan}
 use Rattle.rules.specs.Refusals.{Answers, given-checks, line-checks, bound-checks, verdict-checks, sets-checks, plan-checks}
@@ -23,6 +22,7 @@ use Rattle.verdict.specs.declared.Verdict.{Verdict}
 use Rattle.verdict.specs.declared.Verdict.the-variants.{Admitted, Refused}
 use Rattle.verdict.specs.Verdict.{numberOf, placeOf, IsVerdict}
 use Rattle.verdict.proofs.Bound.{verdict-numbered, admissible-of, sets-exist}
+use Rattle.verdict.proofs.Judging.{refused-number}
 use Rattle.promises.proofs.Demands.{plan-size}
 use Rattle.table.specs.declared.Answer.{Answer}
 use Rattle.planner.specs.Answers.{PlanAnswer}
@@ -90,14 +90,9 @@ read-input input k e =
 
 -- the verdict r on the file f, and its line
 module _ (f : List ℕ) (r : Verdict) (J : IsVerdict f r) where
-  module _ (m q : ℕ) (e : r ≡ Refused m q) where
-    pub refusal : IsVerdict f (Refused m q)
+  module _ (x : Answer) (e : r ≡ Refused x) where
+    pub refusal : IsVerdict f (Refused x)
     refusal = subst (λ (v : Verdict). IsVerdict f v) e J
-
-    -- a table that is admitted has a cut
-    pub refuses : m ≢ 0
-    unfolding line.cut
-    refuses z = omega (arith, refusal .done z .cut-is)
 
   module _ (c l h x s : ℕ) (e : r ≡ Admitted c l h x s) where
     admission : IsVerdict f (Admitted c l h x s)
@@ -110,11 +105,11 @@ module _ (f : List ℕ) (r : Verdict) (J : IsVerdict f r) where
     hyper-is = admission .done refl .hyper-is
 
   module _ (input : List ℕ) (i : f ≡ take max-input input) (n p : ℕ) (en : n ≡ numberOf r) (ep : p ≡ placeOf r) where
-    printed-refused : (m q : ℕ) → r ≡ Refused m q → Printed input (verdict n p ∷ [])
-    printed-refused m q e =
-        let z : n ≡ m = en ∙ ap numberOf e in
-        let y : p ≡ q = ep ∙ ap placeOf e in
-        rw (z, y) (refused m q (rw i at (refusal m q e .answers)) (refuses m q e))
+    printed-refused : (x : Answer) → r ≡ Refused x → Printed input (verdict n p ∷ [])
+    printed-refused x e =
+        let z : n ≡ x .number = en ∙ ap numberOf e in
+        let y : p ≡ x .place = ep ∙ ap placeOf e in
+        rw (z, y) (refused (x .number) (x .place) (rw i at (refusal x e .answers)) (refused-number f x (refusal x e)))
 
     printed-admitted : (c l h x s : ℕ) → r ≡ Admitted c l h x s → (ws plan : List ℕ)
         → Sets (fileTable f) ws → WholePlan (fileTable f) plan
@@ -129,10 +124,10 @@ module _ (f : List ℕ) (r : Verdict) (J : IsVerdict f r) where
         (admitted (fileTable f) ws plan (ap fileTable i) (rw i at a) S W)
 
     module _ {was one : List ℕ} {a : ℕ} (F : PutsLine (verdict n p) was 0 one a) where
-      pub rendered-refused : (m q : ℕ) → r ≡ Refused m q → Rendered input was one a
-      rendered-refused m q e = record {
+      pub rendered-refused : (x : Answer) → r ≡ Refused x → Rendered input was one a
+      rendered-refused x e = record {
         lines = verdict n p ∷ [];
-        printed = printed-refused m q e;
+        printed = printed-refused x e;
         puts = rw (text-one (verdict n p)) (F .0);
         fits = omega (arith, F .1);
       }

@@ -23,7 +23,7 @@ use Rattle.rules.specs.Bus.{Table, steps, uses, through, overlap, pasted
 use Rattle.rules.specs.TableFile.{bytes}
 use Rattle.rules.specs.Line.{clear, cut, onLine, lineFirst, lineSecond, Sets}
 use Rattle.rules.specs.Loads.{hyperperiod, jobEnd, nextEnd, start, end, intervals, someInterval, shortest}
-use Rattle.rules.specs.Loads.{rate, share, equalPeriods, light, over, reported}
+use Rattle.rules.specs.Loads.{rate, share, equalPeriods, light, past, over, reported}
 use Rattle.rules.specs.Interval.{lag, before, hinders, free}
 use Rattle.rules.specs.Planner.{Stage, due, finished, none, more, reached, Off, standing, WholePlan}
 use Rattle.rules.specs.Refusals.{header-checks, row-checks, file-checks, pasted-checks, given-checks}
@@ -39,7 +39,7 @@ use Rattle.rules.proofs.Plans.{run-more}
 -- All that computes below: an `unfolding` line that names it opens all that its own line names.
 computing : Unit {0}
 unfolding any every lowest highest only sum bit lcm product Rounded each steps uses through overlap pasted bytes clear cut onLine
-    lineFirst lineSecond hyperperiod jobEnd nextEnd start end intervals someInterval shortest rate equalPeriods light over largest
+    lineFirst lineSecond hyperperiod jobEnd nextEnd start end intervals someInterval shortest rate equalPeriods light past over largest
     reported lag before hinders free standing header-checks row-checks file-checks pasted-checks given-checks line-checks bound-checks
     verdict-checks
 computing = tt
@@ -204,11 +204,11 @@ unfolding every equalPeriods light
 heavy-uneven = rw (shortest-uneven 5) refl
 
 at-uneven : over (uneven-with 10) (bit 3) ≡ false
-unfolding every only sum bit rate equalPeriods over
+unfolding every only sum bit rate equalPeriods past over
 at-uneven = rw (shortest-uneven 10, hyper-uneven 10) refl
 
 over-uneven : over (uneven-with 11) (bit 3) ≡ true
-unfolding every only sum bit rate equalPeriods over
+unfolding every only sum bit rate equalPeriods past over
 over-uneven = rw (shortest-uneven 11, hyper-uneven 11) refl
 
 pub cases : Cases

@@ -12,8 +12,7 @@
 --   load t D           the load of a set, in units of 1 / h
 --   equalPeriods t     all periods are equal
 --   light t i          periods differ, and row i's cost × L is below its period
---   overOne t D        the set's load is over 1
---   overLess t D       the set's load is over (L − 1) / L
+--   past e h l x       load x / h is past the bound: 1 where e says that all periods are equal, (l − 1) / l where they differ
 --   over t D           the set's load is over its bound
 --   reported t ws      the largest set's load in thousandths, rounded up
 --
@@ -74,15 +73,12 @@ equalPeriods t = every (t .rows) (λ i. eqb (t .period i) (t .period 0))
 unfoldable pub light : Table → ℕ → Bool
 light t i = not (equalPeriods t) && ltb (t .cost i * shortest t) (t .period i)
 
-abbrev pub overOne : Table → (ℕ → Bool) → Bool
-overOne t D = ltb (hyperperiod t) (load t D)
-
-abbrev pub overLess : Table → (ℕ → Bool) → Bool
-overLess t D = ltb ((shortest t - 1) * hyperperiod t) (load t D * shortest t)
-
 -- All periods equal: the bound is 1. Periods differ: the bound is (L − 1) / L.
+unfoldable pub past : Bool → (h l x : ℕ) → Bool
+past equal h l x = cond equal (ltb h x) (ltb ((l - 1) * h) (x * l))
+
 unfoldable pub over : Table → (ℕ → Bool) → Bool
-over t D = cond (equalPeriods t) (overOne t D) (overLess t D)
+over t D = past (equalPeriods t) (hyperperiod t) (shortest t) (load t D)
 
 -- The verdict never uses it.
 unfoldable pub reported : Table → List ℕ → ℕ

@@ -3,5 +3,5 @@ pub mod Ascending
 pub mod List
 pub mod Transfer
 pub mod Loops
-pub mod Listed
+pub mod SetWords
 pub mod Sums

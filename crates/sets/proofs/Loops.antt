@@ -25,7 +25,7 @@ use Rattle.numbers.proofs.Word.{word-in, word-out, bit-word, bit-zero, bit-or, 
 use Rattle.numbers.proofs.Lists.{Filled, filled-start, filled-put, filled-take, filled-rest, zeros-at}
 use Rattle.rules.specs.Bounds.{max-rows}
 use Rattle.sets.specs.Walk.{line-size, across, endsAt, RowsAt}
-use Rattle.sets.specs.Sets.{OnLine, Listed}
+use Rattle.sets.specs.Sets.{OnLine, SetWords}
 use Rattle.sets.proofs.Overlap.{started, closes, across-is, across-of}
 use Rattle.sets.proofs.List.{acrossWord, setsTo, bit-across, setsTo-none, setsTo-put, setsTo-skip, setsTo-few, sets-are}
 
@@ -242,7 +242,7 @@ module _ {n : ℕ} {first second : ℕ → ℕ} {e : ℕ} {was : List ℕ} {begu
 -- past the last element: the list is whole
 pub walked-end : {n : ℕ} {first second : ℕ → ℕ} {top e : ℕ} {was : List ℕ} {begun : Bool} {k : ℕ} {words : List ℕ}
     → OnLine n first second top → top < e → length was ≡ max-rows → ((i : ℕ) → at was i ≡ 0) → Walked n first second e was begun k words
-    → Listed n first second k words
+    → SetWords n first second k words
 walked-end {n} {first} {second} {e = e} O l size none W = record {
   size = W .filled .same ∙ size;
   few = omega (arith, W .filled .count, setsTo-few n first second e);

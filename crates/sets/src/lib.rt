@@ -9,7 +9,7 @@ ghost use mathlib.Core.Bool.{true};
 ghost use Prim.Native.Nat.{_<_};
 ghost use Rattle.numbers.specs.Word.{bit};
 ghost use Rattle.numbers.specs.Lists.{at};
-ghost use Rattle.sets.specs.Sets.{OnLine, Listed};
+ghost use Rattle.sets.specs.Sets.{OnLine, SetWords};
 
 // The words of the overlap sets, by ascending least second end; those from `count` on are 0.
 pub struct Sets {
@@ -30,7 +30,7 @@ pub fn list_sets<'a>(
     top: usize,
 ) -> Sets
     requires { ⌜ OnLine rows (at (now first)) (at (now second)) top ⌝ }
-    ensures { λ r. ⌜ Listed rows (at (now (first .entry))) (at (now (second .entry))) (r .count) (r .words) ⌝ }
+    ensures { λ r. ⌜ SetWords rows (at (now (first .entry))) (at (now (second .entry))) (r .count) (r .words) ⌝ }
 {
     // for each element of the line the word of the rows that start there, and of those that end there
     let mut starts = [0u64; Sets::LINE];

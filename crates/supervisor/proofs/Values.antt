@@ -7,12 +7,13 @@ use native.Mathlib.Omega.{arith}
 use lib.ListN.{length, set}
 use Rattle.rules.specs.Refusals.{Check, Answers, short-output, verdict-checks}
 use Rattle.rules.specs.Calls.{Call, lent}
-use Rattle.rules.proofs.Answers.{None, Numbered, applied, passed, done, stopped, joined, answered, none-of, none-left, numbered-join}
+use Rattle.rules.proofs.Answers.{None, Numbered, applied, passed, done, stopped, joined, none-of, none-left, numbered-join}
+use Rattle.table.specs.declared.Answer.{Answer}
 use Rattle.verdict.specs.declared.Verdict.{Verdict}
 use Rattle.verdict.specs.declared.Verdict.the-variants.{Admitted, Refused}
 use Rattle.verdict.specs.Verdict.{numberOf, placeOf, IsVerdict}
 use Rattle.verdict.proofs.Bound.{verdict-numbered}
-use Rattle.verdict.proofs.Judging.{judged-only}
+use Rattle.verdict.proofs.Judging.{refused-number}
 use Rattle.supervisor.specs.ToC.{values, value-count, values-checks, Valued}
 
 -- ---- six elements, put one after the other
@@ -31,16 +32,6 @@ six-put a b c d e g [] l = absurd (omega arith)
 -- ---- what the call answers
 
 module _ (f : List ℕ) where
-  -- an admitted table has a cut, so no refusal of the verdict has the number 0
-  refused-number : (n p : ℕ) → IsVerdict f (Refused n p) → n ≢ 0
-  refused-number n p X e =
-      let none = none-of (verdict-checks f) p (verdict-numbered f) (rw e at (X .answers)) in
-      let Y : IsVerdict f (Admitted 0 0 0 0 0) =
-      record { answers = answered (verdict-checks f) none; done = λ z. X .done e; refused = λ h. absurd (h refl) } in
-      let q : Refused n p ≡ Admitted 0 0 0 0 0 = judged-only f (Refused n p) (Admitted 0 0 0 0 0) X Y in
-      let z : _≡_ {A = ℕ} 0 1 = cc in
-      omega arith
-
   abbrev no-room : ℕ → Check
   no-room room = short-output (room < value-count)
 
@@ -53,11 +44,11 @@ module _ (f : List ℕ) where
       (numbered-join (verdict-checks f) (no-room room ∷ []) (verdict-numbered f) (omega arith)) a)
 
   module _ (was : List ℕ) where
-    pub values-refused : (v : Verdict) (n p : ℕ) → IsVerdict f v → v ≡ Refused n p
+    pub values-refused : (v : Verdict) (r : Answer) → IsVerdict f v → v ≡ Refused r
         → Call (values-checks f (length was)) (numberOf v) (placeOf v) (Valued f was was) (was ≡ was)
     unfolding values-checks
-    values-refused v n p X e =
-        let h : numberOf v ≢ 0 = rw e (refused-number n p (rw e at X)) in
+    values-refused v r X e =
+        let h : numberOf v ≢ 0 = rw e (refused-number f r (rw e at X)) in
         record {
           answers = stopped (verdict-checks f) (no-room (length was) ∷ []) (numberOf v) (placeOf v) h (X .answers);
           done = λ z. absurd (h z);

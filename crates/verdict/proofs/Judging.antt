@@ -1,5 +1,5 @@
 -- The verdict of each outcome, that only one fits a file, and demand 2.
-use mathlib.Core.Path.{_≡_, refl, sym, ap, ap₂, _∙_}
+use mathlib.Core.Path.{_≡_, refl, sym, ap, _∙_}
 use mathlib.Core.Logic.{_≢_}
 use mathlib.Core.List.{List}
 use Prim.Native.Nat.{ℕ, _≤_}
@@ -16,7 +16,7 @@ use Rattle.ring.proofs.Cut.{cut-low}
 use Rattle.table.specs.declared.Answer.{Answer}
 use Rattle.outline.specs.declared.Layout.{Layout}
 use Rattle.outline.specs.Layout.{LaidOut}
-use Rattle.outline.proofs.Outlined.{line-numbered}
+use Rattle.outline.proofs.Outlined.{answer-only, line-numbered}
 use Rattle.verdict.specs.declared.Loaded.{Loaded}
 use Rattle.verdict.specs.declared.Verdict.{Verdict}
 use Rattle.verdict.specs.declared.Verdict.the-variants.{Admitted, Refused}
@@ -30,12 +30,12 @@ use Rattle.verdict.proofs.Weighing.{reported-small}
 -- ---- the verdict of each outcome
 
 pub judged-refused : {cs : List Check} {t : Table} (r : Answer) → r .number ≢ 0 → Answers cs (r .number) (r .place)
-    → JudgedBy cs t (Refused (r .number) (r .place))
+    → JudgedBy cs t (Refused r)
 judged-refused r h a = record { answers = a; done = λ e. absurd (h e); refused = λ e. (refl, refl, refl, refl, refl) }
 
 module _ {t : Table} {l : Layout} (A : LaidOut t l) where
   -- 10 or 11
-  pub judged-first : l .answer .number ≢ 0 → JudgedBy (table-checks t) t (Refused (l .answer .number) (l .answer .place))
+  pub judged-first : l .answer .number ≢ 0 → JudgedBy (table-checks t) t (Refused (l .answer))
   judged-first h =
       judged-refused (l .answer) h
       (stopped (line-checks t) (bound-checks t) (l .answer .number) (l .answer .place) h (A .answers))
@@ -45,7 +45,7 @@ module _ {t : Table} {l : Layout} (A : LaidOut t l) where
     none-line = none-of (line-checks t) (l .answer .place) (line-numbered t) (rw z at (A .answers))
 
     -- 13 or 14
-    pub judged-next : w .answer .number ≢ 0 → JudgedBy (table-checks t) t (Refused (w .answer .number) (w .answer .place))
+    pub judged-next : w .answer .number ≢ 0 → JudgedBy (table-checks t) t (Refused (w .answer))
     judged-next h =
         judged-refused (w .answer) h
         (joined (line-checks t) (bound-checks t) (w .answer .number) (w .answer .place) none-line (W .answers))
@@ -92,8 +92,8 @@ judged-past f p a r J = record { answers = given-passes f p a (numberOf r) (plac
 
 module _ (f : List ℕ) where
   -- a table that is admitted has a cut, so no refusal has the number 0
-  refused-number : (n p : ℕ) → IsVerdict f (Refused n p) → n ≢ 0
-  refused-number n p X e = omega (arith, X .done e .cut-is, cut-low (fileTable f))
+  pub refused-number : (r : Answer) → IsVerdict f (Refused r) → r .number ≢ 0
+  refused-number r X e = omega (arith, X .done e .cut-is, cut-low (fileTable f))
 
   admitted-only : (c i h l s c′ i′ h′ l′ s′ : ℕ) → IsVerdict f (Admitted c i h l s) → IsVerdict f (Admitted c′ i′ h′ l′ s′)
       → Admitted c i h l s ≡ Admitted c′ i′ h′ l′ s′
@@ -111,13 +111,11 @@ module _ (f : List ℕ) where
 
   pub judged-only : (r s : Verdict) → IsVerdict f r → IsVerdict f s → r ≡ s
   judged-only (Admitted c i h l n) (Admitted c′ i′ h′ l′ n′) X Y = admitted-only c i h l n c′ i′ h′ l′ n′ X Y
-  judged-only (Admitted c i h l n) (Refused m p) X Y =
-      absurd (refused-number m p Y (answers-only (verdict-checks f) m 0 p 0 (Y .answers) (X .answers) .0))
-  judged-only (Refused m p) (Admitted c i h l n) X Y =
-      absurd (refused-number m p X (answers-only (verdict-checks f) m 0 p 0 (X .answers) (Y .answers) .0))
-  judged-only (Refused m p) (Refused n q) X Y =
-      let e = answers-only (verdict-checks f) m n p q (X .answers) (Y .answers) in
-      ap₂ Refused (e .0) (e .1)
+  judged-only (Admitted c i h l n) (Refused r) X Y =
+      absurd (refused-number r Y (answers-only (verdict-checks f) (r .number) 0 (r .place) 0 (Y .answers) (X .answers) .0))
+  judged-only (Refused r) (Admitted c i h l n) X Y =
+      absurd (refused-number r X (answers-only (verdict-checks f) (r .number) 0 (r .place) 0 (X .answers) (Y .answers) .0))
+  judged-only (Refused r) (Refused s) X Y = ap Refused (answer-only (verdict-checks f) r s (X .answers) (Y .answers))
 
 -- ---- demand 2
 

@@ -16,17 +16,17 @@ use Rattle.numbers.proofs.Finite.{lowest-has, lowest-below, lowest-eq, largest-
 use Rattle.numbers.proofs.Rounding.{up-least}
 use Rattle.rules.specs.Bus.{Table}
 use Rattle.rules.specs.Line.{Sets}
-use Rattle.rules.specs.Loads.{hyperperiod, shortest, rate, load, equalPeriods, light, over, reported}
+use Rattle.rules.specs.Loads.{hyperperiod, shortest, rate, load, equalPeriods, light, past, over, reported}
 use Rattle.rules.specs.Refusals.{light-row, over-bound, bound-checks}
 use Rattle.rules.proofs.Answers.{answered}
 use Rattle.table.specs.Sound.{Sound}
-use Rattle.sets.specs.Sets.{OnLine, Listed}
+use Rattle.sets.specs.Sets.{OnLine, SetWords}
 use Rattle.lags.specs.Lags.{Admissible}
 use Rattle.lags.proofs.Intervals.{hyperperiod-positive}
 use Rattle.time.specs.declared.Time.{Time}
 use Rattle.outline.proofs.Sets.{Ends, ends-on-line, ring-list}
 use Rattle.outline.proofs.Outlined.{answers-at}
-use Rattle.weights.specs.Weights.{lightBy, weight, past, Weighed}
+use Rattle.weights.specs.Weights.{lightBy, weight, Weighed}
 use Rattle.weights.proofs.Weighing.{weight-load, past-over, within-one, equal-is, light-is}
 use Rattle.verdict.specs.declared.Loaded.{Loaded}
 use Rattle.verdict.specs.Weighing.{Weighable, Weighs}
@@ -94,7 +94,7 @@ module _ {t : Table} {c : Time} {first second xs : List ℕ} (A : Weighable t c 
       done = λ z. absurd (omega (arith, e .0, z));
     }
 
-    module _ (heavy : t .rows ≤ i) {k a b : ℕ} {ws : List ℕ} (L : Listed (t .rows) (at first) (at second) k ws)
+    module _ (heavy : t .rows ≤ i) {k a b : ℕ} {ws : List ℕ} (L : SetWords (t .rows) (at first) (at second) k ws)
         (W : Weighed (t .rows) xs k ws (eqb (c .interval) (c .hyper)) (c .hyper) (c .interval) a b) where
       none-light : NoneLight t
       none-light j l = lowest-below (t .rows) (light t) j (omega (arith, low))

@@ -17,31 +17,31 @@ use Rattle.verdict.specs.declared.Verdict.the-variants.{Admitted, Refuse
 
 abbrev pub numberOf : Verdict → ℕ
 numberOf (Admitted cut interval hyper load sets) = 0
-numberOf (Refused number place) = number
+numberOf (Refused answer) = answer .number
 
 abbrev pub placeOf : Verdict → ℕ
 placeOf (Admitted cut interval hyper load sets) = 0
-placeOf (Refused number place) = place
+placeOf (Refused answer) = answer .place
 
 abbrev pub cutOf : Verdict → ℕ
 cutOf (Admitted cut interval hyper load sets) = cut
-cutOf (Refused number place) = 0
+cutOf (Refused answer) = 0
 
 abbrev pub intervalOf : Verdict → ℕ
 intervalOf (Admitted cut interval hyper load sets) = interval
-intervalOf (Refused number place) = 0
+intervalOf (Refused answer) = 0
 
 abbrev pub hyperOf : Verdict → ℕ
 hyperOf (Admitted cut interval hyper load sets) = hyper
-hyperOf (Refused number place) = 0
+hyperOf (Refused answer) = 0
 
 abbrev pub loadOf : Verdict → ℕ
 loadOf (Admitted cut interval hyper load sets) = load
-loadOf (Refused number place) = 0
+loadOf (Refused answer) = 0
 
 abbrev pub setsOf : Verdict → ℕ
 setsOf (Admitted cut interval hyper load sets) = sets
-setsOf (Refused number place) = 0
+setsOf (Refused answer) = 0
 
 abbrev pub JudgedBy : List Check → Table → Verdict → Type 0
 JudgedBy cs t r =

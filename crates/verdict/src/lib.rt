@@ -165,7 +165,7 @@ pub fn analyse(file: &[u8]) -> Analysis
 
 // ---- the verdict
 
-// The verdict on a table: what it is on the line and in time, or the number of a refusal and its place.
+// The verdict on a table: what it is on the line and in time, or why it is refused.
 pub enum Verdict {
     Admitted {
         cut: u32,
@@ -174,10 +174,7 @@ pub enum Verdict {
         load: u32,
         sets: u32,
     },
-    Refused {
-        number: u32,
-        place: u32,
-    },
+    Refused(Answer),
 }
 
 impl Verdict {
@@ -192,7 +189,7 @@ impl Verdict {
                 load: _,
                 sets: _,
             } => Answer::DONE,
-            Verdict::Refused { number, place: _ } => number,
+            Verdict::Refused(answer) => answer.number,
         }
     }
 
@@ -207,7 +204,7 @@ impl Verdict {
                 load: _,
                 sets: _,
             } => 0,
-            Verdict::Refused { number: _, place } => place,
+            Verdict::Refused(answer) => answer.place,
         }
     }
 }
@@ -230,10 +227,7 @@ fn judge_table<'a>(
     let laid = outline::layout_of(elements, rows, period, first, second);
     let answer = laid.answer;
     if answer.number != Answer::DONE {
-        return Verdict::Refused {
-            number: answer.number,
-            place: answer.place,
-        };
+        return Verdict::Refused(answer);
     }
     let time = laid.time;
     let rate = weights::rates(rows, time.hyper, cost, period);
@@ -249,10 +243,7 @@ fn judge_table<'a>(
     );
     let next = weighing.answer;
     if next.number != Answer::DONE {
-        return Verdict::Refused {
-            number: next.number,
-            place: next.place,
-        };
+        return Verdict::Refused(next);
     }
     Verdict::Admitted {
         cut: laid.cut as u32,
@@ -270,10 +261,7 @@ pub fn judge(file: &[u8]) -> Verdict
     let found = pasted::given(file);
     let answer = found.answer;
     if answer.number != Answer::DONE {
-        return Verdict::Refused {
-            number: answer.number,
-            place: answer.place,
-        };
+        return Verdict::Refused(answer);
     }
     judge_table(
         found.columns.elements,

@@ -19,13 +19,14 @@ use Rattle.numbers.proofs.Finite.{any-of, any-none, only-true, only-false, only
 use Rattle.numbers.proofs.Finite.{sumIn-eq, sumIn-most}
 use Rattle.numbers.proofs.Lists.{zeros-at}
 use Rattle.rules.specs.Bounds.{max-rows, max-slots}
+use Rattle.rules.specs.Loads.{past}
 use Rattle.sets.specs.Walk.{line-size, across, endsAt}
-use Rattle.sets.specs.Sets.{OnLine, Listed}
+use Rattle.sets.specs.Sets.{OnLine, SetWords}
 use Rattle.sets.proofs.Overlap.{across-is, across-of}
 use Rattle.sets.proofs.List.{acrossWord, bit-across}
 use Rattle.sets.proofs.Loops.{Here, here, Walked, walked-start, walked-room, walked-starts, walked-on, walked-end}
 use Rattle.sets.proofs.Loops.{ended-put, ended-none, ended-still}
-use Rattle.weights.specs.Weights.{Rates, weight, past, nextLowest, SumsAt, Weighed}
+use Rattle.weights.specs.Weights.{Rates, weight, nextLowest, SumsAt, Weighed}
 use Rattle.weights.proofs.Weighing.{weight-small, weighed-start, weighed-next, weighed-more}
 
 -- ---- rates by their rows' ends
@@ -229,5 +230,5 @@ module _ {n : ℕ} {first second : ℕ → ℕ} {xs : List ℕ} {top e : ℕ} {t
     }
 
   pub passing-end : top < e
-      → (ws : List ℕ) × Listed n first second k ws × Weighed n xs k ws t h l a b
+      → (ws : List ℕ) × SetWords n first second k ws × Weighed n xs k ws t h l a b
   passing-end m = (P .words, walked-end O m (length-replicate {A = ℕ} max-rows 0) (zeros-at max-rows) (P .walked), P .weighed)

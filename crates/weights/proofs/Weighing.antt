@@ -17,13 +17,13 @@ use Rattle.numbers.proofs.Finite.{every-of, lowest-is, lowest-none, lowest-le, 
 use Rattle.numbers.proofs.Finite.{sumIn-eq, sumIn-most, largest-next, largest-eq}
 use Rattle.rules.specs.Bounds.{max-rows, max-slots}
 use Rattle.rules.specs.Bus.{Table}
-use Rattle.rules.specs.Loads.{hyperperiod, shortest, rate, load, equalPeriods, light, over}
+use Rattle.rules.specs.Loads.{hyperperiod, shortest, rate, load, equalPeriods, light, past, over}
 use Rattle.table.specs.Sound.{Sound}
 use Rattle.table.specs.Columns.{ByRow}
 use Rattle.sets.proofs.Sums.{sum-none}
 use Rattle.lags.proofs.Intervals.{period-divides, hyperperiod-positive, shortest-positive, shortest-low, rate-period, rate-le}
 use Rattle.lags.proofs.Intervals.{equal-shortest, equal-hyperperiod}
-use Rattle.weights.specs.Weights.{Times, lightBy, Rates, weight, past, nextLowest, Weighed}
+use Rattle.weights.specs.Weights.{Times, lightBy, Rates, weight, nextLowest, Weighed}
 
 -- ---- equal periods
 
@@ -163,12 +163,12 @@ rates-small s h B = record {
 }
 
 pub past-over : (t : Table) (D : ℕ → Bool) → past (equalPeriods t) (hyperperiod t) (shortest t) (load t D) ≡ over t D
-unfolding past over
+unfolding over
 past-over t D = refl
 
 -- a set that is not over its bound has a load of at most 1
 pub within-one : {t : Table} → Sound t → (D : ℕ → Bool) → (T (over t D) → ⊥) → load t D ≤ hyperperiod t
-unfolding over
+unfolding past over
 within-one {t} s D u = go (equalPeriods t) refl
   where
     go : (b : Bool) → equalPeriods t ≡ b → load t D ≤ hyperperiod t

@@ -5,7 +5,6 @@
 --                        row i is light, where e says whether all periods are equal, and l is L
 --   Rates xs n           each of n rows has a rate, and none is above 4096
 --   weight n xs w        the load of the set whose word is w, from the rates xs of n rows
---   past e h l x         load x is over the bound: 1 where e says that all periods are equal, (l − 1) / l where they differ
 --   nextLowest a n b     the lowest number below n + 1 that passes a test, where a is the one below n (or n), and b the test of n
 --   SumsAt n ends xs ys  for each element of the line the sum of xs over the n rows that have this end there
 --   Weighed n xs k ws e h l over largest
@@ -21,6 +20,7 @@ use Rattle.numbers.specs.Finite as finite
 use Rattle.numbers.specs.Word.{bit}
 use Rattle.numbers.specs.Lists.{at}
 use Rattle.rules.specs.Bounds.{max-rows, max-slots}
+use Rattle.rules.specs.Loads.{past}
 use Rattle.sets.specs.Walk.{line-size}
 
 pub record Times (n : ℕ) (cost period : ℕ → ℕ) : Type 0 where
@@ -39,9 +39,6 @@ pub record Rates (xs : List ℕ) (n : ℕ) : Type 0 where
 
 unfoldable pub weight : ℕ → List ℕ → ℕ → ℕ
 weight n xs w = sumIn n (bit w) (at xs)
-
-unfoldable pub past : Bool → ℕ → ℕ → ℕ → Bool
-past e h l x = cond e (ltb h x) (ltb ((l - 1) * h) (x * l))
 
 unfoldable pub nextLowest : ℕ → ℕ → Bool → ℕ
 nextLowest a n b = cond (eqb a n && not b) (n + 1) a

@@ -14,10 +14,11 @@ ghost use Rattle.numbers.specs.Lists.{at};
 ghost use Rattle.numbers.specs.Finite.{lowest};
 ghost use Rattle.numbers.specs.Rounding.{up};
 ghost use Rattle.rules.specs.Bounds.{max-rows, max-slots};
+ghost use Rattle.rules.specs.Loads.{past};
 ghost use Rattle.table.specs.Columns.{ByRow};
 ghost use Rattle.sets.specs.Walk.{line-size};
-ghost use Rattle.sets.specs.Sets.{OnLine, Listed};
-ghost use Rattle.weights.specs.Weights.{Times, lightBy, Rates, past, nextLowest, SumsAt, Weighed};
+ghost use Rattle.sets.specs.Sets.{OnLine, SetWords};
+ghost use Rattle.weights.specs.Weights.{Times, lightBy, Rates, nextLowest, SumsAt, Weighed};
 
 // ---- rows
 
@@ -197,7 +198,7 @@ pub fn weigh_line<'a>(
 ) -> Weights
     requires { ⌜ OnLine rows (at (now first)) (at (now second)) top × Rates (now rate) rows × (hyper ≤ max-slots)
         × (1 ≤ interval) × (interval ≤ max-slots) ⌝ }
-    ensures { λ r. ⌜ ((ws : List ℕ) × Listed rows (at (now (first .entry))) (at (now (second .entry))) (r .sets) ws
+    ensures { λ r. ⌜ ((ws : List ℕ) × SetWords rows (at (now (first .entry))) (at (now (second .entry))) (r .sets) ws
         × Weighed rows (now (rate .entry)) (r .sets) ws (eqb interval hyper) hyper interval (r .over) (r .largest)) ⌝ }
 {
     let mut joining = [0u64; Sets::LINE];

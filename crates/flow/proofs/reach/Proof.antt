@@ -5,7 +5,7 @@ use native.Mathlib.Omega.{arith}
 use lib.ListN.{length-set}
 use Rattle.flow.proofs.Network.{put-set}
 use Rattle.flow.proofs.Words.{bit-one-more, bit-odd, bit-even}
-use Rattle.flow.proofs.Ways.{passed-seen, passed-new}
+use Rattle.flow.proofs.Ways.{entered-seen, entered-new}
 use Rattle.flow.proofs.reach.Statement.{statement}
 use Rattle.flow.proofs.reach.Tie as tie
 
@@ -16,7 +16,7 @@ returns : tie.Need-returns
 returns c =
     let z = c .before in
     let a = z .args in
-    (z .pre .1, passed-seen (a .seen) _ (a .p) (a .w) (bit-odd (a .seen) (a .p) (c .if1 .taken)))
+    (z .pre .1, entered-seen (a .seen) _ (a .p) (a .w) (bit-odd (a .seen) (a .p) (c .if1 .taken)))
 
 mul-by : tie.Need-mul-by
 mul-by c = search needs
@@ -33,7 +33,7 @@ returns-2 c =
     let a = z .args in
     let l : a .p < 64 = omega (arith, z .pre .0) in (
       simp length-set (z .pre .1),
-      passed-new (a .seen) _ (a .p) (a .w) _ _ (bit-even (a .seen) (a .p) (c .if1 .left)) (λ v. bit-one-more (a .seen) (a .p) v l)
+      entered-new (a .seen) _ (a .p) (a .w) _ _ (bit-even (a .seen) (a .p) (c .if1 .left)) (λ v. bit-one-more (a .seen) (a .p) v l)
           (put-set (a .by .now) (a .p) (a .w) (omega (arith, z .pre .0, z .pre .1))),
     )
 

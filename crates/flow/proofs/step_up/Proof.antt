@@ -2,7 +2,7 @@
 use borrow.Author.Needs.{needs}
 use Prim.Native.Nat.{_+_}
 use Rattle.flow.proofs.Words.{bit-none, bit-some}
-use Rattle.flow.proofs.Ways.{passed-not, passed-on}
+use Rattle.flow.proofs.Ways.{entered-not, entered-on}
 use Rattle.flow.proofs.step_up.Statement.{statement}
 use Rattle.flow.proofs.step_up.Tie as tie
 
@@ -13,7 +13,7 @@ returns : tie.Need-returns
 returns c =
     let z = c .before in
     let a = z .args in
-    (z .pre .2, passed-not (a .seen) _ _ (a .u + 1) (a .way) (bit-none (a .less) (a .u) (c .if1 .taken)))
+    (z .pre .2, entered-not (a .seen) _ _ (a .u + 1) (a .way) (bit-none (a .less) (a .u) (c .if1 .taken)))
 
 add-reach : tie.Need-add-reach
 add-reach c = search needs
@@ -27,7 +27,7 @@ returns-2 : tie.Need-returns-2
 returns-2 c =
     let z = c .before .before .before in (
       c .reach .ensures .0,
-      passed-on _ _ _ _ _ _ _ (bit-some (z .args .less) (z .args .u) (c .before .before .if1 .left))
+      entered-on _ _ _ _ _ _ _ (bit-some (z .args .less) (z .args .u) (c .before .before .if1 .left))
           (c .reach .ensures .1),
     )
 

@@ -47,7 +47,7 @@ returns c =
     let n = p .before in
     let z = n .before .before .before in
     rendered-refused (file z) (z .judge .result) (z .judge .ensures) (n .number .result) (p .place .result)
-    (n .number .ensures) (p .place .ensures) _ _ (n .before .enum-told .given .1) (v .put-verdict .ensures)
+    (n .number .ensures) (p .place .ensures) _ (n .before .enum-told .given .1) (v .put-verdict .ensures)
 
 put-plan-requires : tie.Need-put-plan-requires
 put-plan-requires c κs =

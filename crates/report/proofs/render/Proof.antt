@@ -58,7 +58,7 @@ returns c =
     let z = n .before in
     let i = read-input (input z) _ (z .before .before .least .ensures) in
     rendered-refused (file z) (z .judge .result) (z .judge .ensures) (input z) i (n .number .result) (p .place .result)
-    (n .number .ensures) (p .place .ensures) (v .put-verdict .ensures) _ _ (c .enum-told .given .1)
+    (n .number .ensures) (p .place .ensures) (v .put-verdict .ensures) _ (c .enum-told .given .1)
 
 put-values-requires : tie.Need-put-values-requires
 put-values-requires c κs = search needs

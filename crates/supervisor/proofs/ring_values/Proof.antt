@@ -35,7 +35,7 @@ returns c =
     record {
       number = _;
       place = _;
-      called = values-refused (z .file .now) (z .out .now) (j .result) _ _ (j .ensures) (c .before .before .before .enum-told .given .1);
+      called = values-refused (z .file .now) (z .out .now) (j .result) _ (j .ensures) (c .before .before .before .enum-told .given .1);
       as-one = c .joined .ensures ∙ ap₂ c-answer (c .before .before .number .ensures) (c .before .place .ensures);
     }
 

@@ -4,7 +4,7 @@ use native.Mathlib.Nat.{mul-le-mul}
 use native.Mathlib.Omega.{arith}
 use borrow.Author.Needs.{needs}
 use Rattle.rules.specs.Bounds.{max-rows, max-slots}
-use Rattle.weights.specs.Weights.{past}
+use Rattle.rules.specs.Loads.{past}
 use Rattle.weights.proofs.is_over.Statement.{statement}
 use Rattle.weights.proofs.is_over.Tie as tie
 

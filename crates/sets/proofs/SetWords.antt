@@ -9,17 +9,17 @@ use lib.Seq.{getD-take, ext-getD}
 use Rattle.numbers.specs.Lists.{at}
 use Rattle.numbers.proofs.Truth.{le-or-lt}
 use Rattle.rules.proofs.Sets.{sets-only}
-use Rattle.sets.specs.Sets.{OnLine, Listed}
+use Rattle.sets.specs.Sets.{OnLine, SetWords}
 
-pub listed-length : {n : ℕ} {first second : ℕ → ℕ} {top k : ℕ} {words : List ℕ} → OnLine n first second top
-    → Listed n first second k words → length (take k words) ≡ k
-listed-length {k = k} {words = words} O L = omega (arith, length-take k words, O .few, L .few, L .size)
+pub set-words-length : {n : ℕ} {first second : ℕ → ℕ} {top k : ℕ} {words : List ℕ} → OnLine n first second top
+    → SetWords n first second k words → length (take k words) ≡ k
+set-words-length {k = k} {words = words} O L = omega (arith, length-take k words, O .few, L .few, L .size)
 
-pub listed-only : {n : ℕ} {first second : ℕ → ℕ} {top k l : ℕ} {words others : List ℕ} → OnLine n first second top
-    → Listed n first second k words → Listed n first second l others → (k ≡ l) × (words ≡ others)
-listed-only {n} {first} {second} {k = k} {l = l} {words = words} {others = others} O A B =
+pub set-words-only : {n : ℕ} {first second : ℕ → ℕ} {top k l : ℕ} {words others : List ℕ} → OnLine n first second top
+    → SetWords n first second k words → SetWords n first second l others → (k ≡ l) × (words ≡ others)
+set-words-only {n} {first} {second} {k = k} {l = l} {words = words} {others = others} O A B =
     let e : take k words ≡ take l others = sets-only (O .some) (A .sets) (B .sets) in
-    let q : k ≡ l = omega (arith, listed-length O A, listed-length O B, ap length e) in (
+    let q : k ≡ l = omega (arith, set-words-length O A, set-words-length O B, ap length e) in (
       q,
       ext-getD 0 words others (A .size ∙ sym (B .size))
           (λ i h.
