@@ -21,3 +21,7 @@ uint32_t ring_sets(const uint8_t *file, size_t file_bytes, uint64_t *sets, size_
 uint32_t ring_plan(const uint8_t *file, size_t file_bytes, uint64_t *plan, size_t plan_words) {
     return plain_plan(file, file_bytes, plan, plan_words);
 }
+
+uint32_t ring_plain_plan(const uint8_t *file, size_t file_bytes, uint64_t *plan, size_t plan_words) {
+    return plain_plan(file, file_bytes, plan, plan_words);
+}

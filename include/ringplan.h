@@ -85,6 +85,10 @@ uint32_t ring_sets(const uint8_t *file, size_t file_bytes, uint64_t *sets, size_
  * and 18. */
 uint32_t ring_plan(const uint8_t *file, size_t file_bytes, uint64_t *plan, size_t plan_words);
 
+/* The same plan by a second planner that keeps no account of a slot: it asks of each row that is in the slot already whether the two
+ * overlap. It answers as ring_plan does, word for word and refusal for refusal, and takes longer. Gives 0 to 14, 17 and 18. */
+uint32_t ring_plain_plan(const uint8_t *file, size_t file_bytes, uint64_t *plan, size_t plan_words);
+
 #ifdef __cplusplus
 }
 #endif

@@ -357,10 +357,19 @@ static void compare(const struct file *given) {
         uint64_t *plan = lend(few);
         if (ring_plan(file, given->length, plan, few) != 256 * RING_SHORT_OUTPUT) fail(given, "a short plan was not refused with 17");
         if (!unchanged_from(0, plan, few)) fail(given, "a refusal for room changed lent memory");
+        if (ring_plain_plan(file, given->length, plan, few) != 256 * RING_SHORT_OUTPUT)
+            fail(given, "the plain planner did not refuse a short plan with 17");
+        if (!unchanged_from(0, plan, few)) fail(given, "a refusal for room by the plain planner changed lent memory");
         seen[RING_SHORT_OUTPUT]++;
         room = between(v.hyper, MAX_SLOTS);
     }
+    /* the plain planner first, as both fill the same lent memory */
+    static uint64_t plain[MAX_SLOTS];
     uint64_t *plan = lend(room);
+    if (ring_plain_plan(file, given->length, plan, room) != 256 * v.number + v.place) fail(given, "plain plan and verdict differ");
+    if (!unchanged_from(v.number ? 0 : v.hyper, plan, room)) fail(given, "the plain planner changed memory that is not its own");
+    if (!v.number) memcpy(plain, plan, v.hyper * sizeof *plain);
+    plan = lend(room);
     answer = ring_plan(file, given->length, plan, room);
     if (answer != 256 * v.number + v.place) fail(given, "plan and verdict differ");
     if (memcmp(file, given->byte, given->length)) fail(given, "the file's own bytes changed");
@@ -369,6 +378,7 @@ static void compare(const struct file *given) {
         return;
     }
     if (!unchanged_from(v.hyper, plan, room)) fail(given, "memory past the plan changed");
+    if (memcmp(plain, plan, v.hyper * sizeof *plain)) fail(given, "the plain planner's words differ");
     const char *why = "";
     if (!oracle_keeps(&v, plan, &why)) fail(given, why);
     admitted++;

@@ -9,12 +9,13 @@
 #include <string.h>
 #include <ucontext.h>
 
-enum { ROOM = 1 << 18, MARK = 0xa5, FUNCTIONS = 5 };
+enum { ROOM = 1 << 18, MARK = 0xa5, FUNCTIONS = 6 };
 
 static uint8_t stack[ROOM], file[RING_FILE_BYTES + 1];
 static uint64_t plan[RING_PLAN_SLOTS], sets[RING_MOST_SETS];
 static uint32_t values[RING_VALUES];
-static const char *const names[FUNCTIONS] = {"ring_plan", "ring_sets", "ring_shared", "ring_values", "ring_verdict"};
+static const char *const names[FUNCTIONS] = {
+    "ring_plan", "ring_plain_plan", "ring_sets", "ring_shared", "ring_values", "ring_verdict"};
 static ucontext_t here, there;
 static size_t bytes;
 static unsigned which;
@@ -25,9 +26,10 @@ static void call(void) {
     top = __builtin_frame_address(0);
     switch (which) {
     case 0: ring_plan(file, bytes, plan, RING_PLAN_SLOTS); break;
-    case 1: ring_sets(file, bytes, sets, RING_MOST_SETS); break;
-    case 2: ring_shared(file, bytes, 0, 0, values); break;
-    case 3: ring_values(file, bytes, values, RING_VALUES); break;
+    case 1: ring_plain_plan(file, bytes, plan, RING_PLAN_SLOTS); break;
+    case 2: ring_sets(file, bytes, sets, RING_MOST_SETS); break;
+    case 3: ring_shared(file, bytes, 0, 0, values); break;
+    case 4: ring_values(file, bytes, values, RING_VALUES); break;
     default: ring_verdict(file, bytes); break;
     }
 }

@@ -8,7 +8,7 @@ use Rattle.rules.specs.Bounds.{max-elements}
 use Rattle.rules.specs.Bus.{Table}
 use Rattle.verdict.specs.declared.Analysis.{Analysis}
 use Rattle.verdict.specs.Analysed.{Accepted}
-use Rattle.slots.specs.Chained.{all-heads}
+use Rattle.chains.specs.Chained.{all-heads}
 use Rattle.places.specs.declared.Places.{Places}
 use Rattle.places.specs.PlacesOf.{PlacesOf}
 use Rattle.interval.specs.Ready.{Ready}
@@ -36,13 +36,12 @@ module _ {t : Table} {a : Analysis} (A : Accepted t a) where
 
   pub ready-of : {L : Places} → PlacesOf (a .outline .rows) (a .outline .sets) (a .outline .words) (a .outline .first) L
       → Ready t (record { rows = a .outline .rows; sets = a .outline .sets; hyper = a .outline .time .hyper }) (a .outline .elements + 1)
-      (a .outline .second) (a .rate) (a .outline .words) L
+      (a .outline .first) (a .outline .second) (a .rate) (a .outline .words) L
   ready-of L = record {
     admissible = A .admissible;
     row-count = A .outline .rows;
     top-end = ap (λ (m : ℕ). m + 1) (A .outline .elements);
     hyper-is = hyper-is A;
-    first = a .outline .first;
     firsts = A .outline .first;
     seconds = A .outline .second;
     rates = A .rate;

@@ -9,9 +9,11 @@ ghost use Rattle.course.specs.Plannable.{Plannable};
 ghost use Rattle.course.specs.Course.{Coursed};
 
 // Plans the intervals from slot `from` up to slot `until` of an admitted table, for rows that have had `totals`: writes their words to the
-// front of `plan`, each interval's to its own stretch, and gives the totals after the last. What the intervals share is laid out once.
+// front of `plan`, each interval's to its own stretch, plainly (#114) or not, and gives the totals after the last. What the intervals
+// share is laid out once.
 pub fn plan_intervals(
     table: Analysis,
+    plain: bool,
     from: u64,
     until: u64,
     totals: [u64; Table::ROWS],
@@ -39,10 +41,12 @@ pub fn plan_intervals(
     while slot < until {
         let end = time.next_end(slot);
         interval::advance(
+            plain,
             slot as usize,
             end as usize,
             size,
             top,
+            &table.outline.first,
             &table.outline.second,
             &table.rate,
             &table.outline.words,

@@ -1,3 +1,4 @@
 pub mod States
 pub mod Answered
 pub mod Demands
+pub mod Plain

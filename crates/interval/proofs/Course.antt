@@ -17,8 +17,8 @@ use Rattle.loads.specs.Loads.{last, digit, none, share-most, Spans, Parts, Qual
 use Rattle.loads.specs.State.{Laid}
 use Rattle.loads.specs.declared.Size.{Size}
 use Rattle.loads.proofs.Choice.{greatest-shift}
-use Rattle.slots.specs.Chained.{ChainedRows}
-use Rattle.slots.specs.Filled.{FilledSlots}
+use Rattle.chains.specs.Chained.{ChainedRows}
+use Rattle.placing.specs.Filled.{FilledSlots}
 use Rattle.places.specs.declared.Places.{Places}
 use Rattle.interval.specs.Interval.{Given}
 use Rattle.interval.specs.Ready.{Ready, Due, Advanced}
@@ -26,7 +26,8 @@ use Rattle.interval.proofs.Choice.{share-small, had-le, whole-small, mo
 use Rattle.interval.proofs.RowSets.{list-length, ranged-low, ranged-high, ranged-spans, ranged-listed}
 use Rattle.interval.proofs.Ready.{ready-ends, ready-words, ready-share}
 
-module _ {t : Table} {size : Size} {top : ℕ} {second rate words : List ℕ} {L : Places} (R : Ready t size top second rate words L) where
+module _ {t : Table} {size : Size} {top : ℕ} {first second rate words : List ℕ} {L : Places}
+    (R : Ready t size top first second rate words L) where
   -- ---- what is laid, for the code's counts
 
   pub few-rows : size .rows ≤ max-rows
@@ -60,7 +61,7 @@ module _ {t : Table} {size : Size} {top : ℕ} {second rate words : List ℕ} {L
   pub all-laid : Laid (size .rows) (size .sets) (L .tail) (L .head) (L .out) (L .into) words
   all-laid = rw (R .row-count) network-laid
 
-  pub rows-chained : ChainedRows (size .rows) (at (R .first)) (at second) top (L .heads) (L .next)
+  pub rows-chained : ChainedRows (size .rows) (at first) (at second) top (L .heads) (L .next)
   rows-chained = record {
     few = few-rows;
     low = omega (arith, R .top-end, R .admissible .sound .elements-high);
@@ -131,10 +132,10 @@ module _ {t : Table} {size : Size} {top : ℕ} {second rate words : List ℕ} {L
         -- ---- the slots and the totals
 
         pub advanced-of : {after was out : List ℕ} → ((i : ℕ) → now i ≡ at after i) → length after ≡ max-rows
-            → FilledSlots (size .rows) (at (R .first)) (at second) x (e - b) was out → Advanced t k totals after was out
+            → FilledSlots (size .rows) (at first) (at second) x (e - b) was out → Advanced t k totals after was out
         advanced-of {after} {was} {out} q n F =
             let long : e - b ≡ end t k - start t k = ap₂ _-_ (D .ends) (D .begins) in
-            let W : SlotWords (t .rows) (meet (at (R .first)) (at second)) (at (R .first)) x (end t k - start t k)
+            let W : SlotWords (t .rows) (meet (at first) (at second)) (at first) x (end t k - start t k)
             (take (end t k - start t k) out) =
             rw (R .row-count, long) at (F .words) in
             record {

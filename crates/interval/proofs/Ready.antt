@@ -28,15 +28,16 @@ ends-on-line {t} A F S i m =
       omega (arith, line-high t (A .sound) (A .clear) i m),
     )
 
-module _ {t : Table} {size : Size} {top : ℕ} {second rate words : List ℕ} {L : Places} (R : Ready t size top second rate words L) where
+module _ {t : Table} {size : Size} {top : ℕ} {first second rate words : List ℕ} {L : Places}
+    (R : Ready t size top first second rate words L) where
   -- ---- the ends
 
-  pub ready-ends : (i : ℕ) → i < size .rows → (1 ≤ at (R .first) i) × (at (R .first) i < at second i) × (at second i ≤ top)
+  pub ready-ends : (i : ℕ) → i < size .rows → (1 ≤ at first i) × (at first i < at second i) × (at second i ≤ top)
   ready-ends i l =
       let e = ends-on-line (R .admissible) (R .firsts) (R .seconds) i (omega (arith, R .row-count)) in
       (e .0, e .1, omega (arith, e .2, R .top-end))
 
-  meets : (i j : ℕ) → i < t .rows → j < t .rows → meet (at (R .first)) (at second) i j ≡ overlap t i j
+  meets : (i j : ℕ) → i < t .rows → j < t .rows → meet (at first) (at second) i j ≡ overlap t i j
   unfolding meet
   meets i j l m =
       let A = R .admissible in
@@ -44,10 +45,10 @@ module _ {t : Table} {size : Size} {top : ℕ} {second rate words : List ℕ} {L
       (sym (overlap-meet t (A .sound) (A .clear) i j l m))
 
   -- words for the line of the arrays are words for the table
-  pub ready-words : {x : ℕ → ℕ} {l : ℕ} {ws : List ℕ} → SlotWords (t .rows) (meet (at (R .first)) (at second)) (at (R .first)) x l ws
+  pub ready-words : {x : ℕ → ℕ} {l : ℕ} {ws : List ℕ} → SlotWords (t .rows) (meet (at first) (at second)) (at first) x l ws
       → SlotWords (t .rows) (overlap t) (lineFirst t) x l ws
   ready-words {x} {l} {ws} W =
-      words-as (t .rows) (meet (at (R .first)) (at second)) (overlap t) (at (R .first)) (lineFirst t) x x meets (R .firsts .row) (λ i h. refl) l ws W
+      words-as (t .rows) (meet (at first) (at second)) (overlap t) (at first) (lineFirst t) x x meets (R .firsts .row) (λ i h. refl) l ws W
 
   -- ---- the shares
 

@@ -1,8 +1,8 @@
 -- What one interval needs of a table, and what it gives.
 --
---   Ready t size top second rate words L
---                           the table may be admitted; the arrays hold its rows' second ends on the line, their rates and the sets'
---                           words, and L are the places for these
+--   Ready t size top first second rate words L
+--                           the table may be admitted; the arrays hold its rows' ends on the line, their rates and the sets' words, and
+--                           L are the places for these
 --   Due t k b e had         interval k is one of the table's, from slot b up to slot e, and totals `had` keep step at b
 --   Advanced t k had now was out
 --                           interval k is done: `now` are the totals after it, and `out`, which held `was`, has its words at the front
@@ -21,17 +21,16 @@ use Rattle.rules.specs.Loads as loads
 use Rattle.table.specs.Columns.{ByRow}
 use Rattle.lags.specs.Lags.{Admissible, Steady}
 use Rattle.loads.specs.declared.Size.{Size}
-use Rattle.slots.specs.Filled.{Kept}
+use Rattle.placing.specs.Filled.{Kept}
 use Rattle.places.specs.PlacesOf.{PlacesOf}
 use Rattle.places.specs.declared.Places.{Places}
 use Rattle.interval.specs.Interval.{Moved}
 
-pub record Ready (t : Table) (size : Size) (top : ℕ) (second rate words : List ℕ) (L : Places) : Type 0 where
+pub record Ready (t : Table) (size : Size) (top : ℕ) (first second rate words : List ℕ) (L : Places) : Type 0 where
   pub admissible : Admissible t
   pub row-count : size .rows ≡ t .rows
   pub top-end : top ≡ t .elements + 1
   pub hyper-is : size .hyper ≡ hyperperiod t
-  pub first : List ℕ
   pub firsts : ByRow (t .rows) (lineFirst t) first
   pub seconds : ByRow (t .rows) (lineSecond t) second
   pub rates : ByRow (t .rows) (loads.rate t) rate

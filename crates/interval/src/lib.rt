@@ -1,8 +1,8 @@
 // One planning interval of an admitted table: from totals that keep step at its first slot to its loads, its words and the totals after it
 // (document 01, "Loads of one interval, and its slots").
+use chains::Chains;
 use flow::PLACES;
 use loads::Size;
-use slots::Chains;
 use table::Table;
 ghost use mathlib.Core.Path.{_≡_};
 ghost use Prim.Native.Nat.{ℕ, _-_, _*_, _/_, _%_, _≤_, _<_};
@@ -11,6 +11,8 @@ ghost use Rattle.numbers.specs.Lists.{at};
 ghost use Rattle.rules.specs.Bounds.{max-rows, max-slots};
 ghost use Rattle.rules.specs.Bus as bus;
 ghost use Rattle.loads.specs.Loads.{share-most};
+ghost use Rattle.chains.specs.Chained.{ChainedRows};
+ghost use Rattle.placing.specs.Filled.{FilledSlots};
 ghost use Rattle.places.specs.PlacesOf.{places};
 ghost use Rattle.interval.specs.Interval.{Given};
 ghost use Rattle.interval.specs.Ready.{Ready, Due, Advanced};
@@ -62,13 +64,40 @@ fn give(top: u64, rows: usize, load: &mut [u64; Table::ROWS], totals: &mut [u64;
 
 // ---- the interval
 
-// Does one interval of a table, which runs from slot `start` up to slot `end`: writes its words to the front of `plan`, and takes the
-// totals on. From `tail` to `next` all is laid once for the table; `load` and `part` are room to work in, whatever it holds.
+// Writes the words of the interval's slots, by stretches or plainly (#114): they are the same.
+fn place_rows<'a>(
+    plain: bool,
+    rows: usize,
+    first: &'a [u8; Table::ROWS],
+    second: &'a [u8; Table::ROWS],
+    heads: &'a [u8; Chains::HEADS],
+    next: &'a [u8; Table::ROWS],
+    load: &'a [u64; Table::ROWS],
+    top: usize,
+    slots: usize,
+    plan: &mut [u64],
+)
+    requires { ⌜ ChainedRows rows (at (now first)) (at (now second)) top (now heads) (now next)
+        × (slots ≤ max-slots) × (slots ≤ length (now plan)) ⌝ }
+    ensures { λ _. ⌜ FilledSlots rows (at (now (first .entry))) (at (now (second .entry))) (at (now (load .entry))) slots
+        (now (plan .entry)) (now (plan .exit)) ⌝ }
+{
+    if plain {
+        plain_slots::fill_plain(rows, first, second, heads, next, load, top, slots, plan);
+    } else {
+        slots::fill(second, heads, next, load, top, slots, plan);
+    }
+}
+
+// Does one interval of a table, which runs from slot `start` up to slot `end`: writes its words to the front of `plan`, plainly or not, and
+// takes the totals on. From `tail` to `next` all is laid once for the table; `load` and `part` are room to work in, whatever it holds.
 pub fn advance<'a>(
+    plain: bool,
     start: usize,
     end: usize,
     size: Size,
     top: usize,
+    first: &'a [u8; Table::ROWS],
     second: &'a [u8; Table::ROWS],
     rate: &'a [u16; Table::ROWS],
     words: &'a [u64; Table::ROWS],
@@ -84,14 +113,14 @@ pub fn advance<'a>(
     plan: &mut [u64],
 )
     requires { ⌜ ((t : bus.Table) × (k : ℕ)
-        × Ready t size top (now second) (now rate) (now words)
+        × Ready t size top (now first) (now second) (now rate) (now words)
         (places (now tail) (now head) (now out) (now into) (now heads) (now next))
         × Due t k start end (now totals))
         × (length (now load) ≡ max-rows) × (length (now part) ≡ max-rows)
         × (length (now totals) ≡ max-rows) × (end - start ≤ length (now plan)) ⌝ }
     ensures { λ r. ⌜ (length (now (load .exit)) ≡ max-rows) × (length (now (part .exit)) ≡ max-rows)
         × ((t : bus.Table) (k : ℕ)
-        → Ready t size top (now (second .entry)) (now (rate .entry)) (now (words .entry))
+        → Ready t size top (now (first .entry)) (now (second .entry)) (now (rate .entry)) (now (words .entry))
         (places (now (tail .entry)) (now (head .entry)) (now (out .entry)) (now (into .entry)) (now (heads .entry)) (now (next .entry)))
         → Due t k start end (now (totals .entry))
         → Advanced t k (now (totals .entry)) (now (totals .exit)) (now (plan .entry)) (now (plan .exit))) ⌝ }
@@ -99,5 +128,16 @@ pub fn advance<'a>(
     part_shares(rate, end as u64, size, load, part);
     let rounded = choice::choose(tail, head, out, into, words, size, part);
     give(rounded, size.rows, load, totals);
-    slots::fill(second, heads, next, load, top, end - start, plan);
+    place_rows(
+        plain,
+        size.rows,
+        first,
+        second,
+        heads,
+        next,
+        load,
+        top,
+        end - start,
+        plan,
+    );
 }

@@ -128,7 +128,8 @@ module _ (f : List ℕ) where
         rows-are = ap (λ (u : Table). u .rows) held
 
         -- 18 refuses
-        pub given-pasted : i < r .columns .rows → (a : Answer) → (a .number ≡ 18) × (a .place ≡ i) → Decodes (given-checks f) (fileLabelled f) (refusal a)
+        pub given-pasted : i < r .columns .rows → (a : Answer) → (a .number ≡ 18) × (a .place ≡ i)
+            → Decodes (given-checks f) (fileLabelled f) (refusal a)
         unfolding given-checks pasted-checks
         given-pasted l a q =
             let m : lowest (t .rows) (pasted t) < t .rows = omega (arith, is-lowest, rows-are) in

@@ -3,13 +3,13 @@
 --   places ..               the places of these arrays
 --   PlacesOf n K words first P   P are the places and the chains of n rows, for K sets and the rows' first ends
 --
--- Only one fits (proofs/Ranges `ranged-only`; a place's rows are an equation; slots' `head-only`, `next-only`).
+-- Only one fits (proofs/Ranges `ranged-only`; a place's rows are an equation; chains' `head-only`, `next-only`).
 use mathlib.Core.List.{List}
 use Prim.Native.Nat.{ℕ}
 use Rattle.numbers.specs.Lists.{at}
 use Rattle.rules.specs.Bounds.{max-elements}
 use Rattle.flow.specs.Way.{ByPlace}
-use Rattle.slots.specs.Chained.{Chained}
+use Rattle.chains.specs.Chained.{Chained}
 use Rattle.places.specs.Ranges.{Ranged}
 use Rattle.places.specs.declared.Places.{Places}
 

@@ -1,7 +1,7 @@
 // What the intervals of a table share, laid out once: between which sets each row starts and ends, the rows of each such place, and the
 // chains of rows by their first ends.
+use chains::Chains;
 use flow::PLACES;
-use slots::Chains;
 use table::Table;
 ghost use mathlib.Core.Path.{_≡_};
 ghost use Prim.Native.Nat.{ℕ, suc, _≤_, _<_};
@@ -13,7 +13,7 @@ ghost use Rattle.rules.specs.Bounds.{max-elements, max-rows};
 ghost use Rattle.table.specs.Columns.{ByRow};
 ghost use Rattle.flow.specs.Network.{places-most};
 ghost use Rattle.flow.specs.Way.{ByPlace};
-ghost use Rattle.slots.specs.Chained.{all-heads};
+ghost use Rattle.chains.specs.Chained.{all-heads};
 ghost use Rattle.places.specs.Ranges.{lowestSet, highestSet, Marked};
 ghost use Rattle.places.specs.PlacesOf.{PlacesOf};
 
@@ -123,7 +123,7 @@ pub fn lay<'a>(
     sort_rows(&tail, rows, &mut out);
     let mut into = [0u64; PLACES];
     sort_rows(&head, rows, &mut into);
-    let chains = slots::chain(first, rows);
+    let chains = chains::chain(first, rows);
     let heads = chains.head;
     let next = chains.next;
     Places {

@@ -188,7 +188,7 @@ impl Planner {
             return self.unmoved(Answer::at(Answer::SHORT_OUTPUT, 0));
         }
         let totals = self.totals;
-        let after = course::plan_intervals(table, slot, end, totals, out);
+        let after = course::plan_intervals(table, false, slot, end, totals, out);
         self = Planner {
             stage: stage_after(end, time.hyper, k + 1),
             totals: after,
@@ -208,7 +208,7 @@ impl Planner {
 }
 
 // The whole plan of an analysed table: the words of every interval, each at its own slots, as a fresh planner's steps write them.
-pub fn plan_on(table: Analysis, plan: &mut [u64]) -> Answer
+pub fn plan_on(table: Analysis, plain: bool, plan: &mut [u64]) -> Answer
     requires { ⌜ Usable table ⌝ }
     ensures { λ r. ⌜ PlannedOn table r (now (plan .entry)) (now (plan .exit)) ⌝ }
 {
@@ -221,7 +221,7 @@ pub fn plan_on(table: Analysis, plan: &mut [u64]) -> Answer
         return Answer::at(Answer::SHORT_OUTPUT, 0);
     }
     let fresh = [0u64; Table::ROWS];
-    course::plan_intervals(table, 0, hyper, fresh, plan);
+    course::plan_intervals(table, plain, 0, hyper, fresh, plan);
     Answer::done()
 }
 
@@ -229,5 +229,12 @@ pub fn plan_on(table: Analysis, plan: &mut [u64]) -> Answer
 pub fn whole_plan(file: &[u8], plan: &mut [u64]) -> Answer
     ensures { λ r. ⌜ PlanAnswer (fileAsk (now (file .entry))) r (now (plan .entry)) (now (plan .exit)) ⌝ }
 {
-    plan_on(verdict::analyse(file), plan)
+    plan_on(verdict::analyse(file), false, plan)
+}
+
+// The same by the plain planner (#114).
+pub fn plain_plan(file: &[u8], plan: &mut [u64]) -> Answer
+    ensures { λ r. ⌜ PlanAnswer (fileAsk (now (file .entry))) r (now (plan .entry)) (now (plan .exit)) ⌝ }
+{
+    plan_on(verdict::analyse(file), true, plan)
 }

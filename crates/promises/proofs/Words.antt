@@ -12,7 +12,7 @@ use Rattle.rules.specs.Interval.{Qualify, moves, SlotWords}
 use Rattle.rules.proofs.Interval.{words-as}
 use Rattle.ring.proofs.OnLine.{line-ordered, overlap-meet}
 use Rattle.sets.proofs.Transfer.{Agree, agree-sym, set-agree}
-use Rattle.slots.proofs.Placed.{placed, never-together}
+use Rattle.placing.proofs.Placed.{placed, never-together}
 use Rattle.lags.specs.Lags.{Admissible}
 
 module _ {t : Table} (A : Admissible t) where

@@ -91,7 +91,7 @@ read-input input k e =
 -- the verdict r on the file f, and its line
 module _ (f : List ℕ) (r : Verdict) (J : IsVerdict f r) where
   module _ (x : Answer) (e : r ≡ Refused x) where
-    refusal : IsVerdict f (Refused x)
+    pub refusal : IsVerdict f (Refused x)
     refusal = subst (λ (v : Verdict). IsVerdict f v) e J
 
   module _ (c l h x s : ℕ) (e : r ≡ Admitted c l h x s) where

@@ -2,6 +2,7 @@
 //
 // Each `put_` function writes lines from place `at` on, as far as there is room, and returns the place after them.
 use decimal::put_line;
+use table::Answer;
 use table::Table;
 use verdict::Verdict;
 ghost use mathlib.Core.Path.{_≡_};
@@ -14,6 +15,8 @@ ghost use Rattle.rules.specs.Line.{Sets};
 ghost use Rattle.rules.specs.Loads.{hyperperiod};
 ghost use Rattle.rules.specs.Planner.{WholePlan};
 ghost use Rattle.rules.specs.Refusals.{Answers, verdict-checks};
+ghost use Rattle.rules.specs.Calls.{fileAsk};
+ghost use Rattle.planner.specs.Answers.{PlanAnswer};
 ghost use Rattle.decimal.specs.Puts.{limit, lineOf, max-line, PutsLine, PutsLines};
 ghost use Rattle.rules.specs.Program.{verdict, values, set, slot, set-lines, slot-lines};
 ghost use Rattle.report.specs.Rendered.{Rendered};
@@ -34,7 +37,7 @@ fn put_value(word: &[u8], x: u64, out: &mut [u8], at: usize) -> usize
     put_line(word, &[x], out, at)
 }
 
-fn put_verdict(number: u32, place: u32, out: &mut [u8]) -> usize
+pub fn put_verdict(number: u32, place: u32, out: &mut [u8]) -> usize
     ensures { λ r. ⌜ PutsLine (verdict number place) (now (out .entry)) 0 (now (out .exit)) r ⌝ }
 {
     put_line(b"verdict", &[number as u64, place as u64], out, 0)
@@ -103,14 +106,25 @@ fn put_list(file: &[u8], out: &mut [u8], at: usize) -> usize
     put_sets(&words[..sets], out, at)
 }
 
-fn put_plan(file: &[u8], hyper: u32, out: &mut [u8], at: usize) -> usize
+// The whole plan of a file's table, by the plain planner (#114) or by the other: they are the same.
+fn plan_by(plain: bool, file: &[u8], plan: &mut [u64]) -> Answer
+    ensures { λ r. ⌜ PlanAnswer (fileAsk (now (file .entry))) r (now (plan .entry)) (now (plan .exit)) ⌝ }
+{
+    if plain {
+        planner::plain_plan(file, plan)
+    } else {
+        planner::whole_plan(file, plan)
+    }
+}
+
+pub fn put_plan(file: &[u8], plain: bool, hyper: u32, out: &mut [u8], at: usize) -> usize
     requires { ⌜ Answers (verdict-checks (now file)) 0 0 × (hyper ≡ hyperperiod (fileTable (now file)))
         × (at + max-line * max-slots ≤ limit) ⌝ }
     ensures { λ r. ⌜ ((ws : List ℕ) × WholePlan (fileTable (now (file .entry))) ws
         × PutsLines (slot-lines ws) max-slots (now (out .entry)) at (now (out .exit)) r) ⌝ }
 {
     let mut plan = [0u64; Table::SLOTS];
-    planner::whole_plan(file, &mut plan);
+    plan_by(plain, file, &mut plan);
     let slots = hyper as usize;
     put_slots(&plan[..slots], out, at)
 }
@@ -143,5 +157,5 @@ pub fn render(input: &[u8], out: &mut [u8]) -> usize
     };
     let valued = put_values(cut, interval, hyper, load, out, first);
     let listed = put_list(file, out, valued);
-    put_plan(file, hyper, out, listed)
+    put_plan(file, false, hyper, out, listed)
 }

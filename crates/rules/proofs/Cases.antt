@@ -29,7 +29,8 @@ use Rattle.rules.specs.Interval.{lag, before, hinders, free}
 use Rattle.rules.specs.Planner.{Stage, due, finished, none, more, reached, Off, standing, WholePlan}
 use Rattle.rules.specs.Refusals.{header-checks, row-checks, file-checks, pasted-checks, given-checks}
 use Rattle.rules.specs.Refusals.{line-checks, bound-checks, verdict-checks}
-use Rattle.rules.specs.Cases.{case-A, case-A-labels, case-B, case-B-with, equal-with, pasted-with, round, thirds, halves, none-had, B-at, Cases}
+use Rattle.rules.specs.Cases.{case-A, case-A-labels, case-B, case-B-with, equal-with, pasted-with, round, thirds, halves}
+use Rattle.rules.specs.Cases.{none-had, B-at, Cases}
 use Rattle.rules.specs.Cases.{uneven, uneven-with}
 use Rattle.rules.proofs.Sets.{set-in, sets-only, sets-by}
 use Rattle.rules.proofs.Verdict.{verdict-by}

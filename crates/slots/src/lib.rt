@@ -8,30 +8,16 @@
 // Slots are scanned by stretches: neighbouring slots that hold the same rows. A row takes a stretch whole, or parts it where its load is
 // used up inside, so there is at most one stretch more than rows, however long the interval is. Of the rows that start at one element each
 // scans on from where the row before it stopped: every slot up to there has a last end past the element.
+use chains::Chains;
+use parting::STRETCHES;
 use table::Table;
 ghost use mathlib.Core.Path.{_≡_};
 ghost use Prim.Native.Nat.{ℕ, _+_, _≤_, _<_};
 ghost use lib.ListN.{length, set};
 ghost use Rattle.numbers.specs.Lists.{at};
-ghost use Rattle.rules.specs.Bounds.{max-rows, max-slots};
-ghost use Rattle.slots.specs.Chained.{all-heads, Chained, ChainedRows};
-ghost use Rattle.slots.specs.Filled.{FilledSlots};
-ghost use Rattle.slots.specs.Stretches.{most-stretches, Tiles, Parted, Repeated, Spread};
-
-// The rows that start at each element, by row number. `head[e]` leads to the lowest row that starts at element e, `next[i]` from row i to
-// the next one that starts where it does: each is 1 + the row, or 0 where there is none.
-pub struct Chains {
-    pub head: [u8; Chains::HEADS],
-    pub next: [u8; Table::ROWS],
-}
-
-impl Chains {
-    // A line's elements are numbered from 1, and it has one more than its ring. There is room for two lines, one after the other.
-    pub const HEADS: usize = 2 * (Table::ELEMENTS + 1) + 1;
-}
-
-// Each row parts one stretch at most.
-const STRETCHES: usize = Table::ROWS + 1;
+ghost use Rattle.rules.specs.Bounds.{max-slots};
+ghost use Rattle.chains.specs.Chained.{ChainedRows};
+ghost use Rattle.placing.specs.Filled.{FilledSlots};
 
 // A byte as an index.
 fn wide(x: u8) -> usize
@@ -45,86 +31,6 @@ fn slot(x: u16) -> usize
     ensures { λ r. ⌜ r ≡ x ⌝ }
 {
     x as usize
-}
-
-// Chains the rows by their first ends.
-pub fn chain(first: &[u8; Table::ROWS], rows: usize) -> Chains
-    requires { ⌜ (rows ≤ max-rows) × ((i : ℕ) → i < rows → at (now first) i < all-heads) ⌝ }
-    ensures { λ r. ⌜ Chained rows (at (now (first .entry))) (r .head) (r .next) ⌝ }
-{
-    let mut head = [0u8; Chains::HEADS];
-    let mut next = [0u8; Table::ROWS];
-    let mut i = rows;
-    while i > 0 {
-        let element = wide(first[i - 1]);
-        next[i - 1] = head[element];
-        head[element] = i as u8;
-        i -= 1;
-    }
-    Chains { head, next }
-}
-
-// Parts stretch `k`, which begins at slot `start`, where it has more than `most` slots: those past them become stretch `new`. Gives how
-// many slots the stretch then has.
-fn part(
-    end: &mut [u16; STRETCHES],
-    last: &mut [u8; STRETCHES],
-    after: &mut [u8; STRETCHES],
-    words: &mut [u64],
-    k: usize,
-    start: usize,
-    most: usize,
-    new: usize,
-) -> usize
-    requires { ⌜ (length (now end) ≡ most-stretches) × (length (now last) ≡ most-stretches) × (length (now after) ≡ most-stretches)
-        × (k < most-stretches) × (new < most-stretches) × (start ≤ at (now end) k) × (at (now end) k ≤ max-slots)
-        × (at (now end) k ≤ length (now words)) ⌝ }
-    ensures { λ r. ⌜ Parted k start most new r
-        (now (end .entry)) (now (last .entry)) (now (after .entry)) (now (words .entry))
-        (now (end .exit)) (now (last .exit)) (now (after .exit)) (now (words .exit)) ⌝ }
-{
-    let to = end[k];
-    let size = slot(to) - start;
-    if size <= most {
-        return size;
-    }
-    let middle = start + most;
-    end[new] = to;
-    last[new] = last[k];
-    after[new] = after[k];
-    words[middle] = words[start];
-    end[k] = middle as u16;
-    after[k] = new as u8;
-    most
-}
-
-// Writes the word at slot `from` to the slots after it, up to slot `to`.
-fn repeat(from: usize, to: usize, words: &mut [u64])
-    requires { ⌜ (from < to) × (to ≤ length (now words)) ⌝ }
-    ensures { λ _. ⌜ Repeated from to (now (words .entry)) (now (words .exit)) ⌝ }
-{
-    let word = words[from];
-    let mut s = from + 1;
-    while s < to {
-        words[s] = word;
-        s += 1;
-    }
-}
-
-// Writes the word of each stretch, which stands at its first slot, to all of its slots.
-fn spread(end: &[u16; STRETCHES], after: &[u8; STRETCHES], slots: usize, words: &mut [u64])
-    requires { ⌜ ((of begin : ℕ → ℕ) × Tiles slots of begin (now end) (now after)) × (slots ≤ length (now words)) ⌝ }
-    ensures { λ _. ⌜ ((of begin : ℕ → ℕ) → Tiles slots of begin (now (end .entry)) (now (after .entry))
-        → Spread slots of begin (now (words .entry)) (now (words .exit))) ⌝ }
-{
-    let mut k: usize = 0;
-    let mut s: usize = 0;
-    while s < slots {
-        let to = slot(end[k]);
-        repeat(s, to, words);
-        k = wide(after[k]);
-        s = to;
-    }
 }
 
 // Clears the word of the stretch that is all slots.
@@ -175,7 +81,16 @@ pub fn fill(
                     break 'slots;
                 }
                 if wide(last[k]) <= element {
-                    left -= part(&mut end, &mut last, &mut after, words, k, s, left, i + 1);
+                    left -= parting::part(
+                        &mut end,
+                        &mut last,
+                        &mut after,
+                        words,
+                        k,
+                        s,
+                        left,
+                        i + 1,
+                    );
                     words[s] = words[s] | row;
                     last[k] = second[i];
                 }
@@ -188,5 +103,5 @@ pub fn fill(
         s = 0;
         element += 1;
     }
-    spread(&end, &after, slots, words);
+    parting::spread(&end, &after, slots, words);
 }

@@ -100,3 +100,12 @@ pub extern "C" fn ring_plan(file: &[u8], plan: &mut [u64]) -> u32
     let answer = planner::whole_plan(file, plan);
     joined(answer.number, answer.place)
 }
+
+// Fills it by the plain planner (#114): the same words.
+#[no_mangle]
+pub extern "C" fn ring_plain_plan(file: &[u8], plan: &mut [u64]) -> u32
+    ensures { λ r. ⌜ PlanToC (now (file .entry)) (now (plan .entry)) (now (plan .exit)) r ⌝ }
+{
+    let found = planner::plain_plan(file, plan);
+    joined(found.number, found.place)
+}

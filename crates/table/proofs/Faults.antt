@@ -184,7 +184,8 @@ pub header-rest : (f : List ℕ) (n : ℕ) → headerSize ≤ length f → mark 
     → Answers (header-checks f) n 0
 unfolding header-checks
 header-rest f n l m v a =
-    passed _ _ n 0 (λ (h : length f < headerSize). let z : ⊥ = omega arith in z) (passed _ _ n 0 (λ h. h m) (passed _ _ n 0 (known-right v) a))
+    passed _ _ n 0 (λ (h : length f < headerSize). let z : ⊥ = omega arith in z)
+    (passed _ _ n 0 (λ h. h m) (passed _ _ n 0 (known-right v) a))
 
 pub header-whole : (f : List ℕ) → None (header-checks f) → Whole f
 header-whole f a = let s = sizes-right (fileTable f) _ _ (header-split f a .3) in record { size = s .4; few = s .3 }
@@ -206,7 +207,10 @@ unfolding file-checks header-checks None
 none-passed f m v p =
     none-join (header-checks f) (row-checks (fileTable f)) (
       λ (l : length f < headerSize). let z : ⊥ = omega (arith, p .size) in z,
-      (λ h. h m, (known-right v, table-none (fileTable f) (length f) (headerSize + rowSize (version f) * fileTable f .rows) (p .sound) (p .size))),
+      (
+        λ h. h m,
+        (known-right v, table-none (fileTable f) (length f) (headerSize + rowSize (version f) * fileTable f .rows) (p .sound) (p .size)),
+      ),
     )
     (rows-none (fileTable f) (p .sound .row))
 
@@ -221,7 +225,8 @@ pub checked-start : (t : Table) → Checked t 0
 unfolding each None
 checked-start t = record { there = omega arith; clear = tt }
 
-module _ {t : Labelled} {i : ℕ} (M n : ℕ) {r : Row} (e : t .table .elements ≡ M) (q : IsRow t i r) (a : Answers (faults (single M r) 0) n 0) where
+module _ {t : Labelled} {i : ℕ} (M n : ℕ) {r : Row} (e : t .table .elements ≡ M) (q : IsRow t i r)
+    (a : Answers (faults (single M r) 0) n 0) where
   pub checked-next : Checked (t .table) i → i < t .table .rows → n ≡ 0 → Checked (t .table) (i + 1)
   checked-next c l z = record {
     there = omega arith;

@@ -16,12 +16,12 @@ use Rattle.course.proofs.plan_intervals.Statement.{statement}
 use Rattle.course.proofs.plan_intervals.Tie as tie
 
 abbrev Inv-loop : tie.InvT-loop
-Inv-loop from until plan₀ table rows sets top time places size load₀ part₀ after₀ slot₀ at₀ plan load part after slot at =
+Inv-loop plain from until plan₀ table rows sets top time places size load₀ part₀ after₀ slot₀ at₀ plan load part after slot at =
     (length load ≡ max-rows) × (length part ≡ max-rows)
     × ((t : Table) (k m : ℕ) → Plannable t table k m from until after₀ (length plan₀) → Planning t k m after₀ plan₀ slot at after plan)
 
 abbrev μ-loop : tie.MeasureT-loop
-μ-loop from until plan₀ table rows sets top time places size load₀ part₀ after₀ slot₀ at₀ plan load part after slot at = until - slot
+μ-loop plain from until plan₀ table rows sets top time places size load₀ part₀ after₀ slot₀ at₀ plan load part after slot at = until - slot
 
 -- ---- what the intervals share
 
@@ -87,7 +87,7 @@ module _ (c : tie.After-next-end Inv-loop μ-loop) {t : Table} {k m : ℕ} (P : 
 
 -- the turn, from where all is lent to the interval
 abbrev lending : tie.After-after Inv-loop μ-loop → tie.After-next-end Inv-loop μ-loop
-lending c = c .before .before .before .before .before .before .before .before .before .before .before .before .before .before
+lending c = c .before .before .before .before .before .before .before .before .before .before .before .before .before .before .before
 
 mul-advance : tie.Need-mul-advance Inv-loop μ-loop
 mul-advance c = let I = lending c in omega (arith, place-low I (given (I .before)))
@@ -136,7 +136,7 @@ loop-again c =
     let I = turn c in
     let N = I .before .before .before in
     let D = c .before .before .advance in
-    let last = D .last .1 .1 .1 .1 .1 .1 .1 .1 .1 .1 .1 .1 .1 .1 .1 in (
+    let last = D .last .1 .1 .1 .1 .1 .1 .1 .1 .1 .1 .1 .1 .1 .1 .1 .1 .1 in (
       D .ensures .0,
       D .ensures .1,
       λ t k m P.

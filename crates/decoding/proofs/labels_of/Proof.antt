@@ -37,7 +37,8 @@ add-read16 c = omega arith
 
 read16-requires : tie.Need-read16-requires Inv-loop μ-loop
 read16-requires c κs =
-    omega (arith, label-two (sym (c .before .before .before .before .before .version-of .ensures) ∙ c .before .before .before .before .if1 .left))
+    let e = c .before .before .before .before in
+    omega (arith, label-two (sym (e .before .version-of .ensures) ∙ e .if1 .left))
 
 mul-labels : tie.Need-mul-labels Inv-loop μ-loop
 mul-labels c = omega arith

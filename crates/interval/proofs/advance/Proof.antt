@@ -48,16 +48,16 @@ give-requires c κs =
     let p = start d .pre in
     (few-rows (p .0 .2), whole-fit (p .0 .2) (p .0 .3) (whole d) (part d) (d .part-shares .ensures .2), d .part-shares .ensures .0, p .3)
 
-sub-fill : tie.Need-sub-fill
-sub-fill c =
+sub-place-rows : tie.Need-sub-place-rows
+sub-place-rows c =
     let p = start (c .before .before .before .before .before .before) .pre in
     ends-after (p .0 .2) (p .0 .3)
 
-fill-requires : tie.Need-fill-requires
-fill-requires c κs =
+place-rows-requires : tie.Need-place-rows-requires
+place-rows-requires c κs =
     let p = start (c .before .before .before .before .before .before .before) .pre in
     let R = p .0 .2 in
-    ((_, _, rows-chained R), interval-short R (p .0 .3), p .4)
+    (rows-chained R, interval-short R (p .0 .3), p .4)
 
 same-length : tie.Need-same-length
 same-length c = search needs
@@ -73,7 +73,7 @@ returns c =
       λ t k R D.
           advanced-of R D (whole d) (part d) (d .part-shares .ensures .2) (h .choose .result) (at (g .give .last .1 .1 .0))
           (at (g .give .last .1 .1 .1 .0)) (h .choose .ensures) (g .give .ensures .2) (λ i. refl)
-          (g .give .ensures .1) (f .fill .ensures _ _ (rows-chained R)),
+          (g .give .ensures .1) (f .place-rows .ensures),
     )
 
 pub advance-spec : {M : Type 1} → statement M
@@ -83,7 +83,7 @@ advance-spec =
     part-shares-requires
     choose-requires
     give-requires
-    sub-fill
-    fill-requires
+    sub-place-rows
+    place-rows-requires
     same-length
     returns)

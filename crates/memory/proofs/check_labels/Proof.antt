@@ -16,7 +16,9 @@ done-requires : tie.Need-done-requires Inv-loop μ-loop
 done-requires c κs = omega arith
 
 returns : tie.Need-returns Inv-loop μ-loop
-returns c = λ M. rw (c .done .ensures .0, c .done .ensures .1) (labels-held _ _ (c .before .before .before .args .numbers .now) M (c .before .if1 .taken))
+returns c =
+    λ M.
+    rw (c .done .ensures .0, c .done .ensures .1) (labels-held _ _ (c .before .before .before .args .numbers .now) M (c .before .if1 .taken))
 
 loop-holds : tie.Need-loop-holds Inv-loop μ-loop
 loop-holds c = (omega arith, bare-start _)

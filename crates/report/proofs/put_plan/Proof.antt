@@ -12,31 +12,31 @@ use Rattle.report.proofs.Printed.{planned}
 use Rattle.report.proofs.put_plan.Statement.{statement}
 use Rattle.report.proofs.put_plan.Tie as tie
 
-abbrev entry : tie.After-whole-plan → tie.Start
+abbrev entry : tie.After-plan-by → tie.Start
 entry z = z .before .before .before .before
 
-abbrev file : tie.After-whole-plan → List ℕ
+abbrev file : tie.After-plan-by → List ℕ
 file z = entry z .args .file .now
 
-abbrev hyper : tie.After-whole-plan → ℕ
+abbrev hyper : tie.After-plan-by → ℕ
 hyper z = entry z .args .hyper
 
-abbrev plan : tie.After-whole-plan → List ℕ
-plan z = take (hyper z) (z .whole-plan .last .1 .0)
+abbrev plan : tie.After-plan-by → List ℕ
+plan z = take (hyper z) (z .plan-by .last .1 .1 .0)
 
-found : (z : tie.After-whole-plan) → WholePlan (fileTable (file z)) (plan z) × (length (plan z) ≡ hyper z) × (hyper z ≤ max-slots)
-found z = planned (file z) (entry z .pre .0) (omega arith) (entry z .pre .1) (z .whole-plan .ensures)
+found : (z : tie.After-plan-by) → WholePlan (fileTable (file z)) (plan z) × (length (plan z) ≡ hyper z) × (hyper z ≤ max-slots)
+found z = planned (file z) (entry z .pre .0) (omega arith) (entry z .pre .1) (z .plan-by .ensures)
 
-slice-aggregate-whole-plan : tie.Need-slice-aggregate-whole-plan
-slice-aggregate-whole-plan c = search needs
+slice-aggregate-plan-by : tie.Need-slice-aggregate-plan-by
+slice-aggregate-plan-by c = search needs
 
-whole-plan-requires : tie.Need-whole-plan-requires
-whole-plan-requires c κs = search needs
+plan-by-requires : tie.Need-plan-by-requires
+plan-by-requires c κs = search needs
 
 array-share-prefix-plan : tie.Need-array-share-prefix-plan
 array-share-prefix-plan c =
     let z = c .before in
-    omega (arith, length-take (hyper z) (z .whole-plan .last .1 .0), found z .1)
+    omega (arith, length-take (hyper z) (z .plan-by .last .1 .1 .0), found z .1)
 
 slice-aggregate-put-slots : tie.Need-slice-aggregate-put-slots
 slice-aggregate-put-slots c = sym (found (c .before .before) .1)
@@ -59,8 +59,8 @@ pub put-plan-spec : {M : Type 1} → statement M
 put-plan-spec =
     tie.close
     (tie.spec
-    slice-aggregate-whole-plan
-    whole-plan-requires
+    slice-aggregate-plan-by
+    plan-by-requires
     array-share-prefix-plan
     slice-aggregate-put-slots
     put-slots-requires

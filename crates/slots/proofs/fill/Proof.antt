@@ -11,15 +11,15 @@ use lib.Seq.{getD-set-same}
 use Rattle.numbers.specs.Lists.{at}
 use Rattle.numbers.proofs.Word.{one-shl}
 use Rattle.rules.specs.Bounds.{max-rows, max-slots}
-use Rattle.slots.specs.Chained.{ChainedRows}
-use Rattle.slots.specs.Filled.{Kept, FilledSlots}
-use Rattle.slots.specs.Stretches.{most-stretches}
-use Rattle.slots.proofs.Chained.{link-row, rest, rest-less}
-use Rattle.slots.proofs.Kept.{kept-none, kept-trans, kept-set, kept-cleared}
-use Rattle.slots.proofs.Stretches.{parted-sizes, parted-kept, parted-end}
-use Rattle.slots.proofs.Stretched.{stretched-low, stretched-end}
-use Rattle.slots.proofs.Course.{Coming, coming-start, coming-end, Along, along-start, along-end}
-use Rattle.slots.proofs.Course.{Turning, turning-as, turning-start, turning-skip, turning-take, turning-end}
+use Rattle.chains.specs.Chained.{ChainedRows}
+use Rattle.placing.specs.Filled.{Kept, FilledSlots}
+use Rattle.stretches.specs.Stretches.{most-stretches}
+use Rattle.chains.proofs.Chained.{link-row, rest, rest-less}
+use Rattle.placing.proofs.Kept.{kept-none, kept-trans, kept-set, kept-cleared}
+use Rattle.stretches.proofs.Stretches.{parted-sizes, parted-kept, parted-end}
+use Rattle.stretches.proofs.Stretched.{stretched-low, stretched-end}
+use Rattle.stretches.proofs.Course.{Coming, coming-start, coming-end, Along, along-start, along-end}
+use Rattle.stretches.proofs.Course.{Turning, turning-as, turning-start, turning-skip, turning-take, turning-end}
 use Rattle.slots.proofs.fill.Statement.{statement}
 use Rattle.slots.proofs.fill.Tie as tie
 

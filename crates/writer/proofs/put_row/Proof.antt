@@ -23,7 +23,8 @@ same-length c = search needs
 returns : tie.Need-returns
 returns c =
     let a = c .before .before .before .before .before .before .args in
-    c .before .before .before .put-bytes .ensures ∙ ap (λ (k : ℕ). sets (a .out .now) (a .at) (inFile k (a .row))) (sym (label-none (c .if1 .taken)))
+    c .before .before .before .put-bytes .ensures
+    ∙ ap (λ (k : ℕ). sets (a .out .now) (a .at) (inFile k (a .row))) (sym (label-none (c .if1 .taken)))
 
 add-put-label : tie.Need-add-put-label
 add-put-label c = search needs
@@ -45,7 +46,8 @@ returns-2 c =
     let a = z .before .before .before .args in
     c .before .before .put-label .ensures
     ∙ ap (λ (l : List ℕ). sets l (a .at + rowWith 0) (writeLow 2 (a .row .label))) (z .put-bytes .ensures)
-    ∙ ap (λ (k : ℕ). sets (sets (a .out .now) (a .at) (inFile 0 (a .row))) (a .at + rowWith 0) (writeLow k (a .row .label))) (sym (label-two (y .if1 .left)))
+    ∙ ap (λ (k : ℕ). sets (sets (a .out .now) (a .at) (inFile 0 (a .row))) (a .at + rowWith 0) (writeLow k (a .row .label)))
+    (sym (label-two (y .if1 .left)))
     ∙ sym (row-join _ (a .row) (a .out .now) (a .at))
 
 pub put-row-spec : {M : Type 1} → statement M

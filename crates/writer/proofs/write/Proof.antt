@@ -87,7 +87,8 @@ returns-3 c =
     let room = y .before .row-place .ensures in
     written-done _ _ _ _ _ _ _ _ (z .before .before .check-version .ensures) (z .if1 .left)
     (λ l. let q : ⊥ = omega (arith, room, y .if2 .left) in q)
-    (lent-headed (a .out .now) _ _ (fileHeader (a .version) (a .elements) (a .rows)) rows headerSize refl (omega (arith, room, y .if2 .left))
+    (lent-headed (a .out .now) _ _ (fileHeader (a .version) (a .elements) (a .rows)) rows headerSize refl
+    (omega (arith, room, y .if2 .left))
     (c .before .before .before .before .before .before .put-header .ensures) (c .before .before .put-all-bytes .ensures))
 
 pub write-spec : {M : Type 1} → statement M
