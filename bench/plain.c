@@ -89,14 +89,15 @@ static void cut_time(struct analysis *a) {
 static uint32_t analyse(const uint8_t *f, size_t length, struct analysis *a) {
     if (length < 7) return refuse(1, 0);
     if (f[0] != 'R' || f[1] != 'B' || f[2] != 'T') return refuse(2, 0);
-    if (f[3] != 1 || f[4] != 0) return refuse(3, 0);
+    if ((f[3] != 1 && f[3] != 2) || f[4] != 0) return refuse(3, 0);
+    size_t size = f[3] == 2 ? 8 : 6;
     a->elements = f[5];
     a->rows = f[6];
     if (a->elements < 2 || a->elements > 32) return refuse(4, 0);
     if (a->rows < 1 || a->rows > ROWS) return refuse(5, 0);
-    if (length != 7 + 6 * (size_t)a->rows) return refuse(6, 0);
+    if (length != 7 + size * (size_t)a->rows) return refuse(6, 0);
     for (int i = 0; i < a->rows; i++) {
-        const uint8_t *r = f + 7 + 6 * i;
+        const uint8_t *r = f + 7 + size * (size_t)i;
         a->cost[i] = r[0] + 256 * r[1];
         a->period[i] = r[2] + 256 * r[3];
         a->from[i] = r[4];

@@ -58,11 +58,12 @@ static inline void lead(struct line *t, u32 period) {
 static inline u32 analyse(const uint8_t *file, size_t length, struct line *t) {
     if (length < 7) return refuse(1, 0);
     if (file[0] != 'R' || file[1] != 'B' || file[2] != 'T') return refuse(2, 0);
-    if (file[3] != 1 || file[4] != 0) return refuse(3, 0);
+    if ((file[3] != 1 && file[3] != 2) || file[4] != 0) return refuse(3, 0);
+    size_t size = file[3] == 2 ? 8 : 6;
     u32 elements = file[5], rows = file[6];
     if (elements - 2 > ELEMENTS - 2) return refuse(4, 0);
     if (rows - 1 > ROWS - 1) return refuse(5, 0);
-    if (length != 7 + 6 * (size_t)rows) return refuse(6, 0);
+    if (length != 7 + size * (size_t)rows) return refuse(6, 0);
 
     /* the rows as they stand: faults, earlier rows with the same ends and period, elements gone through, hyperperiod and
      * leading periods */
@@ -71,13 +72,13 @@ static inline u32 analyse(const uint8_t *file, size_t length, struct line *t) {
     t->leading = 0;
     t->interval = SLOTS;
     const uint8_t *row = file + 7;
-    for (u32 i = 0; i < rows; i++, row += 6) {
+    for (u32 i = 0; i < rows; i++, row += size) {
         u32 cost = row[0] + 256u * row[1], period = row[2] + 256u * row[3], from = row[4], to = row[5];
         if (from - 1 >= elements || to - 1 >= elements || from == to) return refuse(7, i);
         if (period - 1 >= SLOTS) return refuse(8, i);
         if (cost - 1 >= period) return refuse(9, i);
         for (u64 alike = leaving[from] & arriving[to]; alike && pasted == ROWS; alike &= alike - 1) {
-            const uint8_t *other = file + 7 + 6 * lowest(alike);
+            const uint8_t *other = file + 7 + size * lowest(alike);
             if (other[2] == row[2] && other[3] == row[3]) pasted = i;
         }
         leaving[from] |= bit(i);
@@ -101,7 +102,7 @@ static inline u32 analyse(const uint8_t *file, size_t length, struct line *t) {
     u64 starts = 0, ends = 0;
     last = 0;
     row = file + 7;
-    for (u32 i = 0; i < rows; i++, row += 6) {
+    for (u32 i = 0; i < rows; i++, row += size) {
         u32 cost = row[0] + 256u * row[1], period = row[2] + 256u * row[3], from = row[4], to = row[5];
         if (period != last) last = period, per_slot = hyper / period;
         if (interval != hyper && cost * interval < period) return refuse(13, i);

@@ -9,7 +9,12 @@
 #include <stdlib.h>
 
 /* Where the rows stand in a table file. */
-enum { HEADER_BYTES = 7, ROW_BYTES = 6, FIRST_AT = 4, SECOND_AT = 5, ELEMENTS_AT = 5, ROWS_AT = 6 };
+enum { HEADER_BYTES = 7, FIRST_AT = 4, SECOND_AT = 5, VERSION_AT = 3, ELEMENTS_AT = 5, ROWS_AT = 6 };
+
+/* Bytes a row: version 2 has a label of two bytes after the six that both have. */
+static unsigned row_bytes(const uint8_t *file) {
+    return file[VERSION_AT] == 2 ? 8 : 6;
+}
 
 /* Says so where an answer is a refusal; ringplan.h has the meaning of each number. */
 static int refused(uint32_t answer) {
@@ -21,7 +26,7 @@ static int refused(uint32_t answer) {
 /* What the slot handler of an element does in one slot. It moves data at most once each way: rows that share a slot share no segment. */
 static void handle(const uint8_t *file, unsigned element, unsigned slot, uint64_t word) {
     for (unsigned i = 0; i < file[ROWS_AT]; i++) {
-        const uint8_t *row = file + HEADER_BYTES + ROW_BYTES * i;
+        const uint8_t *row = file + HEADER_BYTES + row_bytes(file) * i;
         if (!(word >> i & 1)) continue;
         if (row[SECOND_AT] == element) printf("slot %u receive row %u\n", slot, i);
         if (row[FIRST_AT] == element) printf("slot %u send row %u\n", slot, i);

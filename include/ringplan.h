@@ -1,6 +1,6 @@
 /* Collarspoke's functions for C.
  *
- * All take the bytes of a table file and check everything themselves: any bytes of any length may be handed in, also none. A pointer may be
+ * All take the bytes of a table file, of version 1 or of version 2 with a label on each row, and check everything themselves: any bytes of any length may be handed in, also none. A pointer may be
  * NULL where its length is 0. The file and the memory lent for an answer must not overlap. The functions need no heap, no initialisation and
  * no C library but memcpy, memset and memmove, keep nothing between calls, and may be called from several threads at once as long as no two
  * calls share lent memory. None calls itself; each takes at most RING_STACK_BYTES bytes of stack.
@@ -15,8 +15,8 @@
 #include <stdint.h>
 
 /* The version of these functions. The second number grows where something is added, the first where something changes. */
-#define RINGPLAN_VERSION_MAJOR 4
-#define RINGPLAN_VERSION_MINOR 2
+#define RINGPLAN_VERSION_MAJOR 5
+#define RINGPLAN_VERSION_MINOR 0
 
 #ifdef __cplusplus
 extern "C" {
@@ -26,10 +26,10 @@ enum {
     RING_DONE = 0,              /* admitted, or done */
     RING_SHORT_FILE = 1,        /* the file has under 7 bytes */
     RING_WRONG_MARK = 2,        /* it does not begin with "RBT" */
-    RING_WRONG_VERSION = 3,     /* its version is not 1 */
+    RING_WRONG_VERSION = 3,     /* its version is neither 1 nor 2 */
     RING_WRONG_ELEMENTS = 4,    /* the ring has not 2 to 32 elements */
     RING_WRONG_ROWS = 5,        /* the table has not 1 to 64 rows */
-    RING_WRONG_LENGTH = 6,      /* the file's length is not 7 + 6 × rows */
+    RING_WRONG_LENGTH = 6,      /* the file's length is not 7 + 6 × rows; in version 2, 7 + 8 × rows */
     RING_WRONG_ENDS = 7,        /* an end is no element of the ring, or both are equal; place: the row */
     RING_WRONG_PERIOD = 8,      /* the period is not 1 to 4096 slots; place: the row */
     RING_WRONG_COST = 9,        /* the cost is 0 or above the period; place: the row */
@@ -42,6 +42,7 @@ enum {
     RING_HAS_FINISHED = 16,     /* not given by these functions */
     RING_SHORT_OUTPUT = 17,     /* the memory lent for the answer is too short */
     RING_PASTED_ROW = 18,       /* a row has the ends and the period of an earlier one; place: the later row */
+    RING_LOST_LABEL = 20,       /* not given by these functions: a label that is to be written in version 1; place: the row */
     RING_NO_ROW = 32            /* a row that is asked for is past the last; place: 0 for the first of the two, 1 for the second */
 };
 
@@ -50,7 +51,7 @@ enum {
 #define RING_PLACE(answer) ((unsigned)((answer) % 256))
 
 /* the longest table file, the longest plan, the most sets, and the most stack in bytes */
-enum { RING_FILE_BYTES = 391, RING_PLAN_SLOTS = 4096, RING_MOST_SETS = 64, RING_STACK_BYTES = 12288 };
+enum { RING_FILE_BYTES = 519, RING_PLAN_SLOTS = 4096, RING_MOST_SETS = 64, RING_STACK_BYTES = 12288 };
 
 /* Whether the bus can carry the table. Gives 0 to 14 and 18. */
 uint32_t ring_verdict(const uint8_t *file, size_t file_bytes);

@@ -43,18 +43,21 @@ static void put16(uint8_t *at, unsigned x) {
     at[1] = (uint8_t)(x >> 8);
 }
 
+/* A table of version 2 is written so, with its labels; any other as version 1. */
 static void encode(const struct table *t, struct file *f) {
-    memcpy(f->byte, "RBT\1\0", 5);
+    size_t size = t->version == 2 ? 8 : 6;
+    memcpy(f->byte, t->version == 2 ? "RBT\2\0" : "RBT\1\0", 5);
     f->byte[5] = (uint8_t)t->elements;
     f->byte[6] = (uint8_t)t->rows;
     for (unsigned i = 0; i < t->rows; i++) {
-        uint8_t *r = f->byte + 7 + 6 * i;
+        uint8_t *r = f->byte + 7 + size * i;
         put16(r, t->row[i].cost);
         put16(r + 2, t->row[i].period);
         r[4] = (uint8_t)t->row[i].first;
         r[5] = (uint8_t)t->row[i].second;
+        if (size == 8) put16(r + 6, t->row[i].label);
     }
-    f->length = 7 + 6 * (size_t)t->rows;
+    f->length = 7 + size * t->rows;
 }
 
 static unsigned gcd(unsigned a, unsigned b) {
@@ -217,12 +220,24 @@ static void to_the_bound(struct table *t, int past) {
     }
 }
 
+/* Version 2 for every second table, with labels 0, 1, 65535 and any. */
+static void give_labels(struct table *t) {
+    t->version = between(1, 2);
+    for (unsigned i = 0; i < t->rows; i++) {
+        const unsigned some[] = {0, 1, 65535, below(65536)};
+        t->row[i].label = some[below(4)];
+    }
+}
+
 static void damage(struct file *f) {
     switch (below(9)) {
     case 0: f->length = below((unsigned)f->length + 1); break;
     case 1: f->length += between(1, 8); break;
     case 2: f->byte[below(3)] ^= (uint8_t)between(1, 255); break;
-    case 3: f->byte[3 + below(2)] ^= (uint8_t)between(1, 255); break;
+    case 3:
+        if (below(2)) f->byte[3] ^= 3; /* the other version */
+        else f->byte[3 + below(2)] ^= (uint8_t)between(1, 255);
+        break;
     case 4: f->byte[5] = (uint8_t)below(256); break;
     case 5: f->byte[6] = (uint8_t)below(256); break;
     case 6: f->byte[7 + below((unsigned)f->length - 7)] = below(2) ? 255 : 0; break;
@@ -235,7 +250,7 @@ static void damage(struct file *f) {
 
 enum { LAST_NUMBER = 32 };
 static unsigned seen[LAST_NUMBER + 1];
-static unsigned long admitted, slots, exact, uneven, newly;
+static unsigned long admitted, labelled, slots, exact, uneven, newly;
 
 static void fail(const struct file *f, const char *what) {
     printf("compare: %s; the table's bytes:\n", what);
@@ -367,6 +382,7 @@ static void compare(const struct file *given) {
     const char *why = "";
     if (!oracle_keeps(&v, plan, &why)) fail(given, why);
     admitted++;
+    labelled += v.table.version == 2;
     slots += v.hyper;
     uneven += v.intervals * v.interval != v.hyper;
     newly += !oracle_before(&v);
@@ -407,15 +423,17 @@ int main(int argc, char **argv) {
         if (!routes && below(30)) without_pasted(&t);
         if (!routes && below(3) == 0) to_the_bound(&t, (int)below(2));
         if (!routes && below(30) == 0) paste(&t);
+        give_labels(&t);
         encode(&t, &f);
         if (!routes && below(4) == 0) damage(&f);
         compare(&f);
     }
     printf("%lu tables, %lu admitted, %lu of them with the oracle's exact words, %lu slots of plan\n", tables, admitted, exact, slots);
+    printf("%lu of version 2\n", labelled);
     printf("%lu with intervals of different length, %lu that the greatest common divisor of all periods refuses\n", uneven, newly);
     printf("greedy was not enough in %lu of %lu intervals\n", words_settled, words_intervals);
     if (routes) return 0;
-    if (!uneven || !newly) {
+    if (!labelled || !uneven || !newly) {
         printf("compare: no such table was seen\n");
         return 1;
     }

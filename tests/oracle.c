@@ -188,19 +188,22 @@ void oracle_verdict(const uint8_t *f, size_t length, struct verdict *v) {
     struct table *t = &v->table;
     if (length < 7) { refuse(v, 1, 0); return; }
     if (f[0] != 0x52 || f[1] != 0x42 || f[2] != 0x54) { refuse(v, 2, 0); return; }
-    if (f[3] != 1 || f[4] != 0) { refuse(v, 3, 0); return; }
+    t->version = f[3] + 256u * f[4];
+    if (t->version != 1 && t->version != 2) { refuse(v, 3, 0); return; }
     t->elements = f[5];
     t->rows = f[6];
     if (t->elements < 2 || t->elements > MAX_ELEMENTS) { refuse(v, 4, 0); return; }
     if (t->rows < 1 || t->rows > MAX_ROWS) { refuse(v, 5, 0); return; }
-    if (length != 7 + 6 * (size_t)t->rows) { refuse(v, 6, 0); return; }
+    size_t size = t->version == 1 ? 6 : 8;
+    if (length != 7 + size * t->rows) { refuse(v, 6, 0); return; }
     for (unsigned i = 0; i < t->rows; i++) {
-        const uint8_t *r = f + 7 + 6 * i;
+        const uint8_t *r = f + 7 + size * i;
         struct row *w = &t->row[i];
         w->cost = r[0] + 256u * r[1];
         w->period = r[2] + 256u * r[3];
         w->first = r[4];
         w->second = r[5];
+        w->label = t->version == 1 ? 0 : r[6] + 256u * r[7];
         if (w->first < 1 || w->first > t->elements || w->second < 1 || w->second > t->elements || w->first == w->second) {
             refuse(v, 7, i);
             return;

@@ -10,11 +10,11 @@
 enum { MAX_ELEMENTS = 32, MAX_ROWS = 64, MAX_SLOTS = 4096, MAX_SETS = 4096 };
 
 struct row {
-    unsigned cost, period, first, second;
+    unsigned cost, period, first, second, label;
 };
 
 struct table {
-    unsigned elements, rows;
+    unsigned version, elements, rows;
     struct row row[MAX_ROWS];
 };
 

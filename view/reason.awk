@@ -73,10 +73,10 @@ function on_light(    i, l, line) {
 function reason(n, i) {
     if (n == 1) return "the file has " plural(bytes, "byte")
     if (n == 2) return "its first bytes are " head "; a table's are 82 66 84"
-    if (n == 3) return "its version is " version
+    if (n == 3) return "its version is " version "; a table's is 1 or 2"
     if (n == 4) return "it says " elements
     if (n == 5) return "it says " said
-    if (n == 6) return "it has " bytes " bytes; with " plural(said, "row") " that is " (7 + 6 * said)
+    if (n == 6) return "it has " bytes " bytes; with " plural(said, "row") " that is " (7 + (version == 2 ? 8 : 6) * said)
     if (n == 7) return on_ends(i)
     if (n == 8) return "row " i " has a period of " plural(period[i], "slot")
     if (n == 9) return "row " i " costs " plural(cost[i], "slot") " of " period[i]

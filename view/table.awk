@@ -1,13 +1,14 @@
 # A table file in lines, from its bytes in decimal (od -An -v -tu1): how many bytes it has, the first seven, the elements, and the rows as far
-# as they are there.
+# as they are there, without their labels. A row has eight bytes in version 2, else six.
 { for (k = 1; k <= NF; k++) byte[n++] = $k }
 END {
     print "bytes", n + 0
     if (n < 7) exit
     print "head", byte[0], byte[1], byte[2], byte[3], byte[4], byte[5], byte[6]
     print "elements", byte[5]
-    for (i = 0; i < byte[6] && 7 + 6 * (i + 1) <= n; i++) {
-        at = 7 + 6 * i
+    size = byte[3] == 2 && byte[4] == 0 ? 8 : 6
+    for (i = 0; i < byte[6] && 7 + size * (i + 1) <= n; i++) {
+        at = 7 + size * i
         print "row", i, byte[at] + 256 * byte[at + 1], byte[at + 2] + 256 * byte[at + 3], byte[at + 4], byte[at + 5]
     }
 }

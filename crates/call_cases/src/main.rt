@@ -10,7 +10,7 @@ use libc::STDIN_FILENO;
 use libc::STDOUT_FILENO;
 
 // as many numbers as a case has at most
-const MOST: usize = 400;
+const MOST: usize = 540;
 
 pub(crate) fn byte_at(text: &[u8], k: usize) -> u8 {
     if k < text.len() { text[k] } else { 0 }
@@ -24,6 +24,10 @@ fn end_line() {
 fn call(heading: &[u8], given: &[u64]) {
     let letter = byte_at(heading, 0);
     if letter == b'r' {
+        tables::read_case(heading, given);
+        return;
+    }
+    if letter == b'v' {
         tables::read_case(heading, given);
         return;
     }

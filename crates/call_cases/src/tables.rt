@@ -1,15 +1,18 @@
 // The cases of the reader and the writer:
 //
-//     read NAME: room / bytes                          the reader on a file of these bytes; it is lent `room` numbers
-//     write NAME: elements rows room / numbers         the writer on these; it is lent `room` bytes
+//     read NAME: room / bytes                                  the reader on a file of these bytes; it is lent `room` numbers
+//     version_1 NAME: room / bytes                             the reader of version 1 alone, likewise
+//     write NAME: version elements rows room / numbers         the writer on these; it is lent `room` bytes
 //
-// For each a line is printed: the call, the name, number and place, what the reader returned of M and the row count, and then all of the
-// lent memory, which held 9s before.
+// For each a line is printed: the call, the name, number and place, what the reader returned of the version, M and the row count, and then
+// all of the lent memory, which held 9s before.
+use crate::byte_at;
 use cases::number_at;
 use cases::print;
+use reader::Reading;
 
 // as much as a call is given, and is lent, at most
-const MOST: usize = 400;
+const MOST: usize = 540;
 
 const KEPT: u8 = 9;
 
@@ -43,13 +46,21 @@ fn print_bytes(bytes: &[u8]) {
 
 // ---- the reader
 
+fn read_by(heading: &[u8], file: &[u8], out: &mut [u16]) -> Reading {
+    if byte_at(heading, 0) == b'r' {
+        return reader::read(file, out);
+    }
+    reader::read_version_1(file, out)
+}
+
 fn read(heading: &[u8], file: &[u8], out: &mut [u16]) {
-    let r = reader::read(file, out);
+    let r = read_by(heading, file, out);
     print(
         heading,
         &[
             r.answer.number as u64,
             r.answer.place as u64,
+            r.version,
             r.table.elements as u64,
             r.table.rows as u64,
         ],
@@ -93,8 +104,14 @@ pub(crate) fn read_case(heading: &[u8], given: &[u64]) {
 
 // ---- the writer
 
-fn write(heading: &[u8], elements: u64, rows: u64, numbers: &[u16], out: &mut [u8]) {
-    let answer = writer::write(elements, rows, numbers, out);
+fn write(heading: &[u8], given: &[u64], numbers: &[u16], out: &mut [u8]) {
+    let answer = writer::write(
+        number_at(given, 0),
+        number_at(given, 1),
+        number_at(given, 2),
+        numbers,
+        out,
+    );
     print(heading, &[answer.number as u64, answer.place as u64]);
     print_bytes(out);
 }
@@ -121,28 +138,22 @@ fn write_front(
     if room > out.len() {
         return;
     }
-    write(
-        heading,
-        number_at(given, 0),
-        number_at(given, 1),
-        &numbers[..size],
-        &mut out[..room],
-    );
+    write(heading, given, &numbers[..size], &mut out[..room]);
 }
 
 pub(crate) fn write_case(heading: &[u8], given: &[u64]) {
-    if given.len() < 3 {
+    if given.len() < 4 {
         return;
     }
     let mut numbers = [0u16; MOST];
-    put_numbers(&given[3..], &mut numbers);
+    put_numbers(&given[4..], &mut numbers);
     let mut out = [KEPT; MOST];
     write_front(
         heading,
         given,
         &numbers,
-        given.len() - 3,
+        given.len() - 4,
         &mut out,
-        number_at(given, 2) as usize,
+        number_at(given, 3) as usize,
     );
 }

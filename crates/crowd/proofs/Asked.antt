@@ -11,7 +11,7 @@ use Rattle.numbers.specs.Lists.{at}
 use Rattle.numbers.specs.Word.{bit}
 use Rattle.rules.specs.Bounds.{max-rows}
 use Rattle.rules.specs.Bus.{Table, common}
-use Rattle.rules.specs.TableFile.{fileTable}
+use Rattle.rules.specs.TableFile.{fileTable, fileLabelled}
 use Rattle.rules.specs.Line.{Sets, setAt}
 use Rattle.rules.specs.Refusals.{Check, no-set, given-checks, line-checks, set-checks}
 use Rattle.rules.specs.Calls.{Crowded}
@@ -30,7 +30,7 @@ use Rattle.pasted.proofs.AsGiven.{given-numbered, given-passed}
 use Rattle.outline.proofs.Outlined.{line-numbered, outlined-none, found-few, found-count}
 use Rattle.crowd.proofs.Left.{left, common-is}
 
-module _ (f : List ℕ) (k : ℕ) (r : Decoded) (D : Decodes (given-checks f) (fileTable f) r) where
+module _ (f : List ℕ) (k : ℕ) (r : Decoded) (D : Decodes (given-checks f) (fileLabelled f) r) where
   abbrev t : Table
   t = fileTable f
 

@@ -1,27 +1,31 @@
 -- A file's table, decoded row by row, and that only one answer fits.
 --
 --   Decoding t i cost period first second    the columns hold the first i rows of t, and 0 in every other place
-use mathlib.Core.Path.{_≡_, refl, sym, ap, _∙_}
+use mathlib.Core.Path.{_≡_, refl, sym, ap, _∙_, fun-ext}
 use mathlib.Core.Logic.{_≢_}
 use mathlib.Core.List.{List}
 use Prim.Native.Nat.{ℕ, _+_, _*_, _≤_, _<_}
 use native.Mathlib.Nat.{mul-le-mul-left}
 use native.Mathlib.Decide.{ℕ-discrete}
 use native.Mathlib.Omega.{arith}
-use lib.ListN.{set, replicate}
+use lib.ListN.{set, replicate, length-replicate}
 use lib.Seq.{ext-getD}
 use Rattle.numbers.specs.Lists.{at}
+use Rattle.numbers.specs.Codec.{readLow}
+use Rattle.numbers.proofs.Lists.{zeros-at}
+use Rattle.numbers.proofs.Codec.{low-past, low-two}
 use Rattle.rules.specs.Bounds.{max-rows}
-use Rattle.rules.specs.Bus.{Table}
-use Rattle.rules.specs.TableFile.{headerSize, rowSize, read16, fileTable}
+use Rattle.rules.specs.Bus.{Table, Labelled}
+use Rattle.rules.specs.TableFile.{version-2, headerSize, labelSize, rowSize, read16, version, fileTable, fileLabelled}
 use Rattle.rules.specs.Refusals.{Check, Answers, header-checks, row-checks, file-checks}
 use Rattle.rules.proofs.Answers.{None, stopped, joined, answers-only}
-use Rattle.table.specs.Columns.{ByRow, Whole, tableOf, Holds}
+use Rattle.table.specs.Columns.{ByRow, Whole, tableOf, Holds, HoldsLabels, noLabels}
 use Rattle.decoding.specs.Decoded.{refusal, Decodes}
 use Rattle.table.specs.declared.Answer.{Answer}
 use Rattle.table.specs.declared.columns.Columns.{Columns}
 use Rattle.decoding.specs.declared.Decoded.{Decoded}
 use Rattle.table.proofs.ByRow.{by-row-start, by-row-put, by-row-all, past-end}
+use Rattle.table.proofs.RowSizes.{label-two, label-none}
 
 pub record Decoding (t : Table) (i : ℕ) (cost period first second : List ℕ) : Type 0 where
   pub costs : ByRow i (t .cost) cost
@@ -49,12 +53,15 @@ decoding-next {c = c} {p = p} {f = f} {s = s} D l x y z w = record {
 }
 
 -- a file ends with its last row, so its table has 0 past it too
+past-row : {f : List ℕ} {i k : ℕ} → Whole f → fileTable f .rows ≤ i → headerSize + rowSize (version f) * i ≤ k → at f k ≡ 0
+past-row {f} {i} {k} w l h = past-end f k (omega (arith, w .size, mul-le-mul-left (rowSize (version f)) l))
+
 pub decoding-end : {f : List ℕ} (c : Columns) → Whole f → c .elements ≡ fileTable f .elements → c .rows ≡ fileTable f .rows
     → Decoding (fileTable f) (c .rows) (c .cost) (c .period) (c .first) (c .second) → Holds (fileTable f) c
 decoding-end {f} c w m n D =
-    let past : (i k : ℕ) → c .rows ≤ i → headerSize + rowSize * i ≤ k → at f k ≡ 0 =
-    λ i k l h. past-end f k (omega (arith, w .size, n, mul-le-mul-left rowSize l)) in
-    let pair : (i k : ℕ) → c .rows ≤ i → headerSize + rowSize * i ≤ k → read16 f k ≡ 0 =
+    let past : (i k : ℕ) → c .rows ≤ i → headerSize + rowSize (version f) * i ≤ k → at f k ≡ 0 =
+    λ i k l h. past-row w (rw n at l) h in
+    let pair : (i k : ℕ) → c .rows ≤ i → headerSize + rowSize (version f) * i ≤ k → read16 f k ≡ 0 =
     λ i k l h. omega (arith, past i k l h, past i (k + 1) l (omega arith)) in
     let cost : at (c .cost) ≡ fileTable f .cost = by-row-all (D .costs) (λ i l. pair i _ l (omega arith)) in
     let period : at (c .period) ≡ fileTable f .period = by-row-all (D .periods) (λ i l. pair i _ l (omega arith)) in
@@ -75,17 +82,46 @@ decoding-end {f} c w m n D =
       seconds = D .seconds .size;
     }
 
+-- ---- labels
+
+module _ {f : List ℕ} (w : Whole f) where
+  abbrev label : ℕ → ℕ
+  label = fileLabelled f .label
+
+  -- past the last row they are 0, as there are none
+  label-past : (i : ℕ) → fileTable f .rows ≤ i → label i ≡ 0
+  label-past i l =
+      low-past (labelSize (version f)) f _ (λ j. past-row w l (omega arith))
+
+  pub labels-end : {xs : List ℕ} {n : ℕ} → n ≡ fileTable f .rows → ByRow n label xs → HoldsLabels label xs
+  labels-end e B = record { labels = by-row-all B (λ i l. label-past i (rw e at l)); size = B .size }
+
+  -- in version 2 each is 16 bits
+  pub label-at : (i : ℕ) → version f ≡ version-2 → label i ≡ read16 f (headerSize + rowSize (version f) * i + 6)
+  label-at i e =
+      ap (λ (k : ℕ). readLow k f (headerSize + rowSize (version f) * i + 6)) (label-two e) ∙ low-two f _
+
+-- in any other it has no bytes
+pub labels-none : (f : List ℕ) → version f ≢ version-2 → HoldsLabels (fileLabelled f .label) noLabels
+unfolding readLow
+labels-none f h = record {
+  labels = fun-ext (λ i. zeros-at max-rows i
+      ∙ sym (ap (λ (k : ℕ). readLow k f (headerSize + rowSize (version f) * i + 6)) (label-none h)));
+  size = length-replicate {A = ℕ} max-rows 0;
+}
+
 -- ---- the answer beside the columns
 
 module _ (f : List ℕ) (a : Answer) where
   -- the header is refused
   pub decodes-header : {n p : ℕ} → Answers (header-checks f) n p → n ≢ 0 → a .number ≡ n → a .place ≡ p
-      → Decodes (file-checks f) (fileTable f) (refusal a)
+      → Decodes (file-checks f) (fileLabelled f) (refusal a)
   unfolding file-checks
   decodes-header {n} {p} h z e q = record {
     answers = rw (e, q) (stopped (header-checks f) (row-checks (fileTable f)) n p z h);
     passed = λ k. absurd (z (sym e ∙ k));
-    refused = λ k. refl;
+    labelled = λ k. absurd (z (sym e ∙ k));
+    refused = λ k. (refl, refl);
   }
 
   module _ (s : None (header-checks f)) (h : Answers (row-checks (fileTable f)) (a .number) (a .place)) where
@@ -94,12 +130,17 @@ module _ (f : List ℕ) (a : Answer) where
     rows-decide = joined (header-checks f) (row-checks (fileTable f)) (a .number) (a .place) s h
 
     -- a row is refused
-    pub decodes-row : a .number ≢ 0 → Decodes (file-checks f) (fileTable f) (refusal a)
-    decodes-row z = record { answers = rows-decide; passed = λ k. absurd (z k); refused = λ k. refl }
+    pub decodes-row : a .number ≢ 0 → Decodes (file-checks f) (fileLabelled f) (refusal a)
+    decodes-row z = record {
+      answers = rows-decide;
+      passed = λ k. absurd (z k);
+      labelled = λ k. absurd (z k);
+      refused = λ k. (refl, refl);
+    }
 
-    pub decodes-all : {c : Columns} → a .number ≡ 0 → Holds (fileTable f) c
-        → Decodes (file-checks f) (fileTable f) (record { answer = a; columns = c })
-    decodes-all e H = record { answers = rows-decide; passed = λ k. H; refused = λ k. absurd (k e) }
+    pub decodes-all : {c : Columns} {xs : List ℕ} → a .number ≡ 0 → Holds (fileTable f) c → HoldsLabels (fileLabelled f .label) xs
+        → Decodes (file-checks f) (fileLabelled f) (record { answer = a; columns = c; labels = xs })
+    decodes-all e H L = record { answers = rows-decide; passed = λ k. H; labelled = λ k. L; refused = λ k. absurd (k e) }
 
 -- ---- only one answer fits
 
@@ -123,12 +164,21 @@ holds-only {t} {c} {d} H K =
       second = second k;
     }
 
-pub decodes-only : {cs : List Check} {t : Table} {r s : Decoded} → Decodes cs t r → Decodes cs t s → r ≡ s
+pub labels-only : {g : ℕ → ℕ} {xs ys : List ℕ} → HoldsLabels g xs → HoldsLabels g ys → xs ≡ ys
+labels-only {g} {xs} {ys} X Y =
+    ext-getD 0 xs ys (X .size ∙ sym (Y .size)) (λ i l. ap (λ (h : ℕ → ℕ). h i) (X .labels ∙ sym (Y .labels)))
+
+pub decodes-only : {cs : List Check} {t : Labelled} {r s : Decoded} → Decodes cs t r → Decodes cs t s → r ≡ s
 decodes-only {cs} {t} {r} {s} D E =
     let z = answers-only cs _ _ _ _ (D .answers) (E .answers) in
-    let columns : r .columns ≡ s .columns = go (z .0) (ℕ-discrete (r .answer .number) 0) in
-    λ k. record { answer = record { number = z .0 k; place = z .1 k }; columns = columns k }
+    let same = go (z .0) (ℕ-discrete (r .answer .number) 0) in
+    λ k. record { answer = record { number = z .0 k; place = z .1 k }; columns = same .0 k; labels = same .1 k }
   where
-    go : r .answer .number ≡ s .answer .number → Dec (r .answer .number ≡ 0) → r .columns ≡ s .columns
-    go e (yes h) = holds-only (D .passed h) (E .passed (sym e ∙ h))
-    go e (no h) = D .refused h ∙ sym (E .refused (λ q. h (e ∙ q)))
+    go : r .answer .number ≡ s .answer .number → Dec (r .answer .number ≡ 0) → (r .columns ≡ s .columns) × (r .labels ≡ s .labels)
+    go e (yes h) =
+        let g = sym e ∙ h in
+        (holds-only (D .passed h) (E .passed g), labels-only (D .labelled h) (E .labelled g))
+    go e (no h) =
+        let a = D .refused h in
+        let b = E .refused (λ q. h (e ∙ q)) in
+        (a .0 ∙ sym (b .0), a .1 ∙ sym (b .1))

@@ -2,18 +2,22 @@
 use table::Answer;
 use table::Columns;
 use table::Table;
+use table::is_unknown;
 use table::no_columns;
 use table::read16;
 use table::row_at;
+use table::row_bytes;
 use table::row_fault;
+use table::row_place;
 use table::size_fault;
+use table::version_of;
 ghost use mathlib.Core.Path.{_≡_};
-ghost use Prim.Native.Nat.{_≤_};
+ghost use Prim.Native.Nat.{_+_, _*_, _≤_, _<_};
 ghost use lib.ListN.{length};
 ghost use Rattle.rules.specs.Bounds.{max-rows};
-ghost use Rattle.rules.specs.TableFile.{table-mark, mark, fileTable};
+ghost use Rattle.rules.specs.TableFile.{table-mark, version-2, headerSize, rowSize, mark, version, fileTable, fileLabelled};
 ghost use Rattle.rules.specs.Refusals.{Answers, header-checks, row-checks, file-checks};
-ghost use Rattle.table.specs.Columns.{Whole, columnTable, Holds};
+ghost use Rattle.table.specs.Columns.{Whole, columnTable, Holds, HoldsLabels};
 ghost use Rattle.decoding.specs.Decoded.{refusal, Decodes};
 ghost use Rattle.numbers.specs.Decides.{Decides};
 
@@ -30,6 +34,23 @@ fn is_marked(file: &[u8]) -> bool
     file[2] == Table::MARK[2]
 }
 
+// Whether a file has a header with the mark and version 2.
+pub fn is_labelled(file: &[u8]) -> bool
+    ensures { λ r. ⌜ Decides ((headerSize ≤ length (now (file .entry))) × (mark (now (file .entry)) ≡ table-mark)
+        × (version (now (file .entry)) ≡ version-2)) r ⌝ }
+{
+    if file.len() < Table::HEADER {
+        return false;
+    }
+    if !is_marked(file) {
+        return false;
+    }
+    if version_of(file) == Table::VERSION_2 {
+        return true;
+    }
+    false
+}
+
 // Checks 1 to 6.
 fn header_fault(file: &[u8]) -> u32
     ensures { λ r. ⌜ Answers (header-checks (now (file .entry))) r 0 ⌝ }
@@ -40,7 +61,8 @@ fn header_fault(file: &[u8]) -> u32
     if !is_marked(file) {
         return Answer::WRONG_MARK;
     }
-    if read16(file, Table::VERSION_AT) != Table::VERSION {
+    let version = version_of(file);
+    if is_unknown(version) {
         return Answer::WRONG_VERSION;
     }
     let table = Table::of(file);
@@ -49,8 +71,17 @@ fn header_fault(file: &[u8]) -> u32
         table.rows,
         file.len(),
         Table::HEADER,
-        Table::ROW_BYTES,
+        row_bytes(version),
     )
+}
+
+// The first byte of row `i`, in a file that is as long as it says.
+fn row_in(file: &[u8], i: usize) -> usize
+    requires { ⌜ Whole (now file) × (i < fileTable (now file) .rows) ⌝ }
+    ensures { λ r. ⌜ (r ≡ headerSize + rowSize (version (now (file .entry))) * i)
+        × (r + rowSize (version (now (file .entry))) ≤ length (now (file .entry))) ⌝ }
+{
+    row_place(version_of(file), i)
 }
 
 // The columns of the table in a file that is as long as it says.
@@ -65,7 +96,7 @@ fn columns_of(file: &[u8]) -> Columns
     let mut second = [0u8; Table::ROWS];
     let mut i: usize = 0;
     while i < table.rows {
-        let at = Table::HEADER + Table::ROW_BYTES * i;
+        let at = row_in(file, i);
         cost[i] = read16(file, at);
         period[i] = read16(file, at + 2);
         first[i] = file[at + 4];
@@ -82,6 +113,24 @@ fn columns_of(file: &[u8]) -> Columns
     }
 }
 
+// The labels of that table: version 2 has them after the six bytes that both have, and in version 1 all are 0.
+fn labels_of(file: &[u8]) -> [u16; Table::ROWS]
+    requires { ⌜ Whole (now file) ⌝ }
+    ensures { λ r. ⌜ HoldsLabels (fileLabelled (now (file .entry)) .label) r ⌝ }
+{
+    let mut labels = [0u16; Table::ROWS];
+    if version_of(file) != Table::VERSION_2 {
+        return labels;
+    }
+    let rows = Table::of(file).rows;
+    let mut i: usize = 0;
+    while i < rows {
+        labels[i] = read16(file, row_in(file, i) + Table::ROW_BYTES);
+        i += 1;
+    }
+    labels
+}
+
 // Checks 7 to 9 of a table in columns.
 fn check_rows<'a>(
     elements: usize,
@@ -90,6 +139,7 @@ fn check_rows<'a>(
     period: &'a [u16; Table::ROWS],
     first: &'a [u8; Table::ROWS],
     second: &'a [u8; Table::ROWS],
+    labels: &'a [u16; Table::ROWS],
 ) -> Answer
     requires { ⌜ rows ≤ max-rows ⌝ }
     ensures { λ r. ⌜ Answers
@@ -98,7 +148,7 @@ fn check_rows<'a>(
 {
     let mut i: usize = 0;
     while i < rows {
-        let number = row_fault(elements, row_at(cost, period, first, second, i));
+        let number = row_fault(elements, row_at(cost, period, first, second, labels, i));
         if number != Answer::DONE {
             return Answer::at(number, i);
         }
@@ -107,10 +157,11 @@ fn check_rows<'a>(
     Answer::done()
 }
 
-// A file's table, or why it is refused.
+// A file's table and its labels, or why it is refused.
 pub struct Decoded {
     pub answer: Answer,
     pub columns: Columns,
+    pub labels: [u16; Table::ROWS],
 }
 
 impl Decoded {
@@ -120,19 +171,21 @@ impl Decoded {
         Decoded {
             answer: answer,
             columns: no_columns(),
+            labels: [0; Table::ROWS],
         }
     }
 }
 
-// Checks 1 to 9. The columns are a passed file's; all 0 beside a refusal.
+// Checks 1 to 9. Columns and labels are a passed file's; all 0 beside a refusal.
 pub fn decode(file: &[u8]) -> Decoded
-    ensures { λ r. ⌜ Decodes (file-checks (now (file .entry))) (fileTable (now (file .entry))) r ⌝ }
+    ensures { λ r. ⌜ Decodes (file-checks (now (file .entry))) (fileLabelled (now (file .entry))) r ⌝ }
 {
     let number = header_fault(file);
     if number != Answer::DONE {
         return Decoded::refused(Answer::at(number, 0));
     }
     let columns = columns_of(file);
+    let labels = labels_of(file);
     let answer = check_rows(
         columns.elements,
         columns.rows,
@@ -140,6 +193,7 @@ pub fn decode(file: &[u8]) -> Decoded
         &columns.period,
         &columns.first,
         &columns.second,
+        &labels,
     );
     if answer.number != Answer::DONE {
         return Decoded::refused(answer);
@@ -147,5 +201,6 @@ pub fn decode(file: &[u8]) -> Decoded
     Decoded {
         answer: answer,
         columns: columns,
+        labels: labels,
     }
 }

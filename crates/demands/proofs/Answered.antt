@@ -8,10 +8,11 @@ use native.Mathlib.Decide.{ℕ-discrete}
 use native.Mathlib.Omega.{arith}
 use lib.ListN.{length}
 use Rattle.numbers.proofs.Truth.{decide}
-use Rattle.numbers.proofs.Tests.{Test, lt-test, le-test, eq-test, as-test, not-test}
+use Rattle.numbers.proofs.Tests.{Test, lt-test, le-test, eq-test, list-test, as-test, not-test, and-test}
 use Rattle.rules.specs.Bounds.{max-elements, max-rows}
 use Rattle.rules.specs.Bus.{Table}
-use Rattle.rules.specs.TableFile.{headerSize, rowSize, rowNumbers, fileTable, memoryTable}
+use Rattle.rules.specs.TableFile.{table-mark, version-1, headerSize, rowSize, rowNumbers, mark, version, fileTable}
+use Rattle.rules.specs.TableFile.{memoryTable, memoryLabelled}
 use Rattle.rules.specs.Line.{cut, Sets}
 use Rattle.rules.specs.Loads.{hyperperiod}
 use Rattle.rules.specs.Planner.{Stage, due, finished, Planner, Off}
@@ -22,7 +23,10 @@ use Rattle.rules.specs.Refusals.{
   line-checks,
   bound-checks,
   reader-checks,
+  version-1-checks,
   memory-checks,
+  label-checks,
+  version-checks,
   writer-checks,
   shared-checks,
   set-checks,
@@ -42,7 +46,9 @@ use Rattle.rules.proofs.Verdict.{
   answer,
   answer-is,
   tests-join,
+  tests-each,
   in-test,
+  version-test,
   row-tests,
   file-tests,
   given-tests,
@@ -73,18 +79,32 @@ by-lists cs ds m (n, p, a) more = go (ℕ-discrete n 0)
 
 -- ---- the table file
 
-pub read-answered : (f : List ℕ) (room : ℕ) → Answered (reader-checks f room)
+reader-tests : (f : List ℕ) (room : ℕ) → Tests (reader-checks f room)
 unfolding reader-checks
-read-answered f room = by-tests (tests-join (file-tests f) (lt-test room (rowNumbers * fileTable f .rows) then none))
+reader-tests f room = tests-join (file-tests f) (lt-test room (rowNumbers * fileTable f .rows) then none)
 
-pub written-answered : (M n : ℕ) (xs : List ℕ) (room : ℕ) → Answered (writer-checks M n xs room)
-unfolding writer-checks memory-checks
-written-answered M n xs room =
-    by-tests (tests-join (tests-join (
+pub read-answered : (f : List ℕ) (room : ℕ) → Answered (reader-checks f room)
+read-answered f room = by-tests (reader-tests f room)
+
+pub version-1-answered : (f : List ℕ) (room : ℕ) → Answered (version-1-checks f room)
+unfolding version-1-checks
+version-1-answered f room =
+    by-tests (
+    lt-test (length f) headerSize
+    then not-test (list-test (mark f) table-mark)
+    then not-test (eq-test (version f) version-1)
+    then reader-tests f room)
+
+pub written-answered : (v M n : ℕ) (xs : List ℕ) (room : ℕ) → Answered (writer-checks v M n xs room)
+unfolding writer-checks version-checks memory-checks label-checks
+written-answered v M n xs room =
+    by-tests (tests-join (version-test v then tests-join (tests-join (
     not-test (in-test M 2 max-elements)
     then not-test (in-test n 1 max-rows)
     then not-test (eq-test (length xs) (rowNumbers * n))
-    then none) (row-tests (memoryTable M n xs))) (lt-test room (headerSize + rowSize * n) then none))
+    then none) (row-tests (memoryTable M n xs)))
+    (tests-each n (λ i. and-test (eq-test v version-1) (not-test (eq-test (memoryLabelled M n xs .label i) 0)) then none)))
+    (lt-test room (headerSize + rowSize v * n) then none))
 
 pub met-answered : (f : List ℕ) (i j : ℕ) → Answered (shared-checks f i j)
 unfolding shared-checks

@@ -1,10 +1,11 @@
 -- The three demands, proved of every answer that the calls' contracts allow.
 use mathlib.Core.Path.{_≡_, sym, ap, _∙_, subst}
+use mathlib.Core.Logic.{⊎-elim}
 use mathlib.Core.List.{List}
 use Prim.Native.Nat.{ℕ, _+_, _-_, _*_}
 use native.Mathlib.Omega.{arith}
 use lib.ListN.{length, take}
-use Rattle.rules.specs.TableFile.{headerSize, rowSize, rowNumbers, fileTable}
+use Rattle.rules.specs.TableFile.{headerSize, rowSize, rowNumbers, version, fileTable}
 use Rattle.rules.specs.Loads.{start, end}
 use Rattle.rules.specs.Planner as rules
 use Rattle.rules.specs.Planner.{Off}
@@ -13,8 +14,8 @@ use Rattle.rules.specs.Calls.{fileAsk}
 use Rattle.rules.proofs.Answers.{None, Numbered, answers-only, position-none, none-of, none-left, none-right, numbered-join}
 use Rattle.rules.proofs.Calls.{lent-take, call-must}
 use Rattle.rules.proofs.Lags.{qualify-by-lags}
-use Rattle.table.proofs.Faults.{passed-none, memory-sound}
-use Rattle.round_trip.proofs.RoundTrip.{read-none, written-none, read-then-written, written-then-read}
+use Rattle.table.proofs.Faults.{passed-none}
+use Rattle.round_trip.proofs.RoundTrip.{read-none, written-none, written-sound, read-then-written, written-then-read}
 use Rattle.verdict.proofs.Bound.{verdict-numbered, admissible-of}
 use Rattle.verdict.proofs.Judging.{demand-2}
 use Rattle.promises.specs.Steps.{Serves}
@@ -26,6 +27,7 @@ use Rattle.planner.proofs.Promises.{admitted-table, steps-run, standings-betwee
 use Rattle.demands.specs.Demands.{Demand-1, Demand-2, Demand-3, Demands}
 use Rattle.demands.proofs.Answered.{
   read-answered,
+  version-1-answered,
   written-answered,
   met-answered,
   crowded-answered,
@@ -41,6 +43,7 @@ use Rattle.demands.proofs.Answered.{
 first : Demand-1
 first = record {
   read = read-answered;
+  read-version-1 = version-1-answered;
   written = written-answered;
   met = met-answered;
   crowded = crowded-answered;
@@ -50,8 +53,8 @@ first = record {
   stepped = stepped-answered;
   stood = stood-answered;
   one = answers-only;
-  read-refused = λ f was now number place elements rows c h. c .refused h;
-  write-refused = λ elements rows xs was now number place c h. c .refused h;
+  read-refused = λ f was now number place version′ elements rows c h. ⊎-elim (λ r. r .refused h) (λ r. r .refused h) c;
+  write-refused = λ version′ elements rows xs was now number place c h. c .refused h;
   met-refused = λ f i j number place word c h. c .refused h;
   crowd-refused = λ f k number place rows segments c h. c .refused h;
   verdict-refused = λ f r c h. c .refused h;
@@ -74,19 +77,19 @@ second = record {
   lags = qualify-by-lags;
   standings = λ f p r c h. c .stood .done h;
   between = standings-between;
-  read-back = λ f was now was′ now′ number place M n number′ place′ b u l R W.
+  read-back = λ f was now was′ now′ number place v M n number′ place′ b u l R W.
       let N = position-none (reader-checks f (length was)) u in
       let z = call-must N R in
-      let rows : n ≡ fileTable f .rows = z .2 .1 in
-      let w = read-then-written f was now place M n was′ now′ number′ place′ b (rw (z .0) at R) (rw rows l) W in
-      let size : length f ≡ headerSize + rowSize * n = rw rows (passed-none f (read-none f (length was) N) .size) in
+      let long : length f ≡ headerSize + rowSize (version f) * fileTable f .rows = passed-none f (read-none f (length was) N) .size in
+      let size : length f ≡ headerSize + rowSize v * n = rw (z .2 .0, z .2 .2) long in
+      let w = read-then-written f was now place v M n was′ now′ number′ place′ b (rw (z .0) at R) (rw size at l) W in
       (z .0, w .0, ap (λ (k : ℕ). take k now′) size ∙ w .2);
-  write-back = λ M n xs was now was′ now′ number place number′ place′ M′ n′ u l W R.
-      let N = position-none (writer-checks M n xs (length was)) u in
+  write-back = λ v M n xs was now was′ now′ number place number′ place′ v′ M′ n′ u l W R.
+      let N = position-none (writer-checks v M n xs (length was)) u in
       let z = call-must N W in
-      let w = written-then-read M n xs was now place was′ now′ number′ place′ M′ n′ (rw (z .0) at W) l R in
-      let size : length xs ≡ rowNumbers * n = memory-sound M n xs (written-none M n xs (length was) N) .1 in
-      (z .0, w .0, w .2, w .3, ap (λ (k : ℕ). take k now′) size ∙ w .4);
+      let w = written-then-read v M n xs was now place was′ now′ number′ place′ v′ M′ n′ (rw (z .0) at W) l R in
+      let size : length xs ≡ rowNumbers * n = written-sound v M n xs (written-none v M n xs (length was) N) .1 in
+      (z .0, w .0, w .2, w .3, w .4, ap (λ (k : ℕ). take k now′) size ∙ w .5);
 }
 
 -- ---- demand 3

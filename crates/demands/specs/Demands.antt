@@ -11,7 +11,7 @@
 -- proved of its function; a clause below speaks of every answer that the contract allows. `was` and `now` are what a lent slice holds
 -- before and after, `f` is the file.
 use mathlib.Core.Path.{_≡_}
-use mathlib.Core.Logic.{_↔_, _≢_}
+use mathlib.Core.Logic.{_⊎_, _↔_, _≢_}
 use mathlib.Core.List.{List}
 use Prim.Native.Nat.{ℕ, _+_, _-_, _*_, _≤_, _<_}
 use lib.IntN.{pos}
@@ -28,6 +28,7 @@ use Rattle.rules.specs.Refusals.{
   Check,
   Answers,
   reader-checks,
+  version-1-checks,
   writer-checks,
   shared-checks,
   set-checks,
@@ -37,7 +38,7 @@ use Rattle.rules.specs.Refusals.{
   step-checks,
   standings-checks,
 }
-use Rattle.rules.specs.Calls.{lent, Read, Written, Met, Crowded, Admitted, Listed, fileAsk}
+use Rattle.rules.specs.Calls.{lent, Read, ReadVersion1, Written, Met, Crowded, Admitted, Listed, fileAsk}
 use Rattle.table.specs.declared.Answer.{Answer}
 use Rattle.verdict.specs.declared.Verdict.{Verdict}
 use Rattle.verdict.specs.Verdict.{numberOf, cutOf, intervalOf, hyperOf, loadOf, setsOf, IsVerdict}
@@ -60,7 +61,8 @@ pub record Demand-1 : Type 1 where
   -- Whatever bytes, numbers and planner are handed in, each call has a number and a place to answer with: those of the first refusal in
   -- its list that applies, or 0 and 0 where none does.
   pub read : (f : List ℕ) (room : ℕ) → Answered (reader-checks f room)
-  pub written : (elements rows : ℕ) (xs : List ℕ) (room : ℕ) → Answered (writer-checks elements rows xs room)
+  pub read-version-1 : (f : List ℕ) (room : ℕ) → Answered (version-1-checks f room)
+  pub written : (version′ elements rows : ℕ) (xs : List ℕ) (room : ℕ) → Answered (writer-checks version′ elements rows xs room)
   pub met : (f : List ℕ) (i j : ℕ) → Answered (shared-checks f i j)
   pub crowded : (f : List ℕ) (k : ℕ) → Answered (set-checks f k)
   pub judged : (f : List ℕ) → Answered (verdict-checks f)
@@ -71,10 +73,11 @@ pub record Demand-1 : Type 1 where
   -- Only one number and place do.
   pub one : (cs : List Check) (m n p q : ℕ) → Answers cs m p → Answers cs n q → (m ≡ n) × (p ≡ q)
   -- A refusal leaves lent output unchanged and hands back the planner it was given; any other returned number is then 0.
-  pub read-refused : (f was now : List ℕ) (number place elements rows : ℕ) → Read f was now number place elements rows → number ≢ 0
-      → (elements ≡ 0) × (rows ≡ 0) × (now ≡ was)
-  pub write-refused : (elements rows : ℕ) (xs was now : List ℕ) (number place : ℕ) → Written elements rows xs was now number place
-      → number ≢ 0 → now ≡ was
+  pub read-refused : (f was now : List ℕ) (number place version′ elements rows : ℕ)
+      → Read f was now number place version′ elements rows ⊎ ReadVersion1 f was now number place version′ elements rows → number ≢ 0
+      → (version′ ≡ 0) × (elements ≡ 0) × (rows ≡ 0) × (now ≡ was)
+  pub write-refused : (version′ elements rows : ℕ) (xs was now : List ℕ) (number place : ℕ)
+      → Written version′ elements rows xs was now number place → number ≢ 0 → now ≡ was
   pub met-refused : (f : List ℕ) (i j number place word : ℕ) → Met f i j number place word → number ≢ 0 → word ≡ 0
   pub crowd-refused : (f : List ℕ) (k number place rows segments : ℕ) → Crowded f k number place rows segments → number ≢ 0
       → (rows ≡ 0) × (segments ≡ 0)
@@ -111,18 +114,19 @@ pub record Demand-2 : Type 1 where
       → ((i : ℕ) → i < fileTable f .rows → getD (r .values) i (pos 0) ≡ rules.standing (fileTable f) (plannerOf p) i)
       × ((i : ℕ) → fileTable f .rows ≤ i → i < max-rows → getD (r .values) i (pos 0) ≡ pos 0)
   pub between : Standings-between
-  -- A file that passes the reader's checks, with room, is read; what was read is written, with room, as it stood in the file.
-  pub read-back : (f was now was′ now′ : List ℕ) (number place elements rows number′ place′ : ℕ)
-      → ((i : ℕ) → at f i < 256) → Unrefused (reader-checks f (length was)) → headerSize + rowSize * fileTable f .rows ≤ length was′
-      → Read f was now number place elements rows
-      → Written elements rows (take (rowNumbers * rows) now) was′ now′ number′ place′
+  -- A file of either version that passes the reader's checks, with room, is read; what was read is written in its version, with room, as it
+  -- stood in the file.
+  pub read-back : (f was now was′ now′ : List ℕ) (number place version′ elements rows number′ place′ : ℕ)
+      → ((i : ℕ) → at f i < 256) → Unrefused (reader-checks f (length was)) → length f ≤ length was′
+      → Read f was now number place version′ elements rows
+      → Written version′ elements rows (take (rowNumbers * rows) now) was′ now′ number′ place′
       → (number ≡ 0) × (number′ ≡ 0) × (take (length f) now′ ≡ f)
   -- Rows that pass the writer's checks, with room, are written; what was written is read, with room, as it stood in the slice.
-  pub write-back : (elements rows : ℕ) (xs was now was′ now′ : List ℕ) (number place number′ place′ elements′ rows′ : ℕ)
-      → Unrefused (writer-checks elements rows xs (length was)) → rowNumbers * rows ≤ length was′
-      → Written elements rows xs was now number place
-      → Read (take (headerSize + rowSize * rows) now) was′ now′ number′ place′ elements′ rows′
-      → (number ≡ 0) × (number′ ≡ 0) × (elements′ ≡ elements) × (rows′ ≡ rows) × (take (length xs) now′ ≡ xs)
+  pub write-back : (version′ elements rows : ℕ) (xs was now was′ now′ : List ℕ) (number place number′ place′ version″ elements′ rows′ : ℕ)
+      → Unrefused (writer-checks version′ elements rows xs (length was)) → rowNumbers * rows ≤ length was′
+      → Written version′ elements rows xs was now number place
+      → Read (take (headerSize + rowSize version′ * rows) now) was′ now′ number′ place′ version″ elements′ rows′
+      → (number ≡ 0) × (number′ ≡ 0) × (version″ ≡ version′) × (elements′ ≡ elements) × (rows′ ≡ rows) × (take (length xs) now′ ≡ xs)
 
 pub record Demand-3 : Type 1 where
   -- Every table that the verdict admits gets, with room for h words, a whole plan that carries it: rows that share a segment never share a

@@ -6,7 +6,7 @@ use Prim.Native.Nat.{ℕ, _≤_, _<_}
 use native.Mathlib.Omega.{arith}
 use Rattle.numbers.specs.Lists.{at}
 use Rattle.rules.specs.Bus.{Table, uses, shared}
-use Rattle.rules.specs.TableFile.{fileTable}
+use Rattle.rules.specs.TableFile.{fileTable, fileLabelled}
 use Rattle.rules.specs.Refusals.{Check, no-row, file-checks, shared-checks}
 use Rattle.rules.specs.Calls.{Met}
 use Rattle.rules.proofs.Answers.{None, applied, passed, done, stopped, joined, none-of}
@@ -17,7 +17,7 @@ use Rattle.table.proofs.Faults.{file-numbered, passed-none}
 use Rattle.ring.specs.Rows.{Routes, onRing}
 use Rattle.ring.proofs.Rows.{sound-routes}
 
-module _ (f : List ℕ) (i j : ℕ) (r : Decoded) (D : Decodes (file-checks f) (fileTable f) r) where
+module _ (f : List ℕ) (i j : ℕ) (r : Decoded) (D : Decodes (file-checks f) (fileLabelled f) r) where
   abbrev t : Table
   t = fileTable f
 

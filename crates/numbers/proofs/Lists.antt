@@ -4,9 +4,9 @@
 --   Filled was out n xs    out is xs in its first n places, and from there on what was there
 use mathlib.Core.Path.{_≡_, refl, sym, ap, ap₂, _∙_}
 use mathlib.Core.Logic.{⊎-elim}
-use mathlib.Core.List.{List, [], _∷_, _++_, append-assoc, map}
+use mathlib.Core.List.{List, [], _∷_, _++_, append-assoc, append-nil, map}
 use Prim.Native.Nat.{ℕ, zero, suc, _+_, _-_, _*_, _≤_, _<_}
-use native.Mathlib.Nat.{suc-mul, zero-mul, mul-one, le-of-eq, mul-le-mul-right, eq-or-lt-of-le, le-of-suc-le-suc, not-suc-le-zero}
+use native.Mathlib.Nat.{add-zero, suc-mul, zero-mul, mul-one, le-of-eq, mul-le-mul-right, eq-or-lt-of-le, le-of-suc-le-suc, not-suc-le-zero}
 use native.Mathlib.Numerals.{add-one}
 use native.Mathlib.Omega.{arith}
 use lib.ListN.{length, take, drop, set, length-append, length-drop, length-set, take-append-drop, replicate}
@@ -48,6 +48,15 @@ unfolding each
 each-length zero k f e = omega arith
 each-length (suc n) k f e =
     length-append (each n f) (f n) ∙ ap₂ _+_ (each-length n k f (λ i l. e i (omega arith))) (e n (omega arith)) ∙ sym (suc-mul n k)
+
+-- the first a, and the b after them
+pub each-join {ℓ} : {A : Type ℓ} (a b : ℕ) (f : ℕ → List A) → each (a + b) f ≡ each a f ++ each b (λ j. f (a + j))
+unfolding each
+each-join a zero f = rw (add-zero, append-nil)
+each-join {A = A} a (suc b) f =
+    let e : a + suc b ≡ suc (a + b) = omega arith in
+    ap (λ (n : ℕ). each n f) e ∙ ap (λ (l : List A). l ++ f (a + b)) (each-join a b f)
+    ∙ append-assoc (each a f) (each b (λ j. f (a + j))) (f (a + b))
 
 -- stretch i of the whole is f i
 pub each-window {ℓ} : {A : Type ℓ} (n k : ℕ) (f : ℕ → List A) → ((i : ℕ) → i < n → length (f i) ≡ k) → (i : ℕ) → i < n

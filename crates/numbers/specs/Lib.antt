@@ -4,5 +4,6 @@ pub mod Divisors
 pub mod Rounding
 pub mod Signed
 pub mod Lists
+pub mod Codec
 pub mod Pairs
 pub mod Decides

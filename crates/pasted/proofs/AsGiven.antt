@@ -14,7 +14,7 @@ use Rattle.numbers.proofs.Finite.{any-of, any-eq, least, lowest-has, lowest-bel
 use Rattle.numbers.proofs.Word.{bit-word}
 use Rattle.rules.specs.Bounds.{max-rows}
 use Rattle.rules.specs.Bus.{Table, pasted}
-use Rattle.rules.specs.TableFile.{fileTable}
+use Rattle.rules.specs.TableFile.{fileTable, fileLabelled}
 use Rattle.rules.specs.Refusals.{Answers, pasted-row, file-checks, pasted-checks, given-checks}
 use Rattle.rules.proofs.Answers.{None, Numbered, stopped, joined, answered, none-of, none-left, none-join, numbered-join, answers-only}
 use Rattle.rules.proofs.Answers.{single-none, single-numbered, single-stopped}
@@ -96,13 +96,14 @@ module _ (f : List ℕ) where
   pub given-of : (p : ℕ) → Answers (given-checks f) 0 p → Passed f
   given-of p a = given-passed (none-of (given-checks f) p given-numbered a)
 
-  module _ (r : Decoded) (D : Decodes (file-checks f) t r) where
+  module _ (r : Decoded) (D : Decodes (file-checks f) (fileLabelled f) r) where
     -- 1 to 9 refuse
-    pub given-refused : r .answer .number ≢ 0 → Decodes (given-checks f) t r
+    pub given-refused : r .answer .number ≢ 0 → Decodes (given-checks f) (fileLabelled f) r
     unfolding given-checks
     given-refused h = record {
       answers = stopped (file-checks f) (pasted-checks t) (r .answer .number) (r .answer .place) h (D .answers);
       passed = D .passed;
+      labelled = D .labelled;
       refused = D .refused;
     }
 
@@ -127,7 +128,8 @@ module _ (f : List ℕ) where
         rows-are = ap (λ (u : Table). u .rows) held
 
         -- 18 refuses
-        pub given-pasted : i < r .columns .rows → (a : Answer) → (a .number ≡ 18) × (a .place ≡ i) → Decodes (given-checks f) t (refusal a)
+        pub given-pasted : i < r .columns .rows → (a : Answer) → (a .number ≡ 18) × (a .place ≡ i)
+            → Decodes (given-checks f) (fileLabelled f) (refusal a)
         unfolding given-checks pasted-checks
         given-pasted l a q =
             let m : lowest (t .rows) (pasted t) < t .rows = omega (arith, is-lowest, rows-are) in
@@ -138,11 +140,12 @@ module _ (f : List ℕ) where
                   (λ j h. lowest-below (t .rows) (pasted t) j (omega (arith, is-lowest)))
                   (rw is-lowest (lowest-has (t .rows) (pasted t) m))));
               passed = λ k. absurd (omega (arith, q .0));
-              refused = λ k. refl;
+              labelled = λ k. absurd (omega (arith, q .0));
+              refused = λ k. (refl, refl);
             }
 
         -- nothing does
-        pub given-whole : r .columns .rows ≤ i → Decodes (given-checks f) t r
+        pub given-whole : r .columns .rows ≤ i → Decodes (given-checks f) (fileLabelled f) r
         unfolding given-checks pasted-checks
         given-whole l =
             let all : None (given-checks f) =
@@ -152,5 +155,6 @@ module _ (f : List ℕ) where
             record {
               answers = rw (still .0, still .1) (answered (given-checks f) all);
               passed = D .passed;
+              labelled = D .labelled;
               refused = D .refused;
             }

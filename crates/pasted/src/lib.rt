@@ -12,7 +12,7 @@ ghost use Rattle.numbers.specs.Lists.{at};
 ghost use Rattle.numbers.specs.Word.{bit};
 ghost use Rattle.rules.specs.Bounds.{max-rows};
 ghost use Rattle.rules.specs.Bus.{pasted};
-ghost use Rattle.rules.specs.TableFile.{fileTable};
+ghost use Rattle.rules.specs.TableFile.{fileLabelled};
 ghost use Rattle.rules.specs.Refusals.{given-checks};
 ghost use Rattle.sets.specs.Walk.{line-size};
 ghost use Rattle.table.specs.Columns.{columnTable};
@@ -82,9 +82,9 @@ fn lowest_pasted<'a>(
     i
 }
 
-// The table of a file, or the first refusal of 1 to 9 and 18.
+// The table of a file with its labels, or the first refusal of 1 to 9 and 18.
 pub fn given(file: &[u8]) -> Decoded
-    ensures { λ r. ⌜ Decodes (given-checks (now (file .entry))) (fileTable (now (file .entry))) r ⌝ }
+    ensures { λ r. ⌜ Decodes (given-checks (now (file .entry))) (fileLabelled (now (file .entry))) r ⌝ }
 {
     let found = decoding::decode(file);
     let answer = found.answer;

@@ -22,7 +22,7 @@ ghost use Rattle.rules.specs.Program.{verdict, values, set, slot, set-lines, sl
 ghost use Rattle.report.specs.Rendered.{Rendered};
 
 // The program's input: one byte more than the longest table file has, so that a longer one is refused for its length.
-pub const INPUT: usize = 392;
+pub const INPUT: usize = Table::FILE_BYTES + 1;
 
 // Room for every report: 64 bytes for each of the verdict, the four values, the sets and the slots.
 pub const SIZE: usize = 64 * (5 + Table::ROWS + Table::SLOTS);

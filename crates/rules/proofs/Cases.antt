@@ -14,13 +14,14 @@ use Rattle.numbers.specs.Divisors.{divides, lcm, product}
 use Rattle.numbers.specs.Pairs.{IsGcd}
 use Rattle.numbers.specs.Rounding.{Rounded}
 use Rattle.numbers.specs.Lists.{at, each}
+use Rattle.numbers.specs.Codec.{readLow, writeLow}
 use Rattle.numbers.proofs.Truth.{fst, snd, refutes}
 use Rattle.numbers.proofs.Finite.{every-at, lowest-is}
 use Rattle.numbers.proofs.Pairs.{pair-gcd-step, pair-gcd-zero, pair-lcm-by}
 use Rattle.numbers.proofs.Divisors.{dvd-of, lcm-of-least}
 use Rattle.numbers.proofs.Tests.{Test, and-test, every-test}
-use Rattle.rules.specs.Bus.{Table, steps, uses, through, overlap, pasted}
-use Rattle.rules.specs.TableFile.{bytes}
+use Rattle.rules.specs.Bus.{Table, unlabelled, steps, uses, through, overlap, pasted}
+use Rattle.rules.specs.TableFile.{version-1, version-2, labelSize, rowBytes, bytes}
 use Rattle.rules.specs.Line.{clear, cut, onLine, lineFirst, lineSecond, Sets}
 use Rattle.rules.specs.Loads.{hyperperiod, jobEnd, nextEnd, start, end, intervals, someInterval, shortest}
 use Rattle.rules.specs.Loads.{rate, share, equalPeriods, light, past, over, reported}
@@ -28,7 +29,8 @@ use Rattle.rules.specs.Interval.{lag, before, hinders, free}
 use Rattle.rules.specs.Planner.{Stage, due, finished, none, more, reached, Off, standing, WholePlan}
 use Rattle.rules.specs.Refusals.{header-checks, row-checks, file-checks, pasted-checks, given-checks}
 use Rattle.rules.specs.Refusals.{line-checks, bound-checks, verdict-checks}
-use Rattle.rules.specs.Cases.{case-A, case-B, case-B-with, equal-with, pasted-with, round, thirds, halves, none-had, B-at, Cases}
+use Rattle.rules.specs.Cases.{case-A, case-A-labels, case-B, case-B-with, equal-with, pasted-with, round, thirds, halves}
+use Rattle.rules.specs.Cases.{none-had, B-at, Cases}
 use Rattle.rules.specs.Cases.{uneven, uneven-with}
 use Rattle.rules.proofs.Sets.{set-in, sets-only, sets-by}
 use Rattle.rules.proofs.Verdict.{verdict-by}
@@ -38,11 +40,16 @@ use Rattle.rules.proofs.Plans.{run-more}
 
 -- All that computes below: an `unfolding` line that names it opens all that its own line names.
 computing : Unit {0}
-unfolding any every lowest highest only sum bit lcm product Rounded each steps uses through overlap pasted bytes clear cut onLine
-    lineFirst lineSecond hyperperiod jobEnd nextEnd start end intervals someInterval shortest rate equalPeriods light past over largest
+unfolding any every lowest highest only sum bit lcm product Rounded each steps uses through overlap pasted readLow writeLow labelSize
+    rowBytes bytes clear cut onLine lineFirst lineSecond hyperperiod jobEnd nextEnd start end intervals someInterval shortest rate
+    equalPeriods light past over largest
     reported lag before hinders free standing header-checks row-checks file-checks pasted-checks given-checks line-checks bound-checks
     verdict-checks
 computing = tt
+
+-- a table's file in version 1
+abbrev file : Table → List ℕ
+file t = bytes version-1 (unlabelled t)
 
 -- ---- the lists of sets
 
@@ -230,15 +237,15 @@ cases = record {
   p3-ahead = (_, step-of step-B best-B);
   p4-sets = λ ws. listed (case-B-with 4) ws (3 ∷ []) (lit< tt) (sets-B 4);
   p4-load = refl;
-  p4 = verdict-by (bytes (case-B-with 4)) (3 ∷ []) 0 0 tt tt refl;
-  p5 = verdict-by (bytes (case-B-with 5)) (3 ∷ []) 14 0 tt tt refl;
-  p6 = verdict-by (bytes (case-B-with 1)) (3 ∷ []) 13 1 tt tt refl;
-  p7 = verdict-by (bytes (case-B-with 2)) (3 ∷ []) 0 0 tt tt refl;
-  p8 = verdict-by (bytes (equal-with 1)) (3 ∷ []) 0 0 tt tt refl;
-  p9 = verdict-by (bytes (equal-with 2)) (3 ∷ []) 14 0 tt tt refl;
-  p8-before = verdict-by (bytes (pasted-with 1)) (3 ∷ []) 18 1 tt tt refl;
-  p9-before = verdict-by (bytes (pasted-with 2)) (3 ∷ []) 18 1 tt tt refl;
-  p10 = verdict-by (bytes round) (7 ∷ []) 10 0 tt tt refl;
+  p4 = verdict-by (file (case-B-with 4)) (3 ∷ []) 0 0 tt tt refl;
+  p5 = verdict-by (file (case-B-with 5)) (3 ∷ []) 14 0 tt tt refl;
+  p6 = verdict-by (file (case-B-with 1)) (3 ∷ []) 13 1 tt tt refl;
+  p7 = verdict-by (file (case-B-with 2)) (3 ∷ []) 0 0 tt tt refl;
+  p8 = verdict-by (file (equal-with 1)) (3 ∷ []) 0 0 tt tt refl;
+  p9 = verdict-by (file (equal-with 2)) (3 ∷ []) 14 0 tt tt refl;
+  p8-before = verdict-by (file (pasted-with 1)) (3 ∷ []) 18 1 tt tt refl;
+  p9-before = verdict-by (file (pasted-with 2)) (3 ∷ []) 18 1 tt tt refl;
+  p10 = verdict-by (file round) (7 ∷ []) 10 0 tt tt refl;
   two-thirds-sets = λ ws. listed thirds ws (1 ∷ []) (lit< tt) sets-thirds;
   two-thirds = refl;
   light-lag = (refl, refl, refl);
@@ -258,4 +265,6 @@ cases = record {
   uneven-heavy = heavy-uneven;
   uneven-at = at-uneven;
   uneven-over = over-uneven;
+  labels-bytes = refl;
+  labels-verdict = verdict-by (bytes version-2 case-A-labels) (3 ∷ 6 ∷ []) 0 0 tt tt refl;
 }

@@ -15,12 +15,13 @@ use Rattle.numbers.specs.Word.{bit}
 use Rattle.numbers.specs.Lists.{at, each}
 use Rattle.rules.specs.Bounds.{max-elements, max-rows, max-slots}
 use Rattle.rules.specs.Bus.{Table, through, pasted}
-use Rattle.rules.specs.TableFile.{table-mark, table-version, headerSize, rowSize, mark, version, fileTable}
+use Rattle.rules.specs.TableFile.{table-mark, version-1, version-2, headerSize, rowSize, mark, version, fileTable}
 use Rattle.rules.specs.Line.{Sets}
 use Rattle.rules.specs.Loads.{hyperperiod, light, over}
 use Rattle.rules.specs.Refusals.{
   Check,
   Answers,
+  wrong-version,
   no-cut,
   over-bound,
   row-checks,
@@ -72,15 +73,18 @@ tests-each (suc n) ts = tests-join (tests-each n ts) (ts n)
 abbrev pub in-test : (x a b : ℕ) → Test ((a ≤ x) × (x ≤ b))
 in-test x a b = and-test (le-test a x) (le-test x b)
 
+abbrev pub version-test : (v : ℕ) → Test (wrong-version v .applies)
+version-test v = and-test (not-test (eq-test v version-1)) (not-test (eq-test v version-2))
+
 abbrev pub header-tests : (f : List ℕ) → Tests (header-checks f)
 unfolding header-checks
 header-tests f =
     lt-test (length f) headerSize
     then not-test (list-test (mark f) table-mark)
-    then not-test (eq-test (version f) table-version)
+    then version-test (version f)
     then not-test (in-test (fileTable f .elements) 2 max-elements)
     then not-test (in-test (fileTable f .rows) 1 max-rows)
-    then not-test (eq-test (length f) (headerSize + rowSize * fileTable f .rows))
+    then not-test (eq-test (length f) (headerSize + rowSize (version f) * fileTable f .rows))
     then none
 
 module _ (t : Table) where

@@ -1,6 +1,8 @@
 -- Document 01, "The bus and its tables".
 --
 --   Table              M elements round a ring and rows numbered from 0
+--   Labelled           a table and a label for each row (#107)
+--   unlabelled t       the table t, every label 0
 --   steps M a b        how many segments lie from element a clockwise to element b
 --   routeUses M a b s      the route from element a clockwise to element b uses segment s
 --   uses t i s         row i's route uses segment s
@@ -27,6 +29,15 @@ pub record Table : Type 0 where
   pub period : ℕ → ℕ
   pub first : ℕ → ℕ
   pub second : ℕ → ℕ
+
+-- A row's label comes from the machine builder's wiring list. It stands beside the table, so whatever is said of a table alone knows of no
+-- label: cut, sets, loads and plan.
+pub record Labelled : Type 0 where
+  pub table : Table
+  pub label : ℕ → ℕ
+
+abbrev pub unlabelled : Table → Labelled
+unlabelled t = record { table = t; label = λ i. 0 }
 
 unfoldable pub steps : ℕ → ℕ → ℕ → ℕ
 steps M a b = (b + M - a) % M

@@ -3,6 +3,7 @@
 --   Call cs n p D R     a call with checks cs answers with number n and place p; D holds of it where it is done, R where it refuses
 --   lent ws was         a lent slice that held `was`, with ws written to its front: past them it is unchanged
 --   Read, Written       the reader and the writer
+--   ReadVersion1        the reader that takes version 1 alone
 --   Met                 where two rows meet: the segments that they share
 --   Crowded             an overlap set's rows, and the segments that all of them use
 --   Judged              the verdict
@@ -25,7 +26,7 @@ use lib.ListN.{length, drop}
 use Rattle.numbers.specs.Lists.{at}
 use Rattle.rules.specs.Bounds.{max-rows}
 use Rattle.rules.specs.Bus.{Table, shared, common}
-use Rattle.rules.specs.TableFile.{fileTable, memoryTable, numbers, bytes}
+use Rattle.rules.specs.TableFile.{version, fileTable, fileLabelled, memoryLabelled, numbers, bytes}
 use Rattle.rules.specs.Line.{cut, setAt, Sets}
 use Rattle.rules.specs.Loads.{hyperperiod, shortest, reported}
 use Rattle.rules.specs.Planner.{Planner, standing, Step, WholePlan}
@@ -33,6 +34,7 @@ use Rattle.rules.specs.Refusals.{
   Check,
   Answers,
   reader-checks,
+  version-1-checks,
   writer-checks,
   shared-checks,
   verdict-checks,
@@ -51,17 +53,25 @@ pub record Call (cs : List Check) (number place : ℕ) (Done Refused : Type 0) :
 unfoldable pub lent : List ℕ → List ℕ → List ℕ
 lent ws was = ws ++ drop (length ws) was
 
--- Returns M and the row count, and fills a slice with four numbers a row.
-abbrev pub Read : (file was now : List ℕ) (number place elements rows : ℕ) → Type 0
-Read file was now number place elements rows =
-    Call (reader-checks file (length was)) number place
-    ((elements ≡ fileTable file .elements) × (rows ≡ fileTable file .rows) × (now ≡ lent (numbers (fileTable file)) was))
-    ((elements ≡ 0) × (rows ≡ 0) × (now ≡ was))
+-- Returns the version, M and the row count, and fills a slice with five numbers a row. It refuses by the checks cs.
+abbrev pub ReadBy : (cs : List Check) (file was now : List ℕ) (number place version′ elements rows : ℕ) → Type 0
+ReadBy cs file was now number place version′ elements rows =
+    Call cs number place
+    ((version′ ≡ version file) × (elements ≡ fileTable file .elements) × (rows ≡ fileTable file .rows)
+    × (now ≡ lent (numbers (fileLabelled file)) was))
+    ((version′ ≡ 0) × (elements ≡ 0) × (rows ≡ 0) × (now ≡ was))
 
--- Takes M, the row count and a slice of four numbers a row.
-abbrev pub Written : (elements rows : ℕ) (xs was now : List ℕ) (number place : ℕ) → Type 0
-Written elements rows xs was now number place =
-    Call (writer-checks elements rows xs (length was)) number place (now ≡ lent (bytes (memoryTable elements rows xs)) was) (now ≡ was)
+abbrev pub Read : (file was now : List ℕ) (number place version′ elements rows : ℕ) → Type 0
+Read file was now = ReadBy (reader-checks file (length was)) file was now
+
+abbrev pub ReadVersion1 : (file was now : List ℕ) (number place version′ elements rows : ℕ) → Type 0
+ReadVersion1 file was now = ReadBy (version-1-checks file (length was)) file was now
+
+-- Takes the version to write, M, the row count and a slice of five numbers a row.
+abbrev pub Written : (version′ elements rows : ℕ) (xs was now : List ℕ) (number place : ℕ) → Type 0
+Written version′ elements rows xs was now number place =
+    Call (writer-checks version′ elements rows xs (length was)) number place
+    (now ≡ lent (bytes version′ (memoryLabelled elements rows xs)) was) (now ≡ was)
 
 -- Returns the word of the segments that rows i and j share (#102).
 abbrev pub Met : (file : List ℕ) (i j number place word : ℕ) → Type 0

@@ -8,8 +8,8 @@ use Prim.Native.Nat.{ℕ, _*_}
 use lib.IntN.{pos, negℤ}
 use Rattle.numbers.specs.Lists.{at, each}
 use Rattle.numbers.specs.Word.{bit}
-use Rattle.rules.specs.Bus.{Table}
-use Rattle.rules.specs.TableFile.{memoryTable, bytes}
+use Rattle.rules.specs.Bus.{Table, Labelled, unlabelled}
+use Rattle.rules.specs.TableFile.{version-1, version-2, memoryTable, memoryLabelled, bytes}
 use Rattle.rules.specs.Line.{cut, lineSecond, Sets}
 use Rattle.rules.specs.Loads.{hyperperiod, end, intervals, shortest, load, light, over, reported}
 use Rattle.rules.specs.Interval.{lag, Qualify}
@@ -18,42 +18,46 @@ use Rattle.rules.specs.Refusals.{Answers, verdict-checks}
 
 -- M 4, rows (2,4,1,3), (1,4,2,4), (2,4,3,1)
 abbrev pub case-A : Table
-case-A = memoryTable 4 3 (2 ∷ 4 ∷ 1 ∷ 3 ∷ 1 ∷ 4 ∷ 2 ∷ 4 ∷ 2 ∷ 4 ∷ 3 ∷ 1 ∷ [])
+case-A = memoryTable 4 3 (2 ∷ 4 ∷ 1 ∷ 3 ∷ 0 ∷ 1 ∷ 4 ∷ 2 ∷ 4 ∷ 0 ∷ 2 ∷ 4 ∷ 3 ∷ 1 ∷ 0 ∷ [])
+
+-- case A with the labels 0, 1 and 65535 (#107)
+abbrev pub case-A-labels : Labelled
+case-A-labels = memoryLabelled 4 3 (2 ∷ 4 ∷ 1 ∷ 3 ∷ 0 ∷ 1 ∷ 4 ∷ 2 ∷ 4 ∷ 1 ∷ 2 ∷ 4 ∷ 3 ∷ 1 ∷ 65535 ∷ [])
 
 -- M 3, rows (1,4,1,2), (3,8,1,3); and with another second cost
 abbrev pub case-B-with : ℕ → Table
-case-B-with cost = memoryTable 3 2 (1 ∷ 4 ∷ 1 ∷ 2 ∷ cost ∷ 8 ∷ 1 ∷ 3 ∷ [])
+case-B-with cost = memoryTable 3 2 (1 ∷ 4 ∷ 1 ∷ 2 ∷ 0 ∷ cost ∷ 8 ∷ 1 ∷ 3 ∷ 0 ∷ [])
 
 abbrev pub case-B : Table
 case-B = case-B-with 3
 
 -- M 3, rows (3,4,1,3) and (1,4,1,2), or (2,4,1,2)
 abbrev pub equal-with : ℕ → Table
-equal-with cost = memoryTable 3 2 (3 ∷ 4 ∷ 1 ∷ 3 ∷ cost ∷ 4 ∷ 1 ∷ 2 ∷ [])
+equal-with cost = memoryTable 3 2 (3 ∷ 4 ∷ 1 ∷ 3 ∷ 0 ∷ cost ∷ 4 ∷ 1 ∷ 2 ∷ 0 ∷ [])
 
 -- M 2, first row (3,4,1,2): what P8 and P9 were before #104
 abbrev pub pasted-with : ℕ → Table
-pasted-with cost = memoryTable 2 2 (3 ∷ 4 ∷ 1 ∷ 2 ∷ cost ∷ 4 ∷ 1 ∷ 2 ∷ [])
+pasted-with cost = memoryTable 2 2 (3 ∷ 4 ∷ 1 ∷ 2 ∷ 0 ∷ cost ∷ 4 ∷ 1 ∷ 2 ∷ 0 ∷ [])
 
 -- M 3, rows (1,4,1,3), (1,4,2,1), (1,4,3,2)
 abbrev pub round : Table
-round = memoryTable 3 3 (1 ∷ 4 ∷ 1 ∷ 3 ∷ 1 ∷ 4 ∷ 2 ∷ 1 ∷ 1 ∷ 4 ∷ 3 ∷ 2 ∷ [])
+round = memoryTable 3 3 (1 ∷ 4 ∷ 1 ∷ 3 ∷ 0 ∷ 1 ∷ 4 ∷ 2 ∷ 1 ∷ 0 ∷ 1 ∷ 4 ∷ 3 ∷ 2 ∷ 0 ∷ [])
 
 -- M 2, row (2,3,1,2): its load is 2/3
 abbrev pub thirds : Table
-thirds = memoryTable 2 1 (2 ∷ 3 ∷ 1 ∷ 2 ∷ [])
+thirds = memoryTable 2 1 (2 ∷ 3 ∷ 1 ∷ 2 ∷ 0 ∷ [])
 
 -- M 3, rows (3,8,1,2), (3,8,1,3), (1,4,2,3): row 0 and row 1 each have a share of 1 1/2 at slot 4, and 3 together
 abbrev pub halves : Table
-halves = memoryTable 3 3 (3 ∷ 8 ∷ 1 ∷ 2 ∷ 3 ∷ 8 ∷ 1 ∷ 3 ∷ 1 ∷ 4 ∷ 2 ∷ 3 ∷ [])
+halves = memoryTable 3 3 (3 ∷ 8 ∷ 1 ∷ 2 ∷ 0 ∷ 3 ∷ 8 ∷ 1 ∷ 3 ∷ 0 ∷ 1 ∷ 4 ∷ 2 ∷ 3 ∷ 0 ∷ [])
 
 -- M 3, rows (1,50,1,2), (1,10,2,3): row 0 is light
 abbrev pub fifty : Table
-fifty = memoryTable 3 2 (1 ∷ 50 ∷ 1 ∷ 2 ∷ 1 ∷ 10 ∷ 2 ∷ 3 ∷ [])
+fifty = memoryTable 3 2 (1 ∷ 50 ∷ 1 ∷ 2 ∷ 0 ∷ 1 ∷ 10 ∷ 2 ∷ 3 ∷ 0 ∷ [])
 
 -- M 4, rows (3,12,1,2), (5,20,1,3), (8,30,3,4): #105's table; and with another second cost
 abbrev pub uneven-with : ℕ → Table
-uneven-with cost = memoryTable 4 3 (3 ∷ 12 ∷ 1 ∷ 2 ∷ cost ∷ 20 ∷ 1 ∷ 3 ∷ 8 ∷ 30 ∷ 3 ∷ 4 ∷ [])
+uneven-with cost = memoryTable 4 3 (3 ∷ 12 ∷ 1 ∷ 2 ∷ 0 ∷ cost ∷ 20 ∷ 1 ∷ 3 ∷ 0 ∷ 8 ∷ 30 ∷ 3 ∷ 4 ∷ 0 ∷ [])
 
 abbrev pub uneven : Table
 uneven = uneven-with 5
@@ -68,11 +72,11 @@ B-at s totals = record { stage = s; totals = at totals }
 
 -- the verdict on a table's file gives this number and place
 abbrev Verdict : Table → ℕ → ℕ → Type 0
-Verdict t number place = Answers (verdict-checks (bytes t)) number place
+Verdict t number place = Answers (verdict-checks (bytes version-1 (unlabelled t))) number place
 
 pub record Cases : Type 0 where
   -- P1: case A's cut, sets and words
-  pub p1-bytes : bytes case-A
+  pub p1-bytes : bytes version-1 (unlabelled case-A)
       ≡ 0x52 ∷ 0x42 ∷ 0x54 ∷ 0x01 ∷ 0x00 ∷ 0x04 ∷ 0x03 ∷ 0x02 ∷ 0x00 ∷ 0x04 ∷ 0x00 ∷ 0x01 ∷ 0x03 ∷ 0x01 ∷ 0x00 ∷ 0x04 ∷ 0x00 ∷ 0x02 ∷ 0x04
       ∷ 0x02 ∷ 0x00 ∷ 0x04 ∷ 0x00 ∷ 0x03 ∷ 0x01 ∷ []
   pub p1-cut : cut case-A ≡ 1
@@ -136,3 +140,8 @@ pub record Cases : Type 0 where
   pub uneven-heavy : light uneven 0 ≡ false
   pub uneven-at : over (uneven-with 10) (bit 3) ≡ false
   pub uneven-over : over (uneven-with 11) (bit 3) ≡ true
+  -- #107: with labels case A's file is version 2, with eight bytes a row, and holds the same table
+  pub labels-bytes : bytes version-2 case-A-labels
+      ≡ 0x52 ∷ 0x42 ∷ 0x54 ∷ 0x02 ∷ 0x00 ∷ 0x04 ∷ 0x03 ∷ 0x02 ∷ 0x00 ∷ 0x04 ∷ 0x00 ∷ 0x01 ∷ 0x03 ∷ 0x00 ∷ 0x00 ∷ 0x01 ∷ 0x00 ∷ 0x04 ∷ 0x00
+      ∷ 0x02 ∷ 0x04 ∷ 0x01 ∷ 0x00 ∷ 0x02 ∷ 0x00 ∷ 0x04 ∷ 0x00 ∷ 0x03 ∷ 0x01 ∷ 0xff ∷ 0xff ∷ []
+  pub labels-verdict : Answers (verdict-checks (bytes version-2 case-A-labels)) 0 0

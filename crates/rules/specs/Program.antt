@@ -66,7 +66,7 @@ slot-lines ws = each (length ws) (λ s. slot s (at ws s) ∷ [])
 
 -- one byte more than the longest table file has
 abbrev pub max-input : ℕ
-max-input = 392
+max-input = 520
 
 -- On a refusal it prints its first line only.
 pub data Printed (input : List ℕ) : List Line → Type 0 where

@@ -12,8 +12,9 @@ use lib.Dec.{T}
 use lib.ListN.{length}
 use Rattle.numbers.specs.Lists.{each}
 use Rattle.rules.specs.Bounds.{max-elements, max-rows, max-slots}
-use Rattle.rules.specs.Bus.{Table, through, pasted}
-use Rattle.rules.specs.TableFile.{table-mark, table-version, headerSize, rowSize, rowNumbers, mark, version, fileTable, memoryTable}
+use Rattle.rules.specs.Bus.{Table, Labelled, through, pasted}
+use Rattle.rules.specs.TableFile.{table-mark, version-1, version-2, headerSize, rowSize, rowNumbers, mark, version, fileTable}
+use Rattle.rules.specs.TableFile.{memoryTable, memoryLabelled}
 use Rattle.rules.specs.Line.{setAt, Sets}
 use Rattle.rules.specs.Loads.{hyperperiod, start, end, light, over}
 use Rattle.rules.specs.Planner.{Stage, due, finished, Planner, Off}
@@ -48,9 +49,13 @@ short-file f = refuse 1 0 (length f < headerSize)
 abbrev pub wrong-mark : List ℕ → Check
 wrong-mark f = refuse 2 0 (mark f ≢ table-mark)
 
--- version is not 1
-abbrev pub wrong-version : List ℕ → Check
-wrong-version f = refuse 3 0 (version f ≢ table-version)
+-- version is neither 1 nor 2 (#107)
+abbrev pub wrong-version : ℕ → Check
+wrong-version v = refuse 3 0 ((v ≢ version-1) × (v ≢ version-2))
+
+-- version is not 1: where version 1 alone is taken
+abbrev pub not-version-1 : ℕ → Check
+not-version-1 v = refuse 3 0 (v ≢ version-1)
 
 -- M not in 2..32
 abbrev pub wrong-elements : Table → Check
@@ -60,7 +65,7 @@ wrong-elements t = refuse 4 0 (¬ In (t .elements) 2 max-elements)
 abbrev pub wrong-rows : Table → Check
 wrong-rows t = refuse 5 0 (¬ In (t .rows) 1 max-rows)
 
--- file length is not 7 + 6 × rows (writer: slice length is not 4 × rows)
+-- file length is not 7 + 6 × rows, 7 + 8 × rows in version 2 (writer: slice length is not 5 × rows)
 abbrev pub wrong-length : ℕ → ℕ → Check
 wrong-length has wants = refuse 6 0 (has ≢ wants)
 
@@ -108,6 +113,10 @@ short-output A = refuse 17 0 A
 abbrev pub pasted-row : Table → ℕ → Check
 pasted-row t i = refuse 18 i (T (pasted t i))
 
+-- a label that version 1 can't hold (#107)
+abbrev pub lost-label : ℕ → Labelled → ℕ → Check
+lost-label v t i = refuse 20 i ((v ≡ version-1) × (t .label i ≢ 0))
+
 -- a row that is asked for is past the last (#102); the place is 0 for the first of the two rows, 1 for the second
 abbrev pub no-row : Table → (place i : ℕ) → Check
 no-row t place i = refuse 32 place (t .rows ≤ i)
@@ -125,7 +134,8 @@ size-checks t has wants = wrong-elements t ∷ wrong-rows t ∷ wrong-length has
 -- 1 to 6
 unfoldable pub header-checks : List ℕ → List Check
 header-checks f =
-    short-file f ∷ wrong-mark f ∷ wrong-version f ∷ size-checks (fileTable f) (length f) (headerSize + rowSize * fileTable f .rows)
+    short-file f ∷ wrong-mark f ∷ wrong-version (version f)
+    ∷ size-checks (fileTable f) (length f) (headerSize + rowSize (version f) * fileTable f .rows)
 
 -- 7 to 9 of row i
 abbrev pub faults : Table → ℕ → List Check
@@ -158,13 +168,25 @@ bound-checks t = each (t .rows) (λ i. light-row t i ∷ []) ++ each (t .rows) (
 unfoldable pub reader-checks : List ℕ → ℕ → List Check
 reader-checks f room = file-checks f ++ (short-output (room < rowNumbers * fileTable f .rows) ∷ [])
 
+-- the reader that takes version 1 alone: 3 for version 2 too, and what the reader refuses beside (#107)
+unfoldable pub version-1-checks : List ℕ → ℕ → List Check
+version-1-checks f room = short-file f ∷ wrong-mark f ∷ not-version-1 (version f) ∷ reader-checks f room
+
 -- 4 to 9, of a slice of numbers
 unfoldable pub memory-checks : ℕ → ℕ → List ℕ → List Check
 memory-checks M n xs = size-checks (memoryTable M n xs) (length xs) (rowNumbers * n) ++ row-checks (memoryTable M n xs)
 
--- the writer 4 to 9, then 17
-unfoldable pub writer-checks : ℕ → ℕ → List ℕ → ℕ → List Check
-writer-checks M n xs room = memory-checks M n xs ++ (short-output (room < headerSize + rowSize * n) ∷ [])
+-- 20, after all of 7 to 9
+unfoldable pub label-checks : ℕ → Labelled → List Check
+label-checks v t = each (t .table .rows) (λ i. lost-label v t i ∷ [])
+
+-- 3, 4 to 9, then 20: what is refused of a slice of numbers that is to be written in version v
+unfoldable pub version-checks : ℕ → ℕ → ℕ → List ℕ → List Check
+version-checks v M n xs = wrong-version v ∷ (memory-checks M n xs ++ label-checks v (memoryLabelled M n xs))
+
+-- the writer these, then 17
+unfoldable pub writer-checks : ℕ → ℕ → ℕ → List ℕ → ℕ → List Check
+writer-checks v M n xs room = version-checks v M n xs ++ (short-output (room < headerSize + rowSize v * n) ∷ [])
 
 -- the segments that rows i and j share: 1 to 9, then 32 (#102)
 unfoldable pub shared-checks : List ℕ → (i j : ℕ) → List Check

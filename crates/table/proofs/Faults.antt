@@ -1,26 +1,35 @@
 -- What the checks of a table say: of its size, of a row, of a whole file.
 --
+--   Known v            version v is 1 or 2
+--
 -- A file that passes checks 1 to 9 has its mark and its version, and is `Passed`; and the other way round.
 use mathlib.Core.Path.{_≡_, refl, sym, ap, _∙_}
-use mathlib.Core.Logic.{inl, inr, ⊎-elim, _≢_}
-use mathlib.Core.List.{List, [], _∷_}
+use mathlib.Core.Logic.{_⊎_, inl, inr, ⊎-elim, _≢_}
+use mathlib.Core.List.{List, [], _∷_, _++_}
 use Prim.Native.Nat.{ℕ, _+_, _*_, _≤_, _<_}
+use native.Mathlib.Decide.{ℕ-discrete}
 use native.Mathlib.Omega.{arith}
 use lib.ListN.{length}
 use lib.Seq.{getD-take}
 use Rattle.numbers.specs.Lists.{at, each}
 use Rattle.numbers.proofs.Truth.{le-or-lt}
 use Rattle.rules.specs.Bounds.{max-elements, max-rows, max-slots}
-use Rattle.rules.specs.Bus.{Table}
-use Rattle.rules.specs.TableFile.{table-mark, table-version, headerSize, rowSize, rowNumbers, mark, version, fileTable, memoryTable}
-use Rattle.rules.specs.Refusals.{Check, Answers, wrong-ends, size-checks, header-checks, faults, row-checks, file-checks, memory-checks}
+use Rattle.rules.specs.Bus.{Table, Labelled}
+use Rattle.rules.specs.TableFile.{table-mark, version-1, version-2, headerSize, rowSize, rowNumbers, mark, version, fileTable}
+use Rattle.rules.specs.TableFile.{memoryTable, memoryLabelled}
+use Rattle.rules.specs.Refusals.{Check, Answers, wrong-version, wrong-ends, lost-label, size-checks, header-checks, faults, row-checks}
+use Rattle.rules.specs.Refusals.{file-checks, memory-checks, label-checks, version-checks}
 use Rattle.rules.proofs.Answers.{None, none-of, none-join, none-left, none-right, none-each, none-at, none-next}
-use Rattle.rules.proofs.Answers.{Numbered, numbered-join, numbered-each, passed, answered, stopped, stopped-at, joined}
+use Rattle.rules.proofs.Answers.{Numbered, numbered-join, numbered-each, applied, passed, answered, stopped, stopped-at, joined}
+use Rattle.rules.proofs.Answers.{single-numbered}
 use Rattle.table.specs.declared.Row.{Row}
 use Rattle.table.specs.Sound.{SoundRow, Sound, Passed}
 use Rattle.table.specs.Rows.{IsRow, single, EndsFit}
 use Rattle.table.specs.Columns.{Whole}
 use Rattle.numbers.proofs.Truth.{limits, equals}
+
+abbrev pub Known : ℕ → Type 0
+Known v = (v ≡ version-1) ⊎ (v ≡ version-2)
 
 -- ---- no refusal has the number 0
 
@@ -52,8 +61,8 @@ pub ends-right : (t : Table) (i : ℕ) → (1 ≤ t .first i) × (t .first i ≤
 ends-right t i f s d w = ⊎-elim (λ h. h f) (λ v. ⊎-elim (λ h. h s) d v) w
 
 -- what a row alone is refused for, it is refused for in every table that has it
-pub row-found : (M n : ℕ) (r : Row) (t : Table) (i : ℕ) → t .elements ≡ M → IsRow t i r → n ≢ 0
-    → Answers (faults (single M r) 0) n 0 → Answers (faults t i) n i
+pub row-found : (M n : ℕ) (r : Row) (t : Labelled) (i : ℕ) → t .table .elements ≡ M → IsRow t i r → n ≢ 0
+    → Answers (faults (single M r) 0) n 0 → Answers (faults (t .table) i) n i
 unfolding Answers
 row-found M n r t i e q h a =
     rw (e, ← q .cost, ← q .period, ← q .first, ← q .second)
@@ -68,8 +77,8 @@ row-found M n r t i e q h a =
     ))
     a)
 
-pub row-clean : (M : ℕ) (r : Row) (t : Table) (i : ℕ) → t .elements ≡ M → IsRow t i r
-    → Answers (faults (single M r) 0) 0 0 → None (faults t i)
+pub row-clean : (M : ℕ) (r : Row) (t : Labelled) (i : ℕ) → t .table .elements ≡ M → IsRow t i r
+    → Answers (faults (single M r) 0) 0 0 → None (faults (t .table) i)
 unfolding None
 row-clean M r t i e q a =
     rw (e, ← q .cost, ← q .period, ← q .first, ← q .second) (none-of (faults (single M r) 0) 0 (faults-numbered (single M r) 0) a)
@@ -146,24 +155,37 @@ mark-right f l h =
     (equals (at f 1) 0x42 (λ n. h (λ e. n (mark-at f 1 (omega arith) e))))
     (equals (at f 2) 0x54 (λ n. h (λ e. n (mark-at f 2 (omega arith) e))))
 
+-- ---- the version
+
+pub known : (v : ℕ) → (wrong-version v .applies → ⊥) → Known v
+known v h = go (ℕ-discrete v version-1)
+  where
+    go : Dec (v ≡ version-1) → Known v
+    go (yes e) = inl e
+    go (no n) = inr (equals v version-2 (λ m. h (n, m)))
+
+pub known-right : {v : ℕ} → Known v → wrong-version v .applies → ⊥
+known-right k w = ⊎-elim (w .0) (w .1) k
+
 -- ---- the whole file
 
 -- what passing checks 1 to 6 says, with checks 4 to 6 by themselves
 pub header-split : (f : List ℕ) → None (header-checks f)
-    → (headerSize ≤ length f) × (mark f ≡ table-mark) × (version f ≡ table-version)
-    × None (size-checks (fileTable f) (length f) (headerSize + rowSize * fileTable f .rows))
+    → (headerSize ≤ length f) × (mark f ≡ table-mark) × Known (version f)
+    × None (size-checks (fileTable f) (length f) (headerSize + rowSize (version f) * fileTable f .rows))
 unfolding header-checks None
 header-split f a =
     let l : headerSize ≤ length f = ⊎-elim (λ h. h) (λ h. absurd (a .0 h)) (le-or-lt headerSize (length f)) in
-    (l, mark-right f (omega arith) (a .1 .0), equals (version f) table-version (a .1 .1 .0), a .1 .1 .1)
+    (l, mark-right f (omega arith) (a .1 .0), known (version f) (a .1 .1 .0), a .1 .1 .1)
 
 -- past checks 1 to 3 the size decides
-pub header-rest : (f : List ℕ) (n : ℕ) → headerSize ≤ length f → mark f ≡ table-mark → version f ≡ table-version
-    → Answers (size-checks (fileTable f) (length f) (headerSize + rowSize * fileTable f .rows)) n 0
+pub header-rest : (f : List ℕ) (n : ℕ) → headerSize ≤ length f → mark f ≡ table-mark → Known (version f)
+    → Answers (size-checks (fileTable f) (length f) (headerSize + rowSize (version f) * fileTable f .rows)) n 0
     → Answers (header-checks f) n 0
 unfolding header-checks
 header-rest f n l m v a =
-    passed _ _ n 0 (λ (h : length f < headerSize). let z : ⊥ = omega arith in z) (passed _ _ n 0 (λ h. h m) (passed _ _ n 0 (λ h. h v) a))
+    passed _ _ n 0 (λ (h : length f < headerSize). let z : ⊥ = omega arith in z)
+    (passed _ _ n 0 (λ h. h m) (passed _ _ n 0 (known-right v) a))
 
 pub header-whole : (f : List ℕ) → None (header-checks f) → Whole f
 header-whole f a = let s = sizes-right (fileTable f) _ _ (header-split f a .3) in record { size = s .4; few = s .3 }
@@ -180,12 +202,15 @@ passed-none f a =
 pub passed-of : (f : List ℕ) (p : ℕ) → Answers (file-checks f) 0 p → Passed f
 passed-of f p a = passed-none f (none-of (file-checks f) p (file-numbered f) a)
 
-pub none-passed : (f : List ℕ) → mark f ≡ table-mark → version f ≡ table-version → Passed f → None (file-checks f)
+pub none-passed : (f : List ℕ) → mark f ≡ table-mark → Known (version f) → Passed f → None (file-checks f)
 unfolding file-checks header-checks None
 none-passed f m v p =
     none-join (header-checks f) (row-checks (fileTable f)) (
       λ (l : length f < headerSize). let z : ⊥ = omega (arith, p .size) in z,
-      (λ h. h m, (λ h. h v, table-none (fileTable f) (length f) (headerSize + rowSize * fileTable f .rows) (p .sound) (p .size))),
+      (
+        λ h. h m,
+        (known-right v, table-none (fileTable f) (length f) (headerSize + rowSize (version f) * fileTable f .rows) (p .sound) (p .size)),
+      ),
     )
     (rows-none (fileTable f) (p .sound .row))
 
@@ -200,16 +225,18 @@ pub checked-start : (t : Table) → Checked t 0
 unfolding each None
 checked-start t = record { there = omega arith; clear = tt }
 
-module _ {t : Table} {i : ℕ} (M n : ℕ) {r : Row} (e : t .elements ≡ M) (q : IsRow t i r) (a : Answers (faults (single M r) 0) n 0) where
-  pub checked-next : Checked t i → i < t .rows → n ≡ 0 → Checked t (i + 1)
+module _ {t : Labelled} {i : ℕ} (M n : ℕ) {r : Row} (e : t .table .elements ≡ M) (q : IsRow t i r)
+    (a : Answers (faults (single M r) 0) n 0) where
+  pub checked-next : Checked (t .table) i → i < t .table .rows → n ≡ 0 → Checked (t .table) (i + 1)
   checked-next c l z = record {
     there = omega arith;
-    clear = none-next (faults t) i (c .clear) (row-clean M r t i e q (rw z at a));
+    clear = none-next (faults (t .table)) i (c .clear) (row-clean M r t i e q (rw z at a));
   }
 
-  pub checked-stop : Checked t i → i < t .rows → n ≢ 0 → Answers (row-checks t) n i
+  pub checked-stop : Checked (t .table) i → i < t .table .rows → n ≢ 0 → Answers (row-checks (t .table)) n i
   unfolding row-checks
-  checked-stop c l h = stopped-at (faults t) (t .rows) i n i l h (c .clear) (row-found M n r t i e q h a)
+  checked-stop c l h =
+      stopped-at (faults (t .table)) (t .table .rows) i n i l h (c .clear) (row-found M n r t i e q h a)
 
 pub checked-end : {t : Table} {i : ℕ} → Checked t i → t .rows ≤ i → Answers (row-checks t) 0 0
 unfolding row-checks
@@ -253,3 +280,40 @@ module _ (M n : ℕ) (xs : List ℕ) where
     first = λ i l. let r = s .row i l in omega (arith, r .first-high, s .elements-high);
     second = λ i l. let r = s .row i l in omega (arith, r .second-high, s .elements-high);
   }
+
+  -- ---- to be written in version v
+
+  abbrev labels : ℕ → List Check
+  labels v = label-checks v (memoryLabelled M n xs)
+
+  pub version-unknown : (v : ℕ) → wrong-version v .applies → Answers (version-checks v M n xs) 3 0
+  unfolding version-checks
+  version-unknown v w = applied (wrong-version v) (memory-checks M n xs ++ labels v) 3 0 w refl refl
+
+  pub labels-numbered : (v : ℕ) → Numbered (labels v)
+  unfolding label-checks
+  labels-numbered v = single-numbered (lost-label v (memoryLabelled M n xs)) n (λ i. omega arith)
+
+  pub version-numbered : (v : ℕ) → Numbered (version-checks v M n xs)
+  unfolding version-checks Numbered
+  version-numbered v = (omega arith, numbered-join (memory-checks M n xs) (labels v) memory-numbered (labels-numbered v))
+
+  module _ (v : ℕ) (k : wrong-version v .applies → ⊥) where
+    pub version-stopped : (m p : ℕ) → m ≢ 0 → Answers (memory-checks M n xs) m p → Answers (version-checks v M n xs) m p
+    unfolding version-checks
+    version-stopped m p h a =
+        passed (wrong-version v) (memory-checks M n xs ++ labels v) m p k (stopped (memory-checks M n xs) (labels v) m p h a)
+
+    pub version-joined : (m p : ℕ) → None (memory-checks M n xs) → Answers (labels v) m p → Answers (version-checks v M n xs) m p
+    unfolding version-checks
+    version-joined m p a b =
+        passed (wrong-version v) (memory-checks M n xs ++ labels v) m p k (joined (memory-checks M n xs) (labels v) m p a b)
+
+    pub version-none : None (memory-checks M n xs) → None (labels v) → None (version-checks v M n xs)
+    unfolding version-checks None
+    version-none a b = (k, none-join (memory-checks M n xs) (labels v) a b)
+
+  pub version-known : (v : ℕ) → None (version-checks v M n xs) → Known v × None (memory-checks M n xs) × None (labels v)
+  unfolding version-checks None
+  version-known v a =
+      (known v (a .0), none-left (memory-checks M n xs) (labels v) (a .1), none-right (memory-checks M n xs) (labels v) (a .1))

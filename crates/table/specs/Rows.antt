@@ -1,17 +1,19 @@
 -- The code's tables and rows, as document 01's.
 --
 --   IsHead f r         r is what file f says of its table
---   IsRow t i r        r is row i of table t
+--   IsRow t i r        r is row i of table t, with its label
 --   single M r         the table of M elements that has r as its only row
+--   alone r            that table, with r's label
 --   sized M n          a table of which only the elements and the number of rows are told
 --   inMemory r         the numbers of r in memory
---   inFile r           the bytes of r in a file
+--   inFile k r         the bytes of r in a file, with k bytes of label
+--   longest-row        no row has more bytes
 --   EndsFit t          every end fits a byte
 use mathlib.Core.Path.{_≡_}
 use mathlib.Core.List.{List, []}
 use Prim.Native.Nat.{ℕ, _<_}
-use Rattle.rules.specs.Bus.{Table}
-use Rattle.rules.specs.TableFile.{fileTable, memoryTable, memoryRow, fileRow}
+use Rattle.rules.specs.Bus.{Table, Labelled}
+use Rattle.rules.specs.TableFile.{rowWith, fileTable, memoryTable, memoryRow, fileRow}
 use Rattle.table.specs.declared.Table.{Table as Head}
 use Rattle.table.specs.declared.Row.{Row}
 
@@ -21,11 +23,12 @@ pub record IsHead (f : List ℕ) (r : Head) : Type 0 where
   pub elements-byte : r .elements < 256
   pub rows-byte : r .rows < 256
 
-pub record IsRow (t : Table) (i : ℕ) (r : Row) : Type 0 where
-  pub cost : r .cost ≡ t .cost i
-  pub period : r .period ≡ t .period i
-  pub first : r .first ≡ t .first i
-  pub second : r .second ≡ t .second i
+pub record IsRow (t : Labelled) (i : ℕ) (r : Row) : Type 0 where
+  pub cost : r .cost ≡ t .table .cost i
+  pub period : r .period ≡ t .table .period i
+  pub first : r .first ≡ t .table .first i
+  pub second : r .second ≡ t .table .second i
+  pub label : r .label ≡ t .label i
 
 abbrev pub single : ℕ → Row → Table
 single M r = record {
@@ -40,11 +43,17 @@ single M r = record {
 abbrev pub sized : ℕ → ℕ → Table
 sized M n = memoryTable M n []
 
-abbrev pub inMemory : Row → List ℕ
-inMemory r = memoryRow (single 0 r) 0
+abbrev pub alone : Row → Labelled
+alone r = record { table = single 0 r; label = λ i. r .label }
 
-abbrev pub inFile : Row → List ℕ
-inFile r = fileRow (single 0 r) 0
+abbrev pub inMemory : Row → List ℕ
+inMemory r = memoryRow (alone r) 0
+
+abbrev pub inFile : ℕ → Row → List ℕ
+inFile k r = fileRow k (alone r) 0
+
+abbrev pub longest-row : ℕ
+longest-row = rowWith 2
 
 pub record EndsFit (t : Table) : Type 0 where
   pub first : (i : ℕ) → i < t .rows → t .first i < 256

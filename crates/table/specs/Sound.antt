@@ -11,7 +11,7 @@ use Prim.Native.Nat.{ℕ, _+_, _*_, _≤_, _<_}
 use lib.ListN.{length}
 use Rattle.rules.specs.Bounds.{max-elements, max-rows, max-slots}
 use Rattle.rules.specs.Bus.{Table}
-use Rattle.rules.specs.TableFile.{headerSize, rowSize, fileTable}
+use Rattle.rules.specs.TableFile.{headerSize, rowSize, version, fileTable}
 
 pub record SoundRow (t : Table) (i : ℕ) : Type 0 where
   pub first-low : 1 ≤ t .first i
@@ -32,5 +32,5 @@ pub record Sound (t : Table) : Type 0 where
   pub row : (i : ℕ) → i < t .rows → SoundRow t i
 
 pub record Passed (f : List ℕ) : Type 0 where
-  pub size : length f ≡ headerSize + rowSize * fileTable f .rows
+  pub size : length f ≡ headerSize + rowSize (version f) * fileTable f .rows
   pub sound : Sound (fileTable f)

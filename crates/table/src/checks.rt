@@ -3,9 +3,9 @@ use crate::Answer;
 use crate::Row;
 use crate::Table;
 ghost use Prim.Native.Nat.{_+_, _*_, _≤_};
-ghost use Rattle.rules.specs.TableFile.{headerSize, rowSize};
+ghost use Rattle.rules.specs.TableFile.{headerSize};
 ghost use Rattle.rules.specs.Refusals.{Answers, size-checks, faults};
-ghost use Rattle.table.specs.Rows.{single, sized};
+ghost use Rattle.table.specs.Rows.{longest-row, single, sized};
 ghost use Rattle.numbers.specs.Decides.{Decides};
 
 fn within(x: usize, low: usize, high: usize) -> bool
@@ -19,7 +19,7 @@ fn within(x: usize, low: usize, high: usize) -> bool
 
 // Checks 4 to 6, of a table whose file or slice has `size` places: it is to have `front`, and `each` a row.
 pub fn size_fault(elements: usize, rows: usize, size: usize, front: usize, each: usize) -> u32
-    requires { ⌜ (front ≤ headerSize) × (each ≤ rowSize) ⌝ }
+    requires { ⌜ (front ≤ headerSize) × (each ≤ longest-row) ⌝ }
     ensures { λ r. ⌜ Answers (size-checks (sized elements rows) size (front + each * rows)) r 0 ⌝ }
 {
     if !within(elements, 2, Table::ELEMENTS) {

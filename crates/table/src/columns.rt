@@ -1,4 +1,5 @@
-// A table in memory: a column for each of its rows' numbers. Below this crate a table is its columns, whatever file it came from.
+// A table in memory: a column for each of its rows' numbers. Below this crate a table is its columns, whatever file it came from. Labels
+// stand beside them, for those who ask: planning needs none.
 use crate::Row;
 use crate::Table;
 use crate::wide;
@@ -7,7 +8,7 @@ ghost use Prim.Native.Nat.{ℕ, _<_};
 ghost use Rattle.numbers.specs.Lists.{at};
 ghost use Rattle.rules.specs.Bounds.{max-rows};
 ghost use Rattle.table.specs.Rows.{IsRow};
-ghost use Rattle.table.specs.Columns.{columnTable, noColumns};
+ghost use Rattle.table.specs.Columns.{columnLabelled, noColumns};
 
 // Every column has 0 past the last row.
 pub struct Columns {
@@ -33,23 +34,25 @@ pub fn no_columns() -> Columns
     }
 }
 
-// Row `i` of a table in columns.
+// Row `i` of a table in columns, with its label.
 pub fn row_at<'a>(
     cost: &'a [u16; Table::ROWS],
     period: &'a [u16; Table::ROWS],
     first: &'a [u8; Table::ROWS],
     second: &'a [u8; Table::ROWS],
+    labels: &'a [u16; Table::ROWS],
     i: usize,
 ) -> Row
     requires { ⌜ i < max-rows ⌝ }
-    ensures { λ r. ⌜ ((M n : ℕ)
-        → IsRow (columnTable M n (now (cost .entry)) (now (period .entry)) (now (first .entry)) (now (second .entry))) i r) ⌝ }
+    ensures { λ r. ⌜ ((M n : ℕ) → IsRow (columnLabelled M n (now (cost .entry)) (now (period .entry)) (now (first .entry))
+        (now (second .entry)) (now (labels .entry))) i r) ⌝ }
 {
     Row {
         cost: cost[i],
         period: period[i],
         first: wide(first[i]),
         second: wide(second[i]),
+        label: labels[i],
     }
 }
 

@@ -1,6 +1,7 @@
 // A table: its bounds, its columns in memory, and the checks that its reader and its writer share.
 mod checks;
 mod columns;
+mod versions;
 
 pub use checks::row_fault;
 pub use checks::size_fault;
@@ -9,11 +10,15 @@ pub use columns::end_at;
 pub use columns::no_columns;
 pub use columns::row_at;
 pub use columns::slots_at;
+pub use versions::is_unknown;
+pub use versions::row_bytes;
+pub use versions::row_place;
+pub use versions::version_of;
 ghost use mathlib.Core.Path.{_≡_};
 ghost use Prim.Native.Nat.{_+_, _*_, _<_, _≤_};
 ghost use lib.ListN.{length};
 ghost use Rattle.rules.specs.Bounds.{max-elements, max-rows, max-slots};
-ghost use Rattle.rules.specs.TableFile.{headerSize, rowSize, rowNumbers};
+ghost use Rattle.rules.specs.TableFile.{headerSize, rowNumbers};
 ghost use Rattle.table.specs.Rows.{IsHead};
 
 // A table: how many elements the ring has, and how many rows.
@@ -28,16 +33,24 @@ impl Table {
     pub const ROWS: usize = 64;
 
     pub const SLOTS: usize = 4096;
-    // bytes before the first row, bytes a row, numbers a row in memory
+    // bytes before the first row, bytes of a row before its label, bytes of a label in version 2, numbers a row in memory
     pub const HEADER: usize = 7;
 
     pub const ROW_BYTES: usize = 6;
 
-    pub const ROW_NUMBERS: usize = 4;
+    pub const LABEL_BYTES: usize = 2;
+
+    pub const ROW_NUMBERS: usize = 5;
+
+    // bytes of the longest file
+    pub const FILE_BYTES: usize = Table::HEADER
+        + (Table::ROW_BYTES + Table::LABEL_BYTES) * Table::ROWS;
     // the header: the mark, and where the version, the elements and the rows stand
     pub const MARK: [u8; 3] = [b'R', b'B', b'T'];
 
-    pub const VERSION: u16 = 1;
+    pub const VERSION_1: u64 = 1;
+
+    pub const VERSION_2: u64 = 2;
 
     pub const VERSION_AT: usize = 3;
 
@@ -81,12 +94,6 @@ impl Table {
         Table::HEADER
     }
 
-    pub fn row_size() -> usize
-        ensures { λ r. ⌜ r ≡ rowSize ⌝ }
-    {
-        Table::ROW_BYTES
-    }
-
     pub fn row_numbers() -> usize
         ensures { λ r. ⌜ r ≡ rowNumbers ⌝ }
     {
@@ -94,12 +101,13 @@ impl Table {
     }
 }
 
-// One periodic transfer.
+// One periodic transfer, with its label: 0 in version 1.
 pub struct Row {
     pub cost: u16,
     pub period: u16,
     pub first: u16,
     pub second: u16,
+    pub label: u16,
 }
 
 // What a call answers: a refusal number and its place, or twice 0.
@@ -146,6 +154,8 @@ impl Answer {
     pub const SHORT_OUTPUT: u32 = 17;
 
     pub const PASTED_ROW: u32 = 18;
+
+    pub const LOST_LABEL: u32 = 20;
 
     pub const NO_ROW: u32 = 32;
 

@@ -1,21 +1,23 @@
 -- What the writer leaves in a lent slice and answers, from its checks; and that only one answer fits.
 use mathlib.Core.Path.{_≡_, refl, sym, ap, _∙_}
 use mathlib.Core.Logic.{⊎-elim, _≢_}
-use mathlib.Core.List.{List, _++_}
-use Prim.Native.Nat.{ℕ, _+_, _*_, _≤_, _<_}
+use mathlib.Core.List.{List, [], _∷_, _++_}
+use Prim.Native.Nat.{ℕ, suc, _+_, _*_, _≤_, _<_}
+use native.Mathlib.Nat.{add-zero}
 use native.Mathlib.Omega.{arith}
-use lib.ListN.{length, take, drop, length-append}
+use lib.ListN.{length, take, drop, set, length-append}
 use lib.Seq.{sets, drop-drop}
+use Rattle.numbers.specs.Codec.{writeLow}
 use Rattle.numbers.proofs.Lists.{Filled, filled-start, filled-take, filled-drop, filled-sets}
-use Rattle.rules.specs.Bus.{Table}
-use Rattle.rules.specs.TableFile.{headerSize, rowSize, memoryTable, fileRow, bytes}
-use Rattle.rules.specs.Refusals.{Answers, memory-checks, writer-checks}
+use Rattle.rules.specs.Bus.{Labelled}
+use Rattle.rules.specs.TableFile.{headerSize, rowWith, rowSize, write16, memoryLabelled, fileRow, bytes}
+use Rattle.rules.specs.Refusals.{Answers, version-checks, writer-checks}
 use Rattle.rules.specs.Calls.{Written, lent}
 use Rattle.rules.proofs.Answers.{None}
 use Rattle.rules.proofs.Calls.{call-refused, call-short, call-done, call-only}
 use Rattle.table.specs.declared.Row.{Row}
 use Rattle.table.specs.Rows.{IsRow, inFile}
-use Rattle.table.proofs.Faults.{memory-numbered}
+use Rattle.table.proofs.Faults.{version-numbered}
 
 -- ---- the lent slice
 
@@ -33,30 +35,44 @@ lent-headed was mid out h rest k e l q r =
     r ∙ rw (front, past)
 
 -- the places of a row
-pub file-row : {t : Table} {i : ℕ} {r : Row} → IsRow t i r → inFile r ≡ fileRow t i
-file-row q = rw (q .cost, q .period, q .first, q .second)
+pub file-row : (k : ℕ) {t : Labelled} {i : ℕ} {r : Row} → IsRow t i r → inFile k r ≡ fileRow k t i
+file-row k q = rw (q .cost, q .period, q .first, q .second, q .label)
+
+-- two runs, one after the other
+pub sets-join : (l : List ℕ) (i : ℕ) (xs ys : List ℕ) → sets l i (xs ++ ys) ≡ sets (sets l i xs) (i + length xs) ys
+sets-join l i [] ys = rw (add-zero i)
+sets-join l i (x ∷ xs) ys =
+    let e : suc i + length xs ≡ i + length (x ∷ xs) = omega arith in
+    rw e at (sets-join (set l i x) (suc i) xs ys)
+
+-- a row is its six bytes, and then its label
+pub row-join : (k : ℕ) (r : Row) (l : List ℕ) (i : ℕ)
+    → sets l i (inFile k r) ≡ sets (sets l i (inFile 0 r)) (i + rowWith 0) (writeLow k (r .label))
+unfolding writeLow
+row-join k r l i =
+    sets-join l i (write16 (r .cost) ++ write16 (r .period) ++ (r .first ∷ r .second ∷ [])) (writeLow k (r .label))
 
 -- ---- the answer
 
-module _ (M n : ℕ) (xs was : List ℕ) where
+module _ (v M n : ℕ) (xs was : List ℕ) where
   abbrev cramped : Type 0
-  cramped = length was < headerSize + rowSize * n
+  cramped = length was < headerSize + rowSize v * n
 
-  pub written-refused : (m p : ℕ) → Answers (memory-checks M n xs) m p → m ≢ 0 → Written M n xs was was m p
+  pub written-refused : (m p : ℕ) → Answers (version-checks v M n xs) m p → m ≢ 0 → Written v M n xs was was m p
   unfolding writer-checks
-  written-refused m p a h = call-refused (memory-checks M n xs) cramped a h refl
+  written-refused m p a h = call-refused (version-checks v M n xs) cramped a h refl
 
-  pub written-short : None (memory-checks M n xs) → cramped → Written M n xs was was 17 0
+  pub written-short : None (version-checks v M n xs) → cramped → Written v M n xs was was 17 0
   unfolding writer-checks
-  written-short a h = call-short (memory-checks M n xs) cramped a h refl
+  written-short a h = call-short (version-checks v M n xs) cramped a h refl
 
-  pub written-done : (now : List ℕ) (m p : ℕ) → Answers (memory-checks M n xs) m p → m ≡ 0 → (cramped → ⊥)
-      → now ≡ lent (bytes (memoryTable M n xs)) was → Written M n xs was now m p
+  pub written-done : (now : List ℕ) (m p : ℕ) → Answers (version-checks v M n xs) m p → m ≡ 0 → (cramped → ⊥)
+      → now ≡ lent (bytes v (memoryLabelled M n xs)) was → Written v M n xs was now m p
   unfolding writer-checks
-  written-done now m p a e h k = call-done (memory-checks M n xs) cramped (memory-numbered M n xs) a e h k
+  written-done now m p a e h k = call-done (version-checks v M n xs) cramped (version-numbered M n xs v) a e h k
 
-pub written-only : (M r : ℕ) (xs was now now′ : List ℕ) (m n p q : ℕ) → Written M r xs was now m p → Written M r xs was now′ n q
+pub written-only : (v M r : ℕ) (xs was now now′ : List ℕ) (m n p q : ℕ) → Written v M r xs was now m p → Written v M r xs was now′ n q
     → (m ≡ n) × (p ≡ q) × (now ≡ now′)
-written-only M r xs was now now′ m n p q c d =
+written-only v M r xs was now now′ m n p q c d =
     let z = call-only c d in
     (z .0, z .1, ⊎-elim (λ w. w .0 ∙ sym (w .1)) (λ w. w .0 ∙ sym (w .1)) (z .2))

@@ -9,10 +9,10 @@ use Rattle.decoding.proofs.check_rows.Statement.{statement}
 use Rattle.decoding.proofs.check_rows.Tie as tie
 
 abbrev Inv-loop : tie.InvT-loop
-Inv-loop elements rows cost period first second i₀ i = Checked (columnTable elements rows cost period first second) i
+Inv-loop elements rows cost period first second labels i₀ i = Checked (columnTable elements rows cost period first second) i
 
 abbrev μ-loop : tie.MeasureT-loop
-μ-loop elements rows cost period first second i₀ i = rows - i
+μ-loop elements rows cost period first second labels i₀ i = rows - i
 
 loop-holds : tie.Need-loop-holds Inv-loop μ-loop
 loop-holds c = checked-start _

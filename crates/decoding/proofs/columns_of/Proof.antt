@@ -1,8 +1,9 @@
 -- `decoding::columns_of` meets its contract. The loop's invariant: the rows before row `i` are decoded.
-use mathlib.Core.Path.{_≡_, refl}
-use Prim.Native.Nat.{_-_, _≤_}
+use mathlib.Core.Path.{_≡_, ap, _∙_}
+use Prim.Native.Nat.{ℕ, _+_, _-_, _≤_}
 use native.Mathlib.Omega.{arith}
-use Rattle.rules.specs.TableFile.{fileTable}
+use Rattle.numbers.specs.Lists.{at}
+use Rattle.rules.specs.TableFile.{read16, fileTable}
 use Rattle.decoding.proofs.Decoding.{Decoding, decoding-start, decoding-next, decoding-end}
 use Rattle.decoding.proofs.columns_of.Statement.{statement}
 use Rattle.decoding.proofs.columns_of.Tie as tie
@@ -20,11 +21,8 @@ of-requires c κs = omega arith
 loop-holds : tie.Need-loop-holds Inv-loop μ-loop
 loop-holds c = (omega arith, decoding-start _)
 
-mul-at : tie.Need-mul-at Inv-loop μ-loop
-mul-at c = omega arith
-
-add-at : tie.Need-add-at Inv-loop μ-loop
-add-at c = omega arith
+row-in-requires : tie.Need-row-in-requires Inv-loop μ-loop
+row-in-requires c κs = (c .before .before .before .before .before .pre, omega arith)
 
 read16-requires : tie.Need-read16-requires Inv-loop μ-loop
 read16-requires c κs = omega arith
@@ -73,10 +71,13 @@ loop-less c = omega arith
 
 loop-again : tie.Need-loop-again Inv-loop μ-loop
 loop-again c =
-    let z = c .before .before in (
+    let z = c .before .before in
+    let f = z .before .before .before .before .before .before .before .before .args .file .now in
+    let e = z .before .before .row-in .ensures .0 in (
       omega arith,
-      decoding-next (c .before .before .before .before .before .before .loop .inv .1) (omega arith) (z .before .read16 .ensures)
-          (z .read162 .ensures) refl refl,
+      decoding-next (c .before .before .before .before .before .before .before .loop .inv .1) (omega arith)
+          (z .before .read16 .ensures ∙ ap (read16 f) e) (z .read162 .ensures ∙ ap (λ (k : ℕ). read16 f (k + 2)) e)
+          (ap (λ (k : ℕ). at f (k + 4)) e) (ap (λ (k : ℕ). at f (k + 5)) e),
     )
 
 returns : tie.Need-returns Inv-loop μ-loop
@@ -93,8 +94,7 @@ columns-of-spec =
     μ-loop
     of-requires
     loop-holds
-    mul-at
-    add-at
+    row-in-requires
     read16-requires
     mul-cost
     array-write-cost

@@ -20,11 +20,18 @@ bytes z = z .before .before .before .args .file .now
 none : (z : tie.Else1) → None (header-checks (bytes z))
 none z = none-of _ 0 (header-numbered _) (rw (z .if1 .left) at (z .before .header-fault .ensures))
 
+-- past the columns and the labels
+abbrev read : tie.After-check-rows → tie.After-labels-of
+read z = z .before .before .before .before .before .before .before
+
+abbrev columns : tie.After-check-rows → tie.After-columns-of
+columns z = read z .before
+
 -- the rows' answer
 rows : (z : tie.After-check-rows)
     → let r = z .check-rows .result in
-    Answers (row-checks (fileTable (bytes (z .before .before .before .before .before .before .before)))) (r .number) (r .place)
-rows z = rw (z .before .before .before .before .before .before .columns-of .ensures .table) at (z .check-rows .ensures)
+    Answers (row-checks (fileTable (bytes (columns z .before)))) (r .number) (r .place)
+rows z = rw (columns z .columns-of .ensures .table) at (z .check-rows .ensures)
 
 header-fault-requires : tie.Need-header-fault-requires
 header-fault-requires c κs = search needs
@@ -44,9 +51,12 @@ returns c =
 columns-of-requires : tie.Need-columns-of-requires
 columns-of-requires c κs = header-whole _ (none c)
 
+labels-of-requires : tie.Need-labels-of-requires
+labels-of-requires c κs = header-whole _ (none (c .before))
+
 check-rows-requires : tie.Need-check-rows-requires
 check-rows-requires c κs =
-    let z = c .before .before .before .before .before in
+    let z = c .before .before .before .before .before .before .before in
     let e = ap (λ (t : Table). t .rows) (z .columns-of .ensures .table) in
     omega (arith, e, header-whole _ (none (z .before)) .few)
 
@@ -56,14 +66,12 @@ refused-requires-2 c κs = search needs
 returns-2 : tie.Need-returns-2
 returns-2 c =
     let z = c .before .before .before in
-    let e = z .before .before .before .before .before .before in
-    rw (c .refused2 .ensures) (decodes-row _ _ (none (e .before)) (rows z) (c .before .if2 .taken))
+    rw (c .refused2 .ensures) (decodes-row _ _ (none (columns z .before)) (rows z) (c .before .if2 .taken))
 
 returns-3 : tie.Need-returns-3
 returns-3 c =
     let z = c .before .before in
-    let e = z .before .before .before .before .before .before in
-    decodes-all _ _ (none (e .before)) (rows z) (c .if2 .left) (e .columns-of .ensures)
+    decodes-all _ _ (none (columns z .before)) (rows z) (c .if2 .left) (columns z .columns-of .ensures) (read z .labels-of .ensures)
 
 pub decode-spec : {M : Type 1} → statement M
 decode-spec =
@@ -74,6 +82,7 @@ decode-spec =
     refused-requires
     returns
     columns-of-requires
+    labels-of-requires
     check-rows-requires
     refused-requires-2
     returns-2

@@ -1,11 +1,11 @@
 -- `decoding::header_fault` meets its contract.
-use mathlib.Core.Path.{refl, sym, _∙_}
+use mathlib.Core.Path.{refl}
 use native.Mathlib.Omega.{arith}
-use borrow.Author.Needs.{needs}
 use Rattle.rules.specs.Refusals.{header-checks}
 use Rattle.rules.proofs.Answers.{applied, passed}
-use Rattle.table.proofs.Faults.{header-rest}
+use Rattle.table.proofs.Faults.{known, header-rest}
 use Rattle.numbers.proofs.Truth.{denied, granted}
+use borrow.Author.Needs.{needs}
 use Rattle.decoding.proofs.header_fault.Statement.{statement}
 use Rattle.decoding.proofs.header_fault.Tie as tie
 
@@ -22,29 +22,39 @@ returns-2 c =
     passed _ _ 2 0 (λ l. let z : ⊥ = omega arith in z)
     (applied _ _ 2 0 (denied (c .before .is-marked .ensures) (c .if2 .taken)) refl refl)
 
-read16-requires : tie.Need-read16-requires
-read16-requires c κs = search needs
+version-of-requires : tie.Need-version-of-requires
+version-of-requires c κs = search needs
+
+is-unknown-requires : tie.Need-is-unknown-requires
+is-unknown-requires c κs = search needs
 
 returns-3 : tie.Need-returns-3
 unfolding header-checks
 returns-3 c =
+    let z = c .before .before .before in
     passed _ _ 3 0 (λ l. let z : ⊥ = omega arith in z)
-    (passed _ _ 3 0 (λ h. h (granted (c .before .before .before .is-marked .ensures) (c .before .before .if2 .left)))
-    (applied _ _ 3 0 (λ e. c .if3 .taken (c .before .read16 .ensures ∙ e)) refl refl))
+    (passed _ _ 3 0 (λ h. h (granted (z .before .is-marked .ensures) (z .if2 .left)))
+    (applied _ _ 3 0 (rw (c .before .before .version-of .ensures) at (c .before .is-unknown .ensures .holds (c .if3 .taken))) refl refl))
 
 of-requires : tie.Need-of-requires
 of-requires c κs = search needs
 
+row-bytes-requires : tie.Need-row-bytes-requires
+row-bytes-requires c κs = search needs
+
 size-fault-requires : tie.Need-size-fault-requires
-size-fault-requires c κs = search needs
+size-fault-requires c κs = (omega arith, c .row-bytes .ensures .1)
 
 returns-4 : tie.Need-returns-4
 returns-4 c =
-    let o = c .before .of .ensures in
-    header-rest _ _ (c .before .before .before .before .before .before .if1 .left)
-    (granted (c .before .before .before .before .before .is-marked .ensures) (c .before .before .before .before .if2 .left))
-    (sym (c .before .before .before .read16 .ensures) ∙ c .before .before .if3 .left)
-    (rw (o .elements, o .rows) at (c .size-fault .ensures))
+    let o = c .before .before .of .ensures in
+    let y = c .before .before .before in
+    let z = y .before in
+    let v = z .before .version-of .ensures in
+    header-rest _ _ (z .before .before .before .before .if1 .left)
+    (granted (z .before .before .before .is-marked .ensures) (z .before .before .if2 .left))
+    (known _ (rw v at (z .is-unknown .ensures .fails (y .if3 .left))))
+    (rw (c .before .row-bytes .ensures .0, v, o .elements, o .rows) at (c .size-fault .ensures))
 
 pub header-fault-spec : {M : Type 1} → statement M
 header-fault-spec =
@@ -53,8 +63,10 @@ header-fault-spec =
     returns
     is-marked-requires
     returns-2
-    read16-requires
+    version-of-requires
+    is-unknown-requires
     returns-3
     of-requires
+    row-bytes-requires
     size-fault-requires
     returns-4)

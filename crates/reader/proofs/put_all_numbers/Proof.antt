@@ -9,18 +9,18 @@ use Rattle.numbers.specs.Lists.{each}
 use Rattle.numbers.proofs.Lists.{Filled, filled-start}
 use Rattle.rules.specs.TableFile.{rowNumbers, memoryRow, numbers}
 use Rattle.rules.proofs.Calls.{filled-lent}
-use Rattle.table.specs.Columns.{columnTable}
+use Rattle.table.specs.Columns.{columnLabelled}
 use Rattle.numbers.proofs.Codec.{filled-rows, filled-row}
 use Rattle.reader.proofs.Calls.{memory-row}
 use Rattle.reader.proofs.put_all_numbers.Statement.{statement}
 use Rattle.reader.proofs.put_all_numbers.Tie as tie
 
 abbrev Inv-loop : tie.InvT-loop
-Inv-loop rows cost period first second out₀ i₀ out i =
-    (i ≤ rows) × Filled out₀ out (rowNumbers * i) (each i (memoryRow (columnTable 0 rows cost period first second)))
+Inv-loop rows cost period first second labels out₀ i₀ out i =
+    (i ≤ rows) × Filled out₀ out (rowNumbers * i) (each i (memoryRow (columnLabelled 0 rows cost period first second labels)))
 
 abbrev μ-loop : tie.MeasureT-loop
-μ-loop rows cost period first second out₀ i₀ out i = rows - i
+μ-loop rows cost period first second labels out₀ i₀ out i = rows - i
 
 loop-holds : tie.Need-loop-holds Inv-loop μ-loop
 loop-holds c = (omega arith, filled-rows [] _ (filled-start _))

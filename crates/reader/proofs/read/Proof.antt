@@ -5,12 +5,12 @@ use Prim.Native.Nat.{ℕ, _≤_}
 use native.Mathlib.Omega.{arith}
 use borrow.Author.Needs.{needs}
 use Rattle.rules.specs.Bounds.{max-rows}
-use Rattle.rules.specs.Bus.{Table}
-use Rattle.rules.specs.TableFile.{fileTable, numbers}
+use Rattle.rules.specs.Bus.{Table, Labelled}
+use Rattle.rules.specs.TableFile.{fileTable, fileLabelled, numbers}
 use Rattle.rules.specs.Refusals.{file-checks}
 use Rattle.rules.specs.Calls.{lent}
 use Rattle.rules.proofs.Answers.{None, none-of}
-use Rattle.table.specs.Columns.{Holds}
+use Rattle.table.specs.Columns.{columnLabelled, Holds}
 use Rattle.table.proofs.Faults.{file-numbered, passed-none}
 use Rattle.reader.proofs.Calls.{read-refused, read-short, read-done}
 use Rattle.reader.proofs.read.Statement.{statement}
@@ -42,7 +42,7 @@ refuse-read-requires c κs = search needs
 returns : tie.Need-returns
 returns c =
     let e = c .refuse-read .ensures in
-    rw (e .0, e .1, e .2)
+    rw (e .0, e .1, e .2, e .3)
     (read-refused _ _ _ _ (c .before .before .before .before .decode .ensures .answers) (c .before .if1 .taken))
 
 mul-if2 : tie.Need-mul-if2
@@ -58,13 +58,20 @@ returns-2 : tie.Need-returns-2
 returns-2 c =
     let z = c .before .before .before .before in
     let e = c .refuse-read2 .ensures in
-    rw (e .0, e .1, e .2, c .before .at .ensures .0, c .before .at .ensures .1)
+    rw (e .0, e .1, e .2, e .3, c .before .at .ensures .0, c .before .at .ensures .1)
     (read-short _ _ (none z) (omega (arith, c .before .before .if2 .taken, rows z)))
+
+-- the numbers are written: before that, the output was long enough
+abbrev roomy : tie.After-put-all-numbers → tie.Else2
+roomy z = z .before .before .before .before .before .before .before .before .before
 
 put-all-numbers-requires : tie.Need-put-all-numbers-requires
 put-all-numbers-requires c κs =
-    let z = c .before .before .before .before .before .before .before .before in
-    (few z, omega (arith, c .before .before .before .before .before .before .if2 .left))
+    let e = c .before .before .before .before .before .before .before .before in
+    (few (e .before .before), omega (arith, e .if2 .left))
+
+version-of-requires : tie.Need-version-of-requires
+version-of-requires c κs = omega (arith, passed-none _ (none (roomy (c .before .before) .before .before)) .size)
 
 same-length : tie.Need-same-length
 same-length c = search needs
@@ -72,13 +79,20 @@ same-length c = search needs
 returns-3 : tie.Need-returns-3
 unfolding numbers
 returns-3 c =
-    let z = c .before .before .before .before .before .before .before .before .before .before .before in
+    let w = c .before .before .before in
+    let y = roomy w in
+    let z = y .before .before in
+    let f = bytes z in
     let was = z .before .before .before .before .before .before .args .out .now in
-    let t = held z .table in
-    read-done _ _ _ _ _ _ _ (z .before .before .before .decode .ensures .answers) (z .if1 .left)
-    (λ l. let y : ⊥ = omega (arith, c .before .before .before .before .before .before .before .before .before .if2 .left, rows z) in y)
-    (ap (λ (t : Table). t .elements) t) (rows z)
-    (c .before .before .put-all-numbers .ensures ∙ ap (λ (t : Table). lent (numbers t) was) t)
+    let found = z .before .before .before .decode in
+    let t : columnLabelled (found .result .columns .elements) (found .result .columns .rows) (found .result .columns .cost)
+    (found .result .columns .period) (found .result .columns .first) (found .result .columns .second) (found .result .labels)
+    ≡ fileLabelled f =
+    λ k. record { table = held z .table k; label = found .ensures .labelled (z .if1 .left) .labels k } in
+    read-done f was _ _ _ _ _ _ (found .ensures .answers) (z .if1 .left)
+    (λ l. let q : ⊥ = omega (arith, y .if2 .left, rows z) in q) (c .version-of .ensures)
+    (ap (λ (t : Table). t .elements) (held z .table)) (rows z)
+    (w .put-all-numbers .ensures ∙ ap (λ (t : Labelled). lent (numbers t) was) t)
 
 pub read-spec : {M : Type 1} → statement M
 read-spec =
@@ -92,5 +106,6 @@ read-spec =
     refuse-read-requires-2
     returns-2
     put-all-numbers-requires
+    version-of-requires
     same-length
     returns-3)

@@ -3,6 +3,7 @@ use native.Mathlib.Omega.{arith}
 use native.Mathlib.Numerals.{towards-suc}
 use lib.ListN.{length-set}
 use borrow.Author.Needs.{needs}
+use Rattle.numbers.specs.Codec.{writeLow}
 use Rattle.writer.proofs.put_bytes.Statement.{statement}
 use Rattle.writer.proofs.put_bytes.Tie as tie
 
@@ -61,6 +62,7 @@ same-length : tie.Need-same-length
 same-length c = search needs
 
 returns : tie.Need-returns
+unfolding writeLow
 returns c = simp towards-suc
 
 pub put-bytes-spec : {M : Type 1} → statement M

@@ -12,12 +12,6 @@ returns c = search needs
 returns-2 : tie.Need-returns-2
 returns-2 c = search needs
 
-number-at-requires : tie.Need-number-at-requires
-number-at-requires c κs = search needs
-
-number-at-requires-2 : tie.Need-number-at-requires-2
-number-at-requires-2 c κs = search needs
-
 slice-aggregate-write : tie.Need-slice-aggregate-write
 slice-aggregate-write c = sym (length-take-le _ _ (omega arith))
 
@@ -42,8 +36,6 @@ write-front-spec =
     (tie.spec
     returns
     returns-2
-    number-at-requires
-    number-at-requires-2
     slice-aggregate-write
     slice-relend-prefix-write
     slice-aggregate-write-2

@@ -1,0 +1,20 @@
+-- `decoding::row_in` meets its contract.
+use native.Mathlib.Omega.{arith}
+use Rattle.table.proofs.RowSizes.{row-inside}
+use Rattle.decoding.proofs.row_in.Statement.{statement}
+use Rattle.decoding.proofs.row_in.Tie as tie
+
+version-of-requires : tie.Need-version-of-requires
+version-of-requires c κs = omega (arith, c .before .pre .0 .size)
+
+row-place-requires : tie.Need-row-place-requires
+row-place-requires c κs = omega (arith, c .before .before .pre .0 .few)
+
+returns : tie.Need-returns
+returns c =
+    let z = c .before .before .before in
+    let e = rw (c .before .version-of .ensures) at (c .row-place .ensures) in
+    (e, omega (arith, e, row-inside (z .pre .0) (z .pre .1)))
+
+pub row-in-spec : {M : Type 1} → statement M
+row-in-spec = tie.close (tie.spec version-of-requires row-place-requires returns)
