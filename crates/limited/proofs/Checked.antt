@@ -1,4 +1,4 @@
--- The analysis within limits of each outcome: checks that pass stand before those that are left.
+-- The analysis within limits of each outcome: checks that pass stand before those that are left; and that only one verdict fits.
 use mathlib.Core.Path.{_≡_, refl, sym, subst, ap, _∙_}
 use mathlib.Core.Logic.{_≢_, ⊎-elim, inl, inr}
 use mathlib.Core.Bool.{Bool, true, false, _||_}
@@ -12,18 +12,22 @@ use Rattle.numbers.proofs.Truth.{or-cases, orl, orr, of-true, of-false}
 use Rattle.rules.specs.Bus.{Table, Labelled}
 use Rattle.rules.specs.TableFile.{fileTable, fileLabelled}
 use Rattle.rules.specs.Parties.{max-limit}
-use Rattle.rules.specs.Refusals.{Check, Answers, wrong-limit, given-checks, line-checks, limit-checks, bound-checks, limited-checks}
-use Rattle.rules.proofs.Answers.{None, Numbered, applied, passed, stopped, none-of, numbered-join}
+use Rattle.rules.specs.Refusals.{Check, Answers, wrong-limit, given-checks, line-checks, limit-checks, bound-checks, limited-checks, verdict-checks}
+use Rattle.rules.proofs.Answers.{None, Numbered, applied, passed, stopped, none-of, none-join, none-left, none-right, numbered-join}
 use Rattle.table.specs.declared.Answer.{Answer}
 use Rattle.outline.specs.declared.Outline.{Outline}
 use Rattle.outline.specs.Outlined.{Outlined}
 use Rattle.limits.specs.Limits.{labelled}
 use Rattle.limits.proofs.Within.{limit-numbered}
 use Rattle.outline.proofs.Outlined.{line-numbered}
-use Rattle.verdict.proofs.Bound.{bound-numbered}
+use Rattle.lags.specs.Lags.{Admissible}
+use Rattle.verdict.proofs.Bound.{bound-numbered, verdict-split, admissible-of}
 use Rattle.pasted.proofs.AsGiven.{given-numbered}
 use Rattle.verdict.specs.declared.Analysis.{Analysis}
-use Rattle.verdict.specs.Analysed.{blank, Rated, Analysed}
+use Rattle.verdict.specs.declared.Verdict.{Verdict}
+use Rattle.verdict.specs.Verdict.{JudgedBy}
+use Rattle.verdict.specs.Analysed.{table-checks, blank, Rated, Analysed}
+use Rattle.verdict.proofs.Judging.{judged-by-only}
 use Rattle.verdict.proofs.Analysing.{analysed-refused, analysed-after, line-none}
 use Rattle.limited.specs.Limited.{within-checks}
 
@@ -54,6 +58,13 @@ module _ (t : Table) (label : List ℕ) (our their : ℕ) where
         analysed-after (line-checks t) past (line-none t R)
         (analysed-after (limit-checks l our their) (bound-checks t)
         (none-of (limit-checks l our their) (k .place) (limit-numbered l our their) (rw z at K)) A)
+
+-- the same of a table with labels that columns hold
+pub within-held : (t : Table) (label : List ℕ) (u : Labelled) (our their : ℕ) → t ≡ u .table → at label ≡ u .label → {a : Analysis}
+    → Analysed (within-checks (labelled t label) our their) t a → Analysed (within-checks u our their) (u .table) a
+within-held t label u our their e g {a} A =
+    let held : labelled t label ≡ u = λ k. record { table = e k; label = g k } in
+    subst (λ (l : Labelled). Analysed (within-checks l our their) (l .table) a) held A
 
 -- ---- of a file
 
@@ -108,12 +119,36 @@ module _ (f : List ℕ) (our their : ℕ) where
           refused = B .refused;
         }
 
-pub limited-numbered : (f : List ℕ) (our their : ℕ) → Numbered (limited-checks f our their)
-unfolding limited-checks Numbered
-limited-numbered f our their = (
-  omega arith,
-  numbered-join (given-checks f) _ (given-numbered f)
-      (numbered-join (line-checks (fileTable f)) _ (line-numbered (fileTable f))
-      (numbered-join (limit-checks (fileLabelled f) our their) (bound-checks (fileTable f)) (limit-numbered (fileLabelled f) our their)
-      (bound-numbered (fileTable f)))),
-)
+-- ---- the checks as a whole
+
+module _ (f : List ℕ) (our their : ℕ) where
+  abbrev t : Table
+  t = fileTable f
+
+  abbrev limits : List Check
+  limits = limit-checks (fileLabelled f) our their
+
+  pub limited-numbered : Numbered (limited-checks f our their)
+  unfolding limited-checks Numbered
+  limited-numbered = (
+    omega arith,
+    numbered-join (given-checks f) (line-checks t ++ (limits ++ bound-checks t)) (given-numbered f)
+        (numbered-join (line-checks t) (limits ++ bound-checks t) (line-numbered t)
+        (numbered-join limits (bound-checks t) (limit-numbered (fileLabelled f) our their) (bound-numbered t))),
+  )
+
+  -- a table that passes them passes the verdict's
+  pub limited-none : None (limited-checks f our their) → None (verdict-checks f)
+  unfolding limited-checks None
+  limited-none n =
+      let past = none-right (given-checks f) (line-checks t ++ (limits ++ bound-checks t)) (n .1) in
+      rw (verdict-split f)
+      (none-join (given-checks f) (table-checks t) (none-left (given-checks f) (line-checks t ++ (limits ++ bound-checks t)) (n .1))
+      (none-join (line-checks t) (bound-checks t) (none-left (line-checks t) (limits ++ bound-checks t) past)
+      (none-right limits (bound-checks t) (none-right (line-checks t) (limits ++ bound-checks t) past))))
+
+  pub limited-admissible : None (limited-checks f our their) → Admissible t
+  limited-admissible n = admissible-of f (limited-none n)
+
+  pub limited-only : (r s : Verdict) → JudgedBy (limited-checks f our their) t r → JudgedBy (limited-checks f our their) t s → r ≡ s
+  limited-only = judged-by-only (λ n. limited-admissible n .sound .rows-low) limited-numbered
