@@ -12,7 +12,8 @@ use Rattle.numbers.proofs.Truth.{or-cases, orl, orr, of-true, of-false}
 use Rattle.rules.specs.Bus.{Table, Labelled}
 use Rattle.rules.specs.TableFile.{fileTable, fileLabelled}
 use Rattle.rules.specs.Parties.{max-limit}
-use Rattle.rules.specs.Refusals.{Check, Answers, wrong-limit, given-checks, line-checks, limit-checks, bound-checks, limited-checks, verdict-checks}
+use Rattle.rules.specs.Refusals.{Check, Answers, wrong-limit, given-checks, line-checks, limit-checks, bound-checks}
+use Rattle.rules.specs.Refusals.{limited-checks, verdict-checks}
 use Rattle.rules.proofs.Answers.{None, Numbered, applied, passed, stopped, none-of, none-join, none-left, none-right, numbered-join}
 use Rattle.table.specs.declared.Answer.{Answer}
 use Rattle.outline.specs.declared.Outline.{Outline}

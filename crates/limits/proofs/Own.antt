@@ -110,7 +110,9 @@ module _ (p : Party) (u : Labelled) (S : Sound (u .table)) where
   alone-uses k s l = rw (at-map (t .first) rows k l, at-map (t .second) rows k l) refl
 
   alone-positive : Positive (alone .rows) (alone .period)
-  alone-positive k l = rw (alone-period k (omega (arith, alone-rows, l))) (period-positive S (at rows k) (row-below k (omega (arith, alone-rows, l))))
+  alone-positive k l =
+      let m : k < length rows = omega (arith, alone-rows, l) in
+      rw (alone-period k m) (period-positive S (at rows k) (row-below k m))
 
   own-divides : (k : ℕ) → k < length rows → t .period (at rows k) ∣ H
   unfolding hyperperiod
@@ -120,7 +122,9 @@ module _ (p : Party) (u : Labelled) (S : Sound (u .table)) where
   unfolding hyperperiod
   grows =
       lcm-divides (alone .rows) (alone .period) alone-positive h
-      (λ k l. rw (alone-period k (omega (arith, alone-rows, l))) (period-divides S (at rows k) (row-below k (omega (arith, alone-rows, l)))))
+      (λ k l.
+      let m : k < length rows = omega (arith, alone-rows, l) in
+      rw (alone-period k m) (period-divides S (at rows k) (row-below k m)))
 
   -- how many of the party's own hyperperiods make one of all rows
   abbrev times : ℕ
@@ -173,6 +177,7 @@ module _ (p : Party) (u : Labelled) (S : Sound (u .table)) where
       mul-assoc 1000 (segmentLoad alone s) times ∙ ap (λ (x : ℕ). 1000 * x) (sym (load-grows s)) in
       same (ltb (limit * H) (1000 * segmentLoad alone s)) (ltb (limit * h) (1000 * among s))
       (λ u. lt→ltb (limit * h) (1000 * among s)
-      (rw (sym left, sym right) (mul-lt-mul-of-pos-right (ltb→lt (limit * H) (1000 * segmentLoad alone s) u) (times-positive times times-whole))))
+      (rw (sym left, sym right)
+      (mul-lt-mul-of-pos-right (ltb→lt (limit * H) (1000 * segmentLoad alone s) u) (times-positive times times-whole))))
       (λ u. lt→ltb (limit * H) (1000 * segmentLoad alone s)
       (lt-of-mul-lt-mul-right times (rw (left, right) (ltb→lt (limit * h) (1000 * among s) u))))

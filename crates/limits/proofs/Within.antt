@@ -18,7 +18,8 @@ use Rattle.rules.specs.Bus.{Table, Labelled, uses}
 use Rattle.rules.specs.Loads as loads
 use Rattle.rules.specs.Parties.{ours, theirs, owns, own, overLimit}
 use Rattle.rules.specs.Refusals.{Check, Answers, over-limit, segment-checks, limit-checks}
-use Rattle.rules.proofs.Answers.{None, Numbered, stopped, joined, answered, none-join, numbered-join, single-none, single-numbered, single-stopped}
+use Rattle.rules.proofs.Answers.{None, Numbered, stopped, joined, answered, none-join, numbered-join}
+use Rattle.rules.proofs.Answers.{single-none, single-numbered, single-stopped}
 use Rattle.ring.specs.Route.{segments}
 use Rattle.lags.proofs.Intervals.{rate-le}
 use Rattle.limits.specs.Limits.{party, Small, weightOn, Limited}
@@ -29,8 +30,8 @@ module _ {t : Table} {M n h : ℕ} {rate words : List ℕ} (L : Limited t M n h 
   limited-small = record {
     few = omega (arith, L .rows-is, L .sound .rows-high);
     small = λ i l.
-    let m : i < t .rows = omega (arith, L .rows-is) in
-    omega (arith, L .rate-is .row i m, rate-le (L .sound) i m, L .short);
+        let m : i < t .rows = omega (arith, L .rows-is) in
+        omega (arith, L .rate-is .row i m, rate-le (L .sound) i m, L .short);
   }
 
   uses-is : (i s : ℕ) → i < t .rows → s < t .elements → bit (at words i) s ≡ uses t i (suc s)

@@ -112,11 +112,29 @@ pub fn kept_within<'a>(
     ensures { λ r. ⌜ ((t : bus.Table) → Limited t elements rows hyper (now (rate .entry)) (now (segments .entry))
         → Answers (limit-checks (labelled t (now (label .entry))) (limits .ours) (limits .theirs)) (r .number) (r .place)) ⌝ }
 {
-    let our = lowest_over(elements, rows, hyper, rate, segments, label, false, limits.ours);
+    let our = lowest_over(
+        elements,
+        rows,
+        hyper,
+        rate,
+        segments,
+        label,
+        false,
+        limits.ours,
+    );
     if our < elements {
         return Answer::at(Answer::OUR_LIMIT, our + 1);
     }
-    let their = lowest_over(elements, rows, hyper, rate, segments, label, true, limits.theirs);
+    let their = lowest_over(
+        elements,
+        rows,
+        hyper,
+        rate,
+        segments,
+        label,
+        true,
+        limits.theirs,
+    );
     if their < elements {
         return Answer::at(Answer::THEIR_LIMIT, their + 1);
     }

@@ -24,7 +24,8 @@ use Rattle.verdict.proofs.Bound.{table-none, table-admissible, given-st
 
 -- ---- the analysis of each outcome
 
-pub analysed-refused : {cs : List Check} {t : Table} (r : Answer) → r .number ≢ 0 → Answers cs (r .number) (r .place) → Analysed cs t (blank r)
+pub analysed-refused : {cs : List Check} {t : Table} (r : Answer) → r .number ≢ 0 → Answers cs (r .number) (r .place)
+    → Analysed cs t (blank r)
 analysed-refused r h a = record { answers = a; found = λ e. absurd (h e); refused = λ e. refl }
 
 -- past checks of which none applies
@@ -37,7 +38,8 @@ analysed-after cs ds none {t} {a} A = record {
 
 module _ (t : Table) where
   -- 10 or 11
-  pub analysed-first : (o : Outline) → Outlined (line-checks t) t o → o .answer .number ≢ 0 → Analysed (table-checks t) t (blank (o .answer))
+  pub analysed-first : (o : Outline) → Outlined (line-checks t) t o → o .answer .number ≢ 0
+      → Analysed (table-checks t) t (blank (o .answer))
   analysed-first o O h =
       analysed-refused (o .answer) h
       (stopped (line-checks t) (bound-checks t) (o .answer .number) (o .answer .place) h (O .answers))

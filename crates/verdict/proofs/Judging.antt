@@ -1,6 +1,6 @@
 -- The verdict of each outcome, that only one fits a file, and demand 2.
 use mathlib.Core.Path.{_≡_, refl, sym, ap, _∙_}
-use mathlib.Core.Logic.{_≢_}
+use mathlib.Core.Logic.{_↔_, _≢_}
 use mathlib.Core.List.{List}
 use Prim.Native.Nat.{ℕ, _≤_}
 use native.Mathlib.Decide.{ℕ-discrete}
@@ -17,6 +17,7 @@ use Rattle.rules.proofs.Sets.{sets-only}
 use Rattle.ring.proofs.Cut.{cut-low}
 use Rattle.table.specs.declared.Answer.{Answer}
 use Rattle.outline.specs.declared.Layout.{Layout}
+use Rattle.outline.specs.declared.Outline.{Outline}
 use Rattle.outline.specs.Layout.{LaidOut}
 use Rattle.outline.proofs.Outlined.{answer-only, line-numbered, found-count}
 use Rattle.verdict.specs.declared.Loaded.{Loaded}
@@ -26,7 +27,7 @@ use Rattle.verdict.specs.Weighing.{Weighs}
 use Rattle.verdict.specs.declared.Analysis.{Analysis}
 use Rattle.verdict.specs.Analysed.{table-checks, Accepted, Analysed}
 use Rattle.verdict.specs.Verdict.{numberOf, placeOf, JudgedBy, IsVerdict, VerdictOn}
-use Rattle.verdict.specs.Demand.{Demand-2}
+use Rattle.verdict.specs.Demand.{Unrefused, Demand-2}
 use Rattle.verdict.proofs.Bound.{verdict-numbered, sets-exist, table-none, table-admissible, given-passes, admissible-of}
 use Rattle.verdict.proofs.Weighing.{reported-small}
 
@@ -88,7 +89,10 @@ module _ {t : Table} {l : Layout} (A : LaidOut t l) where
 
 -- what an analysis that admits a table says of it
 module _ {t : Table} {a : Analysis} (F : Accepted t a) where
-  pub accepted-values : calls.Admitted t (a .outline .cut) (a .outline .time .interval) (a .outline .time .hyper) (a .load) (a .outline .sets)
+  abbrev found : Outline
+  found = a .outline
+
+  pub accepted-values : calls.Admitted t (found .cut) (found .time .interval) (found .time .hyper) (a .load) (found .sets)
   accepted-values =
       let o = F .outline in
       record {
@@ -155,8 +159,11 @@ module _ (f : List ℕ) where
 
 -- ---- demand 2
 
-pub demand-2 : (f : List ℕ) (r : Verdict) → IsVerdict f r → Demand-2 f r
-demand-2 f r X = (
-  λ z. none-position (verdict-checks f) (none-of (verdict-checks f) _ (verdict-numbered f) (rw z at (X .answers))),
-  λ u. answers-only (verdict-checks f) _ 0 _ 0 (X .answers) (answered (verdict-checks f) (position-none (verdict-checks f) u)) .0,
+pub admits-by : {cs : List Check} {t : Table} → Numbered cs → (r : Verdict) → JudgedBy cs t r → (numberOf r ≡ 0) ↔ Unrefused cs
+admits-by {cs} N r X = (
+  λ z. none-position cs (none-of cs _ N (rw z at (X .answers))),
+  λ u. answers-only cs _ 0 _ 0 (X .answers) (answered cs (position-none cs u)) .0,
 )
+
+pub demand-2 : (f : List ℕ) (r : Verdict) → IsVerdict f r → Demand-2 f r
+demand-2 f = admits-by (verdict-numbered f)

@@ -64,8 +64,8 @@ returns-2 c =
     let e = g .before in
     let a = asked e .args in
     rw (c .refused2 .ensures)
-    (limits-given (a .file .now) (a .limits .ours) (a .limits .theirs) (e .before .are-wrong .ensures) (e .if1 .left) (g .given .result .answer)
-    (c .before .if2 .taken) (g .given .ensures .answers))
+    (limits-given (a .file .now) (a .limits .ours) (a .limits .theirs) (e .before .are-wrong .ensures) (e .if1 .left)
+    (g .given .result .answer) (c .before .if2 .taken) (g .given .ensures .answers))
 
 analysis-within-requires : tie.Need-analysis-within-requires
 analysis-within-requires c κs =

@@ -80,7 +80,8 @@ returns c =
     let S = u .before .pre .0 in
     let all : u .loop .i ≡ a .rows = omega arith in
     let sum = rw all at (u .loop .inv .1) in
-    (sum, omega (arith, sum, S .few, weight-small (a .rate .now) (a .segments .now) (a .label .now) (a .theirs) (a .s) (a .rows) (a .rows) S (omega arith)))
+    let small = weight-small (a .rate .now) (a .segments .now) (a .label .now) (a .theirs) (a .s) (a .rows) (a .rows) S (omega arith) in
+    (sum, omega (arith, sum, S .few, small))
 
 pub load-on-spec : {M : Type 1} → statement M
 load-on-spec =

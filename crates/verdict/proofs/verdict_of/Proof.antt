@@ -39,7 +39,9 @@ cast-t8 c =
     omega (arith, F .few, F .timed .sound .rows-high)
 
 returns-2 : tie.Need-returns-2
-returns-2 c = record { done = λ z t F. (refl, refl, accepted-values F); refused = λ h. absurd (h (c .before .before .before .before .before .if1 .left)) }
+returns-2 c =
+    let e = c .before .before .before .before .before in
+    record { done = λ z t F. (refl, refl, accepted-values F); refused = λ h. absurd (h (e .if1 .left)) }
 
 pub verdict-of-spec : {M : Type 1} → statement M
 verdict-of-spec = tie.close (tie.spec returns cast-t4 cast-t5 cast-t6 cast-t7 cast-t8 returns-2)
