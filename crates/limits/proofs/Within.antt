@@ -1,16 +1,17 @@
 -- 21 and 22 of a table whose h and rates are found: what is answered of a party, from the lowest segment that the code finds.
 use mathlib.Core.Path.{_≡_, refl, sym, ap, ap₂, _∙_}
-use mathlib.Core.Logic.{_≢_}
+use mathlib.Core.Logic.{_≢_, ⊎-elim}
 use mathlib.Core.Bool.{Bool, true, false, _&&_}
 use mathlib.Core.List.{List, _++_}
 use Prim.Native.Nat.{ℕ, suc, _+_, _*_, _≤_, _<_}
+use native.Mathlib.Decide.{ℕ-discrete}
 use native.Mathlib.Numerals.{add-one}
 use native.Mathlib.Omega.{arith}
 use lib.Dec.{T, ltb, lt→ltb}
 use Rattle.numbers.specs.Finite.{lowest, sumIn}
 use Rattle.numbers.specs.Lists.{at}
 use Rattle.numbers.specs.Word.{bit}
-use Rattle.numbers.proofs.Truth.{along, is-true}
+use Rattle.numbers.proofs.Truth.{along, is-true, le-or-lt}
 use Rattle.numbers.proofs.Finite.{sumIn-eq, lowest-has, lowest-below}
 use Rattle.numbers.proofs.Word.{bit-word}
 use Rattle.rules.specs.Bounds.{max-slots}
@@ -18,11 +19,12 @@ use Rattle.rules.specs.Bus.{Table, Labelled, uses}
 use Rattle.rules.specs.Loads as loads
 use Rattle.rules.specs.Parties.{ours, theirs, owns, own, overLimit}
 use Rattle.rules.specs.Refusals.{Check, Answers, over-limit, segment-checks, limit-checks}
-use Rattle.rules.proofs.Answers.{None, Numbered, stopped, joined, answered, none-join, numbered-join}
+use Rattle.rules.proofs.Answers.{None, Numbered, stopped, joined, answered, none-of, numbered-join}
 use Rattle.rules.proofs.Answers.{single-none, single-numbered, single-stopped}
+use Rattle.table.specs.declared.Answer.{Answer}
 use Rattle.ring.specs.Route.{segments}
 use Rattle.lags.proofs.Intervals.{rate-le}
-use Rattle.limits.specs.Limits.{party, Small, weightOn, Limited}
+use Rattle.limits.specs.Limits.{party, Small, weightOn, Limited, OverAt, FirstOf}
 use Rattle.limits.proofs.Own.{over-among}
 
 module _ {t : Table} {M n h : ℕ} {rate words : List ℕ} (L : Limited t M n h rate words) where
@@ -67,7 +69,7 @@ module _ {t : Table} {M n h : ℕ} {rate words : List ℕ} (L : Limited t M n h 
     alone-elements = refl
 
     module _ (number r : ℕ) (e : r ≡ lowest M test) where
-      pub limit-refused : number ≢ 0 → r < M → Answers (segment-checks number alone limit) number (r + 1)
+      limit-refused : number ≢ 0 → r < M → Answers (segment-checks number alone limit) number (r + 1)
       unfolding segment-checks
       limit-refused z l =
           rw add-one
@@ -76,7 +78,7 @@ module _ {t : Table} {M n h : ℕ} {rate words : List ℕ} (L : Limited t M n h 
           (λ j k u. lowest-below M test j (omega (arith, e)) (along (over-is j (omega (arith, L .elements-is))) u))
           (along (sym (over-is r (omega (arith, L .elements-is)))) (rw e (lowest-has M test (omega (arith, e))))))
 
-      pub limit-none : M ≤ r → None (segment-checks number alone limit)
+      limit-none : M ≤ r → None (segment-checks number alone limit)
       unfolding segment-checks
       limit-none l =
           single-none (λ s. over-limit number alone limit (suc s)) (alone .elements)
@@ -84,35 +86,40 @@ module _ {t : Table} {M n h : ℕ} {rate words : List ℕ} (L : Limited t M n h 
           let m : s < t .elements = omega (arith, alone-elements, k) in
           lowest-below M test s (omega (arith, e, L .elements-is)) (along (over-is s m) u))
 
-  -- 21 for all segments, then 22
-  module _ (label : List ℕ) (our their : ℕ) where
-    abbrev of-ours : List Check
-    of-ours = segment-checks 21 (alone label false our) our
+      -- what is answered of a party
+      pub limit-answers : number ≢ 0 → (a : Answer) → OverAt number M r a → Answers (segment-checks number alone limit) (a .number) (a .place)
+      limit-answers z a O =
+          ⊎-elim
+          (λ l. rw (O .within l .0, O .within l .1) (answered (segment-checks number alone limit) (limit-none l)))
+          (λ l. rw (O .over l .0, O .over l .1) (limit-refused z l))
+          (le-or-lt M r)
 
-    abbrev of-theirs : List Check
-    of-theirs = segment-checks 22 (alone label true their) their
+pub segment-numbered : (number : ℕ) (t : Table) (limit : ℕ) → number ≢ 0 → Numbered (segment-checks number t limit)
+unfolding segment-checks
+segment-numbered number t limit z = single-numbered (λ s. over-limit number t limit (suc s)) (t .elements) (λ s. z)
 
-    module _ (r : ℕ) (e : r ≡ lowest M (test label false our)) where
-      pub ours-over : r < M → Answers (limit-checks (record { table = t; label = at label }) our their) 21 (r + 1)
-      unfolding limit-checks
-      ours-over l = stopped of-ours of-theirs 21 (r + 1) (omega arith) (limit-refused label false our 21 r e (omega arith) l)
+-- 21 for all segments, then 22
+module _ (t : Labelled) (our their : ℕ) where
+  abbrev of-ours : List Check
+  of-ours = segment-checks 21 (own ours t) our
 
-      module _ (l : M ≤ r) (s : ℕ) (f : s ≡ lowest M (test label true their)) where
-        ours-none : None of-ours
-        ours-none = limit-none label false our 21 r e l
+  abbrev of-theirs : List Check
+  of-theirs = segment-checks 22 (own theirs t) their
 
-        pub theirs-over : s < M → Answers (limit-checks (record { table = t; label = at label }) our their) 22 (s + 1)
-        unfolding limit-checks
-        theirs-over k =
-            joined of-ours of-theirs 22 (s + 1) ours-none (limit-refused label true their 22 s f (omega arith) k)
+  pub both-answer : {a b r : Answer} → Answers of-ours (a .number) (a .place) → Answers of-theirs (b .number) (b .place) → FirstOf a b r
+      → Answers (limit-checks t our their) (r .number) (r .place)
+  unfolding limit-checks
+  both-answer {a} {b} {r} A B F = go (ℕ-discrete (a .number) 0)
+    where
+      go : Dec (a .number ≡ 0) → Answers (of-ours ++ of-theirs) (r .number) (r .place)
+      go (yes z) =
+          rw (F .passed z)
+          (joined of-ours of-theirs (b .number) (b .place)
+          (none-of of-ours (a .place) (segment-numbered 21 (own ours t) our (omega arith)) (rw z at A)) B)
+      go (no h) = rw (F .refused h) (stopped of-ours of-theirs (a .number) (a .place) h A)
 
-        pub both-within : M ≤ s → Answers (limit-checks (record { table = t; label = at label }) our their) 0 0
-        unfolding limit-checks
-        both-within k = answered (of-ours ++ of-theirs) (none-join of-ours of-theirs ours-none (limit-none label true their 22 s f k))
-
-pub limit-numbered : (t : Labelled) (our their : ℕ) → Numbered (limit-checks t our their)
-unfolding limit-checks segment-checks
-limit-numbered t our their =
-    numbered-join (segment-checks 21 (own ours t) our) (segment-checks 22 (own theirs t) their)
-    (single-numbered (λ s. over-limit 21 (own ours t) our (suc s)) (own ours t .elements) (λ s. omega arith))
-    (single-numbered (λ s. over-limit 22 (own theirs t) their (suc s)) (own theirs t .elements) (λ s. omega arith))
+  pub limit-numbered : Numbered (limit-checks t our their)
+  unfolding limit-checks
+  limit-numbered =
+      numbered-join of-ours of-theirs (segment-numbered 21 (own ours t) our (omega arith))
+      (segment-numbered 22 (own theirs t) their (omega arith))

@@ -15,7 +15,7 @@ ghost use Rattle.rules.specs.Bounds.{max-elements, max-rows, max-slots};
 ghost use Rattle.rules.specs.Bus as bus;
 ghost use Rattle.rules.specs.Parties.{max-limit, owns};
 ghost use Rattle.rules.specs.Refusals.{Answers, limit-checks};
-ghost use Rattle.limits.specs.Limits.{party, Small, weightOn, labelled, Limited};
+ghost use Rattle.limits.specs.Limits.{party, Small, weightOn, labelled, Limited, OverAt, FirstOf};
 
 // Each party's limit in thousandths.
 pub struct Limits {
@@ -97,6 +97,27 @@ fn lowest_over<'a>(
     s
 }
 
+// What is answered of a party that is over its limit on segment `s`, counted from 0, or on none where `s` is no segment.
+fn over_at(number: u32, elements: usize, s: usize) -> Answer
+    requires { ⌜ elements ≤ max-elements ⌝ }
+    ensures { λ r. ⌜ OverAt number elements s r ⌝ }
+{
+    if s < elements {
+        return Answer::at(number, s + 1);
+    }
+    Answer::done()
+}
+
+// The first of two answers, where it refuses, or the second.
+fn first_of(first: Answer, second: Answer) -> Answer
+    ensures { λ r. ⌜ FirstOf first second r ⌝ }
+{
+    if first.number != Answer::DONE {
+        return first;
+    }
+    second
+}
+
 // The first refusal of 21 and 22 of a table whose h and rates are found.
 pub fn kept_within<'a>(
     elements: usize,
@@ -122,9 +143,6 @@ pub fn kept_within<'a>(
         false,
         limits.ours,
     );
-    if our < elements {
-        return Answer::at(Answer::OUR_LIMIT, our + 1);
-    }
     let their = lowest_over(
         elements,
         rows,
@@ -135,8 +153,7 @@ pub fn kept_within<'a>(
         true,
         limits.theirs,
     );
-    if their < elements {
-        return Answer::at(Answer::THEIR_LIMIT, their + 1);
-    }
-    Answer::done()
+    let of_ours = over_at(Answer::OUR_LIMIT, elements, our);
+    let of_theirs = over_at(Answer::THEIR_LIMIT, elements, their);
+    first_of(of_ours, of_theirs)
 }
