@@ -87,7 +87,8 @@ module _ {t : Table} {M n h : ℕ} {rate words : List ℕ} (L : Limited t M n h 
           lowest-below M test s (omega (arith, e, L .elements-is)) (along (over-is s m) u))
 
       -- what is answered of a party
-      pub limit-answers : number ≢ 0 → (a : Answer) → OverAt number M r a → Answers (segment-checks number alone limit) (a .number) (a .place)
+      pub limit-answers : number ≢ 0 → (a : Answer) → OverAt number M r a
+          → Answers (segment-checks number alone limit) (a .number) (a .place)
       limit-answers z a O =
           ⊎-elim
           (λ l. rw (O .within l .0, O .within l .1) (answered (segment-checks number alone limit) (limit-none l)))

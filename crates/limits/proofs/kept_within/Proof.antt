@@ -42,9 +42,10 @@ returns c t L =
     let their = first .before in
     let our = their .before in
     let a = our .before .args in
-    both-answer (labelled t (a .label .now)) (a .limits .ours) (a .limits .theirs)
-    (limit-answers L (a .label .now) false (a .limits .ours) 21 _ (our .lowest-over .ensures) (omega arith) _ (first .over-at .ensures))
-    (limit-answers L (a .label .now) true (a .limits .theirs) 22 _ (their .lowest-over2 .ensures) (omega arith) _ (second .over-at2 .ensures))
+    let label = a .label .now in
+    both-answer (labelled t label) (a .limits .ours) (a .limits .theirs)
+    (limit-answers L label false (a .limits .ours) 21 _ (our .lowest-over .ensures) (omega arith) _ (first .over-at .ensures))
+    (limit-answers L label true (a .limits .theirs) 22 _ (their .lowest-over2 .ensures) (omega arith) _ (second .over-at2 .ensures))
     (c .first-of .ensures)
 
 pub kept-within-spec : {M : Type 1} → statement M
