@@ -1,6 +1,6 @@
 // The program of the verdict with limits (document 02, #108): reads a table from standard input and prints the verdict line. Its two
 // arguments are the limits in thousandths, ours and then the second maker's. An argument that is no number counts as 0, and one of more
-// than 32 bits as the largest of 32: it is refused as it is.
+// than 32 bits as the largest of 32 bits, which is refused alike.
 use limits::Limits;
 
 // The longest number has twenty digits.
