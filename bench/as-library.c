@@ -25,3 +25,11 @@ uint32_t ring_plan(const uint8_t *file, size_t file_bytes, uint64_t *plan, size_
 uint32_t ring_plain_plan(const uint8_t *file, size_t file_bytes, uint64_t *plan, size_t plan_words) {
     return plain_plan(file, file_bytes, plan, plan_words);
 }
+
+uint32_t ring_verdict_limited(const uint8_t *file, size_t file_bytes, uint32_t ours, uint32_t theirs) {
+    return plain_verdict_limited(file, file_bytes, ours, theirs);
+}
+
+uint32_t ring_plan_limited(const uint8_t *file, size_t file_bytes, uint32_t ours, uint32_t theirs, uint64_t *plan, size_t plan_words) {
+    return plain_plan_limited(file, file_bytes, ours, theirs, plan, plan_words);
+}

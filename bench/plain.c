@@ -8,7 +8,7 @@ struct analysis {
     int rows, elements, cut, sets;
     int64_t hyper, interval, largest;
     int periods, distinct[ROWS]; /* the different periods */
-    int cost[ROWS], period[ROWS], from[ROWS], to[ROWS];
+    int cost[ROWS], period[ROWS], from[ROWS], to[ROWS], label[ROWS];
     int first[ROWS], second[ROWS]; /* on the line */
     uint64_t word[ROWS];
     int low[ROWS], high[ROWS]; /* the sets that a row belongs to */
@@ -102,6 +102,7 @@ static uint32_t analyse(const uint8_t *f, size_t length, struct analysis *a) {
         a->period[i] = r[2] + 256 * r[3];
         a->from[i] = r[4];
         a->to[i] = r[5];
+        a->label[i] = size == 8 ? r[6] + 256 * r[7] : 0;
         if (a->from[i] < 1 || a->from[i] > a->elements || a->to[i] < 1 || a->to[i] > a->elements || a->from[i] == a->to[i])
             return refuse(7, (unsigned)i);
         if (a->period[i] < 1 || a->period[i] > SLOTS) return refuse(8, (unsigned)i);
@@ -293,4 +294,35 @@ uint32_t plain_plan(const uint8_t *file, size_t length, uint64_t *plan, size_t w
         for (int i = 0; i < a.rows; i++) had[i] += load[i];
     }
     return 0;
+}
+
+/* ---- two parties: rows with a label below 32,768 are ours, the others the second maker's */
+
+/* The lowest segment of which a party's rows ask for more than its limit, or 0; sums are over the h of all rows. */
+static unsigned over_limit(const struct analysis *a, int theirs, uint32_t limit) {
+    int64_t asked[LINE] = {0};
+    for (int i = 0; i < a->rows; i++) {
+        if ((a->label[i] >= 32768) != theirs) continue;
+        for (int s = a->from[i]; s != a->to[i]; s = s % a->elements + 1) asked[s] += a->hyper / a->period[i] * a->cost[i];
+    }
+    for (int s = 1; s <= a->elements; s++)
+        if (1000 * asked[s] > limit * a->hyper) return (unsigned)s;
+    return 0;
+}
+
+uint32_t plain_verdict_limited(const uint8_t *file, size_t length, uint32_t ours, uint32_t theirs) {
+    struct analysis a;
+    if (ours > 1000 || theirs > 1000) return refuse(23, 0);
+    uint32_t answer = analyse(file, length, &a);
+    /* 13 and 14 come after 21 and 22 */
+    if (answer && answer / 256 != 13 && answer / 256 != 14) return answer;
+    unsigned our = over_limit(&a, 0, ours), their = over_limit(&a, 1, theirs);
+    if (our) return refuse(21, our);
+    if (their) return refuse(22, their);
+    return answer;
+}
+
+uint32_t plain_plan_limited(const uint8_t *file, size_t length, uint32_t ours, uint32_t theirs, uint64_t *plan, size_t words) {
+    uint32_t answer = plain_verdict_limited(file, length, ours, theirs);
+    return answer ? answer : plain_plan(file, length, plan, words);
 }

@@ -1,13 +1,14 @@
 /* Collarspoke's functions for C.
  *
- * All take the bytes of a table file, of version 1 or of version 2 with a label on each row, and check everything themselves: any bytes of any length may be handed in, also none. A pointer may be
- * NULL where its length is 0. The file and the memory lent for an answer must not overlap. The functions need no heap, no initialisation and
- * no C library but memcpy, memset and memmove, keep nothing between calls, and may be called from several threads at once as long as no two
- * calls share lent memory. None calls itself; each takes at most RING_STACK_BYTES bytes of stack.
+ * All take the bytes of a table file, of version 1 or of version 2 with a label on each row, and check everything themselves: any bytes of
+ * any length may be handed in, also none. A pointer may be NULL where its length is 0. The file and the memory lent for an answer must not
+ * overlap. The functions need no heap, no initialisation and no C library but memcpy, memset and memmove, keep nothing between calls, and
+ * may be called from several threads at once as long as no two calls share lent memory. None calls itself; each takes at most
+ * RING_STACK_BYTES bytes of stack.
  *
  * All answer 256 × number + place. Number 0 says admitted, or done. Any other is a refusal, numbered below; its place is the row or the
- * set concerned, counted from 0, or 0 where the refusal has no place of its own. A refusal leaves lent memory as it was, and memory past
- * the part that an answer fills is left alone too. */
+ * set concerned, counted from 0, or the segment, numbered from 1, or 0 where the refusal has no place of its own. A refusal leaves lent
+ * memory as it was, and memory past the part that an answer fills is left alone too. */
 #ifndef RINGPLAN_H
 #define RINGPLAN_H
 
@@ -16,7 +17,7 @@
 
 /* The version of these functions. The second number grows where something is added, the first where something changes. */
 #define RINGPLAN_VERSION_MAJOR 5
-#define RINGPLAN_VERSION_MINOR 0
+#define RINGPLAN_VERSION_MINOR 1
 
 #ifdef __cplusplus
 extern "C" {
@@ -43,6 +44,9 @@ enum {
     RING_SHORT_OUTPUT = 17,     /* the memory lent for the answer is too short */
     RING_PASTED_ROW = 18,       /* a row has the ends and the period of an earlier one; place: the later row */
     RING_LOST_LABEL = 20,       /* not given by these functions: a label that is to be written in version 1; place: the row */
+    RING_OUR_LIMIT = 21,        /* our rows (labels below 32,768) are over our limit on a segment; place: the segment */
+    RING_THEIR_LIMIT = 22,      /* the second maker's rows (labels from 32,768 on) are over their limit on a segment; place: the segment */
+    RING_WRONG_LIMIT = 23,      /* a limit is above 1,000 thousandths */
     RING_NO_ROW = 32            /* a row that is asked for is past the last; place: 0 for the first of the two, 1 for the second */
 };
 
@@ -88,6 +92,19 @@ uint32_t ring_plan(const uint8_t *file, size_t file_bytes, uint64_t *plan, size_
 /* The same plan by a second planner that keeps no account of a slot: it asks of each row that is in the slot already whether the two
  * overlap. It answers as ring_plan does, word for word and refusal for refusal, and takes longer. Gives 0 to 14, 17 and 18. */
 uint32_t ring_plain_plan(const uint8_t *file, size_t file_bytes, uint64_t *plan, size_t plan_words);
+
+/* Verdict and whole plan with a limit for each of two parties, in thousandths of any one segment, 0 to 1,000. Rows with a label below
+ * 32,768 are ours, also all of version 1, where labels are 0; the others are the second maker's. A party is over its limit on a segment
+ * if the exact sum of cost / period over its own rows that use it is more than limit / 1000; a party without rows never is. Whether it is
+ * depends on no row of the other party, but an earlier refusal may come first: 23, 1 to 9, 18, 10, 11, then 21 over all segments, 22 over
+ * all segments, and 13 and 14. A limit of 1,000 is still a limit: a party that asks for more than all of a segment gets 21 or 22, where
+ * ring_verdict gives 13 or 14.
+ *
+ * Whether the bus can carry the table within the limits. Gives 0 to 14, 18 and 21 to 23. */
+uint32_t ring_verdict_limited(const uint8_t *file, size_t file_bytes, uint32_t ours, uint32_t theirs);
+
+/* The whole plan of a table that is admitted within the limits: the very words of ring_plan. Gives 0 to 14, 17, 18 and 21 to 23. */
+uint32_t ring_plan_limited(const uint8_t *file, size_t file_bytes, uint32_t ours, uint32_t theirs, uint64_t *plan, size_t plan_words);
 
 #ifdef __cplusplus
 }

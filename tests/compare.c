@@ -1,5 +1,5 @@
 /* Compares the library over the C boundary with the oracle, and its words with those of the two plain C planners, on random tables: good,
- * at the bound, just past it and damaged.
+ * at the bound, just past it and damaged; with limits of the two parties, and with other rows of one party.
  *
  *     compare TABLES SEED          all kinds of tables
  *     compare TABLES SEED routes   tables of many rows with long routes, well loaded: there the choice of loads is hardest
@@ -16,7 +16,7 @@
 #include <sys/mman.h>
 #include <unistd.h>
 
-enum { FILE_ROOM = 600, GUARD = 64, FEW_ROWS = 12 };
+enum { FILE_ROOM = 600, GUARD = 64, FEW_ROWS = 12, LAST_OF_OURS = 32767 };
 
 static uint64_t state;
 
@@ -220,12 +220,12 @@ static void to_the_bound(struct table *t, int past) {
     }
 }
 
-/* Version 2 for every second table, with labels 0, 1, 65535 and any. */
+/* Version 2 for every second table, with labels of both parties: the first and the last of each, and any. */
 static void give_labels(struct table *t) {
     t->version = between(1, 2);
     for (unsigned i = 0; i < t->rows; i++) {
-        const unsigned some[] = {0, 1, 65535, below(65536)};
-        t->row[i].label = some[below(4)];
+        const unsigned some[] = {0, 1, LAST_OF_OURS, LAST_OF_OURS + 1, 65535, below(65536)};
+        t->row[i].label = some[below(sizeof some / sizeof *some)];
     }
 }
 
@@ -250,7 +250,7 @@ static void damage(struct file *f) {
 
 enum { LAST_NUMBER = 32 };
 static unsigned seen[LAST_NUMBER + 1];
-static unsigned long admitted, labelled, slots, exact, uneven, newly;
+static unsigned long admitted, labelled, slots, exact, uneven, newly, within, alone[2][2];
 
 static void fail(const struct file *f, const char *what) {
     printf("compare: %s; the table's bytes:\n", what);
@@ -335,6 +335,95 @@ static void compare_shared(const struct file *given, const uint8_t *file, const 
     }
 }
 
+/* ---- two parties */
+
+/* A limit: a number of its own, any, or close to what the party asks for of some segment. */
+static uint32_t any_limit(const struct verdict *v, int theirs) {
+    static const uint32_t some[] = {0, 333, 334, 500, 1000, 1001, UINT32_MAX};
+    int held = v->number == 0 || v->number == 13 || v->number == 14;
+    if (below(6) == 0) return some[below(sizeof some / sizeof *some)];
+    if (!held || below(6) == 0) return below(1001);
+    struct fraction most = {0, 1};
+    for (unsigned s = 1; s <= v->table.elements; s++) {
+        struct fraction asked = oracle_asked(&v->table, theirs, s);
+        if (asked.over >= most.over && (s == 1 || below(8))) most = asked;
+    }
+    uint64_t near = 1000 * most.over / most.under + below(3);
+    return near > 1000 ? 1000 : near ? (uint32_t)near - 1 : 0;
+}
+
+/* Verdict and plan with limits; `words` are those of the plan without, where there is one. */
+static void compare_limits(const struct file *given, const uint8_t *file, const struct verdict *v, const uint64_t *words) {
+    unsigned planned = 0;
+    for (unsigned n = 0; n < 6; n++) {
+        uint32_t ours = any_limit(v, 0), theirs = any_limit(v, 1);
+        struct answer a = oracle_limited(v, ours, theirs);
+        uint32_t answer = ring_verdict_limited(file, given->length, ours, theirs);
+        if (answer != 256 * a.number + a.place) {
+            printf("limits %u, %u: library %u, %u; oracle %u, %u\n", ours, theirs, answer / 256, answer % 256, a.number, a.place);
+            fail(given, "verdicts with limits differ");
+        }
+        seen[a.number] += 21 <= a.number && a.number <= 23;
+        if (!a.number && planned++) continue;
+        unsigned room = a.number ? below(MAX_SLOTS + 1) : below(4) ? between(v->hyper, MAX_SLOTS) : below(v->hyper);
+        uint64_t *plan = lend(room);
+        if (!a.number && room < v->hyper) answer = 256 * RING_SHORT_OUTPUT;
+        if (ring_plan_limited(file, given->length, ours, theirs, plan, room) != answer)
+            fail(given, "a plan with limits is answered wrongly");
+        if (!unchanged_from(answer ? 0 : v->hyper, plan, room)) fail(given, "a plan with limits changed memory that is not its own");
+        if (answer) continue;
+        if (memcmp(plan, words, v->hyper * sizeof *plan)) fail(given, "a plan with limits has other words");
+        within++;
+    }
+}
+
+/* Keeps one party's rows and puts sound rows of the other before, between and after them. A route of one segment goes through no element,
+ * so that most of these tables have a cut. */
+static void other_rows(const struct table *t, int theirs, struct table *changed) {
+    *changed = *t;
+    changed->version = 2;
+    changed->rows = 0;
+    for (unsigned i = 0; i <= t->rows; i++) {
+        for (unsigned more = below(3); more && changed->rows + t->rows - i < MAX_ROWS; more--) {
+            struct row *r = &changed->row[changed->rows++];
+            r->first = between(1, t->elements);
+            r->second = r->first % t->elements + 1;
+            r->period = t->row[below(t->rows)].period * between(1, 3);
+            if (r->period > MAX_SLOTS || below(8) == 0) r->period = between(1, MAX_SLOTS);
+            r->cost = between(1, below(2) ? r->period : r->period / 64 + 1);
+            r->label = theirs ? between(0, LAST_OF_OURS) : between(LAST_OF_OURS + 1, 65535);
+        }
+        if (i < t->rows && (t->row[i].label > LAST_OF_OURS) == theirs) changed->row[changed->rows++] = t->row[i];
+    }
+}
+
+/* Whether a party is over its limit, and where, is the same with other rows of the other party, as far as no other refusal comes before. */
+static void compare_alone(const struct file *given, const struct verdict *v) {
+    int theirs = (int)below(2);
+    struct table changed;
+    struct file f;
+    other_rows(&v->table, theirs, &changed);
+    if (!changed.rows) return;
+    encode(&changed, &f);
+    uint32_t limit = any_limit(v, theirs), before[2];
+    for (unsigned k = 0; k < 2; k++) {
+        const struct file *of = k ? &f : given;
+        uint8_t *file = file_end - of->length;
+        memcpy(file, of->byte, of->length);
+        before[k] = ring_verdict_limited(file, of->length, theirs ? 1000 : limit, theirs ? limit : 1000);
+        unsigned number = RING_NUMBER(before[k]), own = theirs ? RING_THEIR_LIMIT : RING_OUR_LIMIT;
+        int later = number == 0 || number == RING_LIGHT_ROW || number == RING_OVER_BOUND || (!theirs && number == RING_THEIR_LIMIT);
+        if (number != own && !later) return;
+        if (later) before[k] = 0;
+    }
+    if (before[0] != before[1]) {
+        for (size_t i = 0; i < f.length; i++) printf("%02x%s", f.byte[i], (i + 1) % 32 ? " " : "\n");
+        printf("\nlimit %u of the %s party, with these rows of the other\n", limit, theirs ? "second" : "first");
+        fail(given, "what is said of a party depends on the other's rows");
+    }
+    alone[theirs][before[0] != 0]++;
+}
+
 static void compare(const struct file *given) {
     static struct verdict v;
     uint8_t *file = file_end - given->length;
@@ -375,6 +464,8 @@ static void compare(const struct file *given) {
     if (memcmp(file, given->byte, given->length)) fail(given, "the file's own bytes changed");
     if (v.number) {
         if (!unchanged_from(0, plan, room)) fail(given, "a refusal changed lent memory");
+        compare_limits(given, file, &v, NULL);
+        for (unsigned n = 0; n < 4 && (v.number == 13 || v.number == 14); n++) compare_alone(given, &v);
         return;
     }
     if (!unchanged_from(v.hyper, plan, room)) fail(given, "memory past the plan changed");
@@ -401,6 +492,13 @@ static void compare(const struct file *given) {
         }
         exact++;
     }
+    compare_limits(given, file, &v, plain);
+    for (unsigned n = 0; n < 4; n++) compare_alone(given, &v);
+}
+
+/* 12 is retired, 15 and 16 are the planner's, and 19, 20 and 24 to 31 are given by none of the functions. */
+static int given_by_some(unsigned n) {
+    return (n <= 18 && n != 12 && n != 15 && n != 16) || (21 <= n && n <= 23) || n == 32;
 }
 
 int main(int argc, char **argv) {
@@ -410,7 +508,10 @@ int main(int argc, char **argv) {
     int routes = argc > 3 && !strcmp(argv[3], "routes");
     state = 0x9e3779b97f4a7c15u ^ (argc > 2 ? strtoull(argv[2], NULL, 10) * 0x2545f4914f6cdd1du : 1);
     /* no bytes at all, and none to write to */
-    if (ring_verdict(NULL, 0) != 256 * RING_SHORT_FILE || ring_plan(NULL, 0, NULL, 0) != 256 * RING_SHORT_FILE) {
+    if (ring_verdict(NULL, 0) != 256 * RING_SHORT_FILE || ring_plan(NULL, 0, NULL, 0) != 256 * RING_SHORT_FILE
+        || ring_verdict_limited(NULL, 0, 0, 1000) != 256 * RING_SHORT_FILE
+        || ring_verdict_limited(NULL, 0, 0, 1001) != 256 * RING_WRONG_LIMIT
+        || ring_plan_limited(NULL, 0, 1000, 0, NULL, 0) != 256 * RING_SHORT_FILE) {
         printf("compare: a file of no bytes is answered wrongly\n");
         return 1;
     }
@@ -430,20 +531,21 @@ int main(int argc, char **argv) {
     }
     printf("%lu tables, %lu admitted, %lu of them with the oracle's exact words, %lu slots of plan\n", tables, admitted, exact, slots);
     printf("%lu of version 2\n", labelled);
+    printf("%lu planned with limits; with other rows of the other party, ours over %lu times and not %lu, theirs %lu and %lu\n", within,
+        alone[0][1], alone[0][0], alone[1][1], alone[1][0]);
     printf("%lu with intervals of different length, %lu that the greatest common divisor of all periods refuses\n", uneven, newly);
     printf("greedy was not enough in %lu of %lu intervals\n", words_settled, words_intervals);
     if (routes) return 0;
-    if (!labelled || !uneven || !newly) {
+    if (!labelled || !uneven || !newly || !within || !alone[0][0] || !alone[0][1] || !alone[1][0] || !alone[1][1]) {
         printf("compare: no such table was seen\n");
         return 1;
     }
     printf("refusals:");
     for (unsigned n = 1; n <= LAST_NUMBER; n++)
-        if (n <= 18 || n == 32) printf(" %u:%u", n, seen[n]);
+        if (given_by_some(n)) printf(" %u:%u", n, seen[n]);
     printf("\n");
-    /* 12 is retired, 15 and 16 are the planner's, and 19 to 31 are given by none of the functions */
     for (unsigned n = 1; n <= LAST_NUMBER; n++)
-        if (!seen[n] && n != 12 && n != 15 && n != 16 && (n <= 18 || n == 32)) {
+        if (!seen[n] && given_by_some(n)) {
             printf("compare: refusal %u was never seen\n", n);
             return 1;
         }

@@ -30,6 +30,18 @@ struct verdict {
 /* The verdict on a file, with all that it finds on the way. */
 void oracle_verdict(const uint8_t *file, size_t length, struct verdict *v);
 
+/* A verdict's number and place with limits, ours and the second maker's, in thousandths. */
+struct answer {
+    unsigned number, place;
+};
+struct answer oracle_limited(const struct verdict *v, uint32_t ours, uint32_t theirs);
+
+/* What one party's rows ask for of a segment, over the least common multiple of that party's own periods (1 where it has no rows). */
+struct fraction {
+    uint64_t over, under;
+};
+struct fraction oracle_asked(const struct table *t, int theirs, unsigned segment);
+
 /* The ring segments that rows i and j of a table share, bit s - 1 for segment s. */
 uint32_t oracle_shared(const struct table *t, unsigned i, unsigned j);
 

@@ -1,5 +1,5 @@
 # Why a table is refused, in its own numbers: what was found, what would pass. Reads the file's size, its first bytes and its rows as far as
-# they are there, and then the verdict line.
+# they are there, and then the verdict line. Limits of the two parties, where there are some, are in `ours` and `theirs`.
 $1 == "bytes" { bytes = $2 }
 $1 == "head" { head = $2 " " $3 " " $4; version = $5 + 256 * $6; said = $8 }
 
@@ -70,6 +70,22 @@ function on_light(    i, l, line) {
     return line
 }
 
+# What a party's rows ask for of segment s, as a fraction in lowest terms, beside its limit; its sum is over its own periods.
+function on_limit(whose, second_maker, limit, s,    i, under, over, list, d, part, asks) {
+    under = 1
+    for (i = 0; i < rows; i++)
+        if ((label[i] >= 32768) == second_maker) under = under / gcd(under, period[i]) * period[i]
+    for (i = 0; i < rows; i++) {
+        if ((label[i] >= 32768) != second_maker || (s - first[i] + elements) % elements >= steps(i)) continue
+        over += under / period[i] * cost[i]
+        list = list (list == "" ? "" : ", ") i
+    }
+    d = gcd(over, under)
+    part = over / d "/" under / d
+    asks = list ~ /,/ ? " rows " list " ask for " : " row " list " asks for "
+    return "on segment " s " " whose asks part "; " whose " limit is " limit "/1000"
+}
+
 function reason(n, i) {
     if (n == 1) return "the file has " plural(bytes, "byte")
     if (n == 2) return "its first bytes are " head "; a table's are 82 66 84"
@@ -84,6 +100,9 @@ function reason(n, i) {
     if (n == 11) return on_hyper()
     if (n == 13) return on_light()
     if (n == 18) return on_pasted(i)
+    if (n == 21) return on_limit("our", 0, ours, i)
+    if (n == 22) return on_limit("the second maker's", 1, theirs, i)
+    if (n == 23) return "our limit is " ours ", the second maker's is " theirs
 }
 
 END {

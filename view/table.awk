@@ -1,5 +1,5 @@
-# A table file in lines, from its bytes in decimal (od -An -v -tu1): how many bytes it has, the first seven, the elements, and the rows as far
-# as they are there, without their labels. A row has eight bytes in version 2, else six.
+# A table file in lines, from its bytes in decimal (od -An -v -tu1): how many bytes it has, the first seven, the elements, and the rows as
+# far as they are there. A row has eight bytes in version 2, else six, and then its label is 0.
 { for (k = 1; k <= NF; k++) byte[n++] = $k }
 END {
     print "bytes", n + 0
@@ -9,6 +9,7 @@ END {
     size = byte[3] == 2 && byte[4] == 0 ? 8 : 6
     for (i = 0; i < byte[6] && 7 + size * (i + 1) <= n; i++) {
         at = 7 + size * i
-        print "row", i, byte[at] + 256 * byte[at + 1], byte[at + 2] + 256 * byte[at + 3], byte[at + 4], byte[at + 5]
+        label = size == 8 ? byte[at + 6] + 256 * byte[at + 7] : 0
+        print "row", i, byte[at] + 256 * byte[at + 1], byte[at + 2] + 256 * byte[at + 3], byte[at + 4], byte[at + 5], label
     }
 }

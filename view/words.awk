@@ -1,5 +1,5 @@
 # Shared by the views. They read, on one stream, the lines of view/table.awk and those of the program:
-#   bytes, head, elements M, row I COST PERIOD FIRST SECOND ..
+#   bytes, head, elements M, row I COST PERIOD FIRST SECOND LABEL ..
 #   verdict, and of an admitted table cut, interval, hyper, load, set .., slot ..
 
 # The rows of a word, ascending, as numbers with spaces between. A word has 64 bits and stands in decimal: awk's own numbers would round it,
@@ -31,7 +31,7 @@ function rows_of(word,    part, n, k, digit, rest, bit, rows) {
 }
 
 $1 == "elements" { elements = $2 }
-$1 == "row" { rows = $2 + 1; cost[$2] = $3; period[$2] = $4; first[$2] = $5; second[$2] = $6 }
+$1 == "row" { rows = $2 + 1; cost[$2] = $3; period[$2] = $4; first[$2] = $5; second[$2] = $6; label[$2] = $7 }
 $1 == "verdict" { number = $2; place = $3 }
 $1 == "cut" { cut = $2 }
 $1 == "interval" { interval = $2 }

@@ -2,26 +2,29 @@
 use mathlib.Core.Path.{_≡_, refl, subst}
 use mathlib.Core.Logic.{_≢_, ⊎-elim}
 use mathlib.Core.Bool.{true, false}
-use mathlib.Core.List.{List, _++_, append-assoc}
+use mathlib.Core.List.{List, [], _∷_, _++_, append-assoc}
 use Prim.Native.Nat.{ℕ, _+_, _*_, _≤_, _<_}
 use native.Mathlib.Decide.{ℕ-discrete}
 use native.Mathlib.Omega.{arith}
 use lib.ListN.{length}
 use Rattle.numbers.proofs.Truth.{decide}
-use Rattle.numbers.proofs.Tests.{Test, lt-test, le-test, eq-test, list-test, as-test, not-test, and-test}
+use Rattle.numbers.proofs.Tests.{Test, lt-test, le-test, eq-test, list-test, as-test, not-test, and-test, or-test}
 use Rattle.rules.specs.Bounds.{max-elements, max-rows}
 use Rattle.rules.specs.Bus.{Table}
-use Rattle.rules.specs.TableFile.{table-mark, version-1, headerSize, rowSize, rowNumbers, mark, version, fileTable}
+use Rattle.rules.specs.TableFile.{table-mark, version-1, headerSize, rowSize, rowNumbers, mark, version, fileTable, fileLabelled}
 use Rattle.rules.specs.TableFile.{memoryTable, memoryLabelled}
 use Rattle.rules.specs.Line.{cut, Sets}
 use Rattle.rules.specs.Loads.{hyperperiod}
+use Rattle.rules.specs.Parties.{max-limit}
 use Rattle.rules.specs.Planner.{Stage, due, finished, Planner, Off}
 use Rattle.rules.specs.Refusals.{
   Check,
   no-cut,
+  wrong-limit,
   given-checks,
   line-checks,
   bound-checks,
+  limit-checks,
   reader-checks,
   version-1-checks,
   memory-checks,
@@ -31,12 +34,14 @@ use Rattle.rules.specs.Refusals.{
   shared-checks,
   set-checks,
   verdict-checks,
+  limited-checks,
   sets-checks,
   plan-checks,
   step-room,
   step-checks,
   standings-checks,
 }
+use Rattle.rules.specs.Calls.{Ask}
 use Rattle.rules.proofs.Answers.{None, Numbered, applied, stopped, joined, none-of}
 use Rattle.rules.proofs.Sets.{sets-only}
 use Rattle.rules.proofs.Verdict.{
@@ -55,11 +60,13 @@ use Rattle.rules.proofs.Verdict.{
   no-cut-test,
   line-tests,
   bound-tests,
+  limit-tests,
 }
 use Rattle.table.specs.Sound.{Sound}
 use Rattle.pasted.proofs.AsGiven.{given-numbered, given-passed}
 use Rattle.ring.proofs.Cut.{cut-high, cut-none}
-use Rattle.verdict.proofs.Bound.{verdict-numbered, verdict-split, sets-exist, admissible-of}
+use Rattle.verdict.proofs.Bound.{verdict-split, sets-exist}
+use Rattle.planner.specs.Proper.{Proper}
 use Rattle.demands.specs.Demands.{Answered}
 use Rattle.demands.proofs.States.{off-test}
 
@@ -161,34 +168,45 @@ module _ (f : List ℕ) where
           as-test (le-test (length ws) k) (λ h. (ws, A, h))
           (λ w. subst (λ (vs : List ℕ). length vs ≤ k) (sets-only some (w .1) A) (w .2))
 
-  pub planned-answered : (room : ℕ) → Answered (plan-checks (verdict-checks f) (fileTable f) room)
-  unfolding plan-checks
-  planned-answered room =
-      by-lists (verdict-checks f) _ (verdict-numbered f) judged-answered
-      (λ N. by-tests (lt-test room (hyperperiod (fileTable f)) then none))
+  pub limited-answered : (our their : ℕ) → Answered (limited-checks f our their)
+  unfolding limited-checks Numbered
+  limited-answered our their =
+      let t = fileTable f in
+      let ds = limit-checks (fileLabelled f) our their ++ bound-checks t in
+      by-lists (wrong-limit our their ∷ []) (given-checks f ++ (line-checks t ++ ds)) (omega arith)
+      (by-tests (or-test (lt-test max-limit our) (lt-test max-limit their) then none))
+      (λ N.
+      past-given (line-checks t ++ ds)
+      (λ S.
+      line-answered t S ds
+      (λ ws A. tests-join (limit-tests (fileLabelled f) our their) (bound-tests t (S .rows-low) ws A))))
 
--- ---- the calls that take a planner
+-- ---- the planner's calls, at an ask whose own checks are answered
 
 finished-test : (s : Stage) → Test (s ≡ finished)
 finished-test (due k) = record { test = false; is = λ h. absurd h; of = λ e. let z : _≡_ {A = ℕ} 0 1 = cc in omega arith }
 finished-test finished = record { test = true; is = λ h. refl; of = λ e. tt }
 
-module _ (f : List ℕ) (p : Planner) where
-  -- the table's state is decided where the verdict admits the table
-  state-test : None (verdict-checks f) → Test (Off (fileTable f) p)
-  state-test N =
-      let A = admissible-of f N in
-      let e = sets-exist (fileTable f) (A .sound) (A .clear) in
-      off-test (fileTable f) p (e .0) (e .1)
+module _ (a : Ask) (P : Proper a) (J : Answered (a .checks)) where
+  pub planned-answered : (room : ℕ) → Answered (plan-checks (a .checks) (a .table) room)
+  unfolding plan-checks
+  planned-answered room = by-lists (a .checks) _ (P .numbered) J (λ N. by-tests (lt-test room (hyperperiod (a .table)) then none))
 
-  pub stepped-answered : (room : ℕ) → Answered (step-checks (verdict-checks f) (fileTable f) p room)
-  unfolding step-checks
-  stepped-answered room =
-      by-lists (verdict-checks f) _ (verdict-numbered f) (judged-answered f)
-      (λ N. by-tests (
-      state-test N then finished-test (p .stage) then lt-test room (step-room (fileTable f) (p .stage)) then none))
+  module _ (p : Planner) where
+    -- the table's state is decided where the ask admits the table
+    state-test : None (a .checks) → Test (Off (a .table) p)
+    state-test N =
+        let A = P .admissible N in
+        let e = sets-exist (a .table) (A .sound) (A .clear) in
+        off-test (a .table) p (e .0) (e .1)
 
-  pub stood-answered : Answered (standings-checks (verdict-checks f) (fileTable f) p)
-  unfolding standings-checks
-  stood-answered =
-      by-lists (verdict-checks f) _ (verdict-numbered f) (judged-answered f) (λ N. by-tests (state-test N then none))
+    pub stepped-answered : (room : ℕ) → Answered (step-checks (a .checks) (a .table) p room)
+    unfolding step-checks
+    stepped-answered room =
+        by-lists (a .checks) _ (P .numbered) J
+        (λ N. by-tests (
+        state-test N then finished-test (p .stage) then lt-test room (step-room (a .table) (p .stage)) then none))
+
+    pub stood-answered : Answered (standings-checks (a .checks) (a .table) p)
+    unfolding standings-checks
+    stood-answered = by-lists (a .checks) _ (P .numbered) J (λ N. by-tests (state-test N then none))

@@ -9,21 +9,23 @@ use Rattle.rules.specs.TableFile.{headerSize, rowSize, rowNumbers, version, fil
 use Rattle.rules.specs.Loads.{start, end}
 use Rattle.rules.specs.Planner as rules
 use Rattle.rules.specs.Planner.{Off}
-use Rattle.rules.specs.Refusals.{Answers, reader-checks, writer-checks, verdict-checks, step-checks}
-use Rattle.rules.specs.Calls.{fileAsk}
+use Rattle.rules.specs.Refusals.{Answers, reader-checks, writer-checks, step-checks}
+use Rattle.rules.specs.Calls.{Ask, fileAsk, limitedAsk}
 use Rattle.rules.proofs.Answers.{None, Numbered, answers-only, position-none, none-of, none-left, none-right, numbered-join}
 use Rattle.rules.proofs.Calls.{lent-take, call-must}
 use Rattle.rules.proofs.Lags.{qualify-by-lags}
 use Rattle.table.proofs.Faults.{passed-none}
 use Rattle.round_trip.proofs.RoundTrip.{read-none, written-none, written-sound, read-then-written, written-then-read}
-use Rattle.verdict.proofs.Bound.{verdict-numbered, admissible-of}
-use Rattle.verdict.proofs.Judging.{demand-2}
+use Rattle.rules.proofs.Parties.{own-rows-only}
+use Rattle.verdict.proofs.Judging.{admits-by, demand-2}
+use Rattle.limited.proofs.Checked.{limited-numbered}
 use Rattle.promises.specs.Steps.{Serves}
 use Rattle.promises.proofs.Steps.{step-serves, run-serves}
 use Rattle.planner.specs.State.{stageOf, plannerOf}
 use Rattle.planner.proofs.Only.{step-only}
 use Rattle.planner.proofs.Asks.{file-proper}
 use Rattle.planner.proofs.Promises.{admitted-table, steps-run, standings-between, never-refused, whole-is-steps, carried, exactly-one-plan}
+use Rattle.limited_plan.proofs.Promises.{limited-proper, same-plan}
 use Rattle.demands.specs.Demands.{Demand-1, Demand-2, Demand-3, Demands}
 use Rattle.demands.proofs.Answered.{
   read-answered,
@@ -32,6 +34,7 @@ use Rattle.demands.proofs.Answered.{
   met-answered,
   crowded-answered,
   judged-answered,
+  limited-answered,
   listed-answered,
   planned-answered,
   stepped-answered,
@@ -49,18 +52,23 @@ first = record {
   crowded = crowded-answered;
   judged = judged-answered;
   listed = listed-answered;
-  planned = planned-answered;
-  stepped = stepped-answered;
-  stood = stood-answered;
+  planned = λ f. planned-answered (fileAsk f) (file-proper f) (judged-answered f);
+  stepped = λ f. stepped-answered (fileAsk f) (file-proper f) (judged-answered f);
+  stood = λ f. stood-answered (fileAsk f) (file-proper f) (judged-answered f);
+  judged-limited = limited-answered;
+  planned-limited = λ f our their.
+      planned-answered (limitedAsk f our their) (limited-proper f our their) (limited-answered f our their);
+  stepped-limited = λ f our their.
+      stepped-answered (limitedAsk f our their) (limited-proper f our their) (limited-answered f our their);
   one = answers-only;
   read-refused = λ f was now number place version′ elements rows c h. ⊎-elim (λ r. r .refused h) (λ r. r .refused h) c;
   write-refused = λ version′ elements rows xs was now number place c h. c .refused h;
   met-refused = λ f i j number place word c h. c .refused h;
   crowd-refused = λ f k number place rows segments c h. c .refused h;
-  verdict-refused = λ f r c h. c .refused h;
+  verdict-refused = λ a r c h. c .refused h;
   list-refused = λ f was now number place sets c h. c .refused h;
-  plan-refused = λ f r was now c h. c .planned .refused h;
-  step-refused = λ f p r was now c h. (c .same h, c .stepped .refused h .1);
+  plan-refused = λ a r was now c h. c .planned .refused h;
+  step-refused = λ a p r was now c h. (c .same h, c .stepped .refused h .1);
   standings-refused = λ f p r c h. c .stood .refused h;
 }
 
@@ -69,11 +77,13 @@ first = record {
 second : Demand-2
 second = record {
   admits = demand-2;
-  values = λ f r c h. c .done h;
+  admits-limited = λ f our their. admits-by (limited-numbered f our their);
+  own-rows-only = own-rows-only;
+  values = λ a r c h. c .done h;
   sets = λ f was now number place sets c h. c .done h;
   met = λ f i j number place word c h. c .done h;
   crowded = λ f k number place rows segments c h. c .done h;
-  steps = λ f p r was now c h. c .stepped .done h;
+  steps = λ a p r was now c h. c .stepped .done h;
   lags = qualify-by-lags;
   standings = λ f p r c h. c .stood .done h;
   between = standings-between;
@@ -94,31 +104,32 @@ second = record {
 
 -- ---- demand 3
 
-step-passed : (f : List ℕ) (p : rules.Planner) (room place : ℕ)
-    → Answers (step-checks (verdict-checks f) (fileTable f) p room) 0 place → None (verdict-checks f) × ¬ Off (fileTable f) p
+step-passed : (a : Ask) (p : rules.Planner) (room place : ℕ) → Numbered (a .checks)
+    → Answers (step-checks (a .checks) (a .table) p room) 0 place → None (a .checks) × ¬ Off (a .table) p
 unfolding step-checks Numbered None
-step-passed f p room place a =
-    let n = none-of (step-checks (verdict-checks f) (fileTable f) p room) place
-    (numbered-join (verdict-checks f) _ (verdict-numbered f) (omega arith)) a in
-    (none-left (verdict-checks f) _ n, none-right (verdict-checks f) _ n .0)
+step-passed a p room place N c =
+    let n = none-of (step-checks (a .checks) (a .table) p room) place (numbered-join (a .checks) _ N (omega arith)) c in
+    (none-left (a .checks) _ n, none-right (a .checks) _ n .0)
 
 third : Demand-3
 third = record {
+  file-proper = file-proper;
+  limited-proper = limited-proper;
   carried = carried;
   exactly-one-plan = exactly-one-plan;
+  same-plan = same-plan;
   whole-is-steps = whole-is-steps;
   never-refused = never-refused;
   in-place = λ f p q a r was now then m c. step-only (fileAsk f) p _ r was now then m c;
-  step-serves = λ f p r was now k c z s.
-      let t = fileTable f in
-      let n = step-passed f (plannerOf p) (length was) (r .answer .place) (rw z at (c .stepped .answers)) in
+  step-serves = λ a p r was now k P c z s.
+      let t = a .table in
+      let n = step-passed a (plannerOf p) (length was) (r .answer .place) (P .numbered) (rw z at (c .stepped .answers)) in
       let w = c .stepped .done z in
       let l : ℕ = end t k - start t k in
-      let S = step-serves t (plannerOf p) (plannerOf (r .planner)) k (w .0) (admissible-of f (n .0)) (n .1) (ap stageOf s) (w .1) in
+      let S = step-serves t (plannerOf p) (plannerOf (r .planner)) k (w .0) (P .admissible (n .0)) (n .1) (ap stageOf s) (w .1) in
       let e : take l now ≡ w .0 = ap (take l) (w .2) ∙ lent-take (w .0) was l (omega (arith, S .size)) in
       subst (Serves t (start t k) (end t k) (plannerOf p) (plannerOf (r .planner))) (sym e) S;
-  first-steps = λ f k p ws a s.
-      run-serves (fileTable f) k (plannerOf p) ws (admitted-table (fileAsk f) (file-proper f) a) (steps-run s);
+  first-steps = λ a k p ws P A s. run-serves (a .table) k (plannerOf p) ws (admitted-table a P A) (steps-run s);
 }
 
 pub demands : Demands

@@ -6,10 +6,10 @@
 --   Demand-2           verdict, loads, sets, shared segments and standings are the documents', and tables are read and written back
 --   Demand-3           every admitted table gets a plan that carries it
 --
--- Each call's contract (`Read`, `Written`, `Met`, `Crowded`, `IsVerdict`, `Listed`, `PlanAnswer`, `StepAnswer`, `StandingsAnswer`,
+-- Each call's contract (`Read`, `Written`, `Met`, `Crowded`, `JudgedBy`, `Listed`, `PlanAnswer`, `StepAnswer`, `StandingsAnswer`,
 -- `MovedInPlace`) relates what the call is given to what it answers. That the call returns, and that its answer stands in this relation, is
 -- proved of its function; a clause below speaks of every answer that the contract allows. `was` and `now` are what a lent slice holds
--- before and after, `f` is the file.
+-- before and after, `f` is the file. A clause about an ask `a` speaks of the calls on a file and of those with limits (#108) alike.
 use mathlib.Core.Path.{_≡_}
 use mathlib.Core.Logic.{_⊎_, _↔_, _≢_}
 use mathlib.Core.List.{List}
@@ -23,6 +23,7 @@ use Rattle.rules.specs.TableFile.{headerSize, rowSize, rowNumbers, fileTable}
 use Rattle.rules.specs.Line.{Sets, setAt}
 use Rattle.rules.specs.Loads.{start, end}
 use Rattle.rules.specs.Interval.{Qualify-by-lags}
+use Rattle.rules.specs.Parties.{Own-rows-only}
 use Rattle.rules.specs.Planner as rules
 use Rattle.rules.specs.Refusals.{
   Check,
@@ -33,15 +34,16 @@ use Rattle.rules.specs.Refusals.{
   shared-checks,
   set-checks,
   verdict-checks,
+  limited-checks,
   sets-checks,
   plan-checks,
   step-checks,
   standings-checks,
 }
-use Rattle.rules.specs.Calls.{lent, Read, ReadVersion1, Written, Met, Crowded, Admitted, Listed, fileAsk}
+use Rattle.rules.specs.Calls.{lent, Read, ReadVersion1, Written, Met, Crowded, Admitted, Listed, Ask, fileAsk}
 use Rattle.table.specs.declared.Answer.{Answer}
 use Rattle.verdict.specs.declared.Verdict.{Verdict}
-use Rattle.verdict.specs.Verdict.{numberOf, cutOf, intervalOf, hyperOf, loadOf, setsOf, IsVerdict}
+use Rattle.verdict.specs.Verdict.{numberOf, cutOf, intervalOf, hyperOf, loadOf, setsOf, JudgedBy, IsVerdict}
 use Rattle.verdict.specs.Demand.{Unrefused}
 use Rattle.promises.specs.Steps.{Serves, Served}
 use Rattle.planner.specs.declared.Stage.the-variants.{Due}
@@ -50,8 +52,9 @@ use Rattle.planner.specs.declared.MovedOn.{MovedOn}
 use Rattle.planner.specs.declared.Standings.{Standings}
 use Rattle.planner.specs.State.{plannerOf}
 use Rattle.planner.specs.Answers.{StepAnswer, StandingsAnswer, PlanAnswer}
-use Rattle.planner.specs.Proper.{Admits}
-use Rattle.planner.specs.Promises.{Steps, Standings-between, Never-refused, Whole-is-steps, Carried, Exactly-one-plan}
+use Rattle.planner.specs.Proper.{Proper, Admits}
+use Rattle.planner.specs.Promises.{File-proper, Steps, Standings-between, Never-refused, Whole-is-steps, Carried, Exactly-one-plan}
+use Rattle.limited_plan.specs.Promises.{Limited-proper, Same-plan}
 use Rattle.kept.specs.InPlace.{joined, MovedInPlace}
 
 abbrev pub Answered : List Check → Type 0
@@ -70,6 +73,11 @@ pub record Demand-1 : Type 1 where
   pub planned : (f : List ℕ) (room : ℕ) → Answered (plan-checks (verdict-checks f) (fileTable f) room)
   pub stepped : (f : List ℕ) (p : rules.Planner) (room : ℕ) → Answered (step-checks (verdict-checks f) (fileTable f) p room)
   pub stood : (f : List ℕ) (p : rules.Planner) → Answered (standings-checks (verdict-checks f) (fileTable f) p)
+  -- So have verdict, whole plan and step with limits (#108), whatever the limits are.
+  pub judged-limited : (f : List ℕ) (our their : ℕ) → Answered (limited-checks f our their)
+  pub planned-limited : (f : List ℕ) (our their room : ℕ) → Answered (plan-checks (limited-checks f our their) (fileTable f) room)
+  pub stepped-limited : (f : List ℕ) (our their : ℕ) (p : rules.Planner) (room : ℕ)
+      → Answered (step-checks (limited-checks f our their) (fileTable f) p room)
   -- Only one number and place do.
   pub one : (cs : List Check) (m n p q : ℕ) → Answers cs m p → Answers cs n q → (m ≡ n) × (p ≡ q)
   -- A refusal leaves lent output unchanged and hands back the planner it was given; any other returned number is then 0.
@@ -81,22 +89,26 @@ pub record Demand-1 : Type 1 where
   pub met-refused : (f : List ℕ) (i j number place word : ℕ) → Met f i j number place word → number ≢ 0 → word ≡ 0
   pub crowd-refused : (f : List ℕ) (k number place rows segments : ℕ) → Crowded f k number place rows segments → number ≢ 0
       → (rows ≡ 0) × (segments ≡ 0)
-  pub verdict-refused : (f : List ℕ) (r : Verdict) → IsVerdict f r → numberOf r ≢ 0
+  pub verdict-refused : (a : Ask) (r : Verdict) → JudgedBy (a .checks) (a .table) r → numberOf r ≢ 0
       → (cutOf r ≡ 0) × (intervalOf r ≡ 0) × (hyperOf r ≡ 0) × (loadOf r ≡ 0) × (setsOf r ≡ 0)
   pub list-refused : (f was now : List ℕ) (number place sets : ℕ) → Listed f was now number place sets → number ≢ 0
       → (sets ≡ 0) × (now ≡ was)
-  pub plan-refused : (f : List ℕ) (r : Answer) (was now : List ℕ) → PlanAnswer (fileAsk f) r was now → r .number ≢ 0 → now ≡ was
-  pub step-refused : (f : List ℕ) (p : Planner) (r : MovedOn) (was now : List ℕ) → StepAnswer (fileAsk f) p r was now
+  pub plan-refused : (a : Ask) (r : Answer) (was now : List ℕ) → PlanAnswer a r was now → r .number ≢ 0 → now ≡ was
+  pub step-refused : (a : Ask) (p : Planner) (r : MovedOn) (was now : List ℕ) → StepAnswer a p r was now
       → r .answer .number ≢ 0 → (r .planner ≡ p) × (now ≡ was)
   pub standings-refused : (f : List ℕ) (p : Planner) (r : Standings) → StandingsAnswer (fileAsk f) p r → r .answer .number ≢ 0
       → (i : ℕ) → i < max-rows → getD (r .values) i (pos 0) ≡ pos 0
 
 pub record Demand-2 : Type 1 where
-  -- A table is admitted exactly if none of the refusals listed for the verdict applies;
+  -- A table is admitted exactly if none of the refusals listed for the verdict applies, and with limits likewise;
   pub admits : (f : List ℕ) (r : Verdict) → IsVerdict f r → (numberOf r ≡ 0) ↔ Unrefused (verdict-checks f)
+  pub admits-limited : (f : List ℕ) (our their : ℕ) (r : Verdict) → JudgedBy (limited-checks f our their) (fileTable f) r
+      → (numberOf r ≡ 0) ↔ Unrefused (limited-checks f our their)
   -- then cut, L, h, reported load and number of sets are the document's.
-  pub values : (f : List ℕ) (r : Verdict) → IsVerdict f r → numberOf r ≡ 0
-      → Admitted (fileTable f) (cutOf r) (intervalOf r) (hyperOf r) (loadOf r) (setsOf r)
+  pub values : (a : Ask) (r : Verdict) → JudgedBy (a .checks) (a .table) r → numberOf r ≡ 0
+      → Admitted (a .table) (cutOf r) (intervalOf r) (hyperOf r) (loadOf r) (setsOf r)
+  -- What is said of a party depends on its own rows, the element count and its limit alone (#108).
+  pub own-rows-only : Own-rows-only
   -- The list of sets is the document's list of the overlap sets.
   pub sets : (f was now : List ℕ) (number place sets : ℕ) → Listed f was now number place sets → number ≡ 0
       → (ws : List ℕ) × Sets (fileTable f) ws × (sets ≡ length ws) × (now ≡ lent ws was)
@@ -105,8 +117,8 @@ pub record Demand-2 : Type 1 where
   pub crowded : (f : List ℕ) (k number place rows segments : ℕ) → Crowded f k number place rows segments → number ≡ 0
       → (ws : List ℕ) × Sets (fileTable f) ws × (k < length ws) × (rows ≡ at ws k) × (segments ≡ common (fileTable f) (setAt ws k))
   -- A step is the document's: its loads are the greatest that qualify, its words are the loads' slots, and its totals are the slots had.
-  pub steps : (f : List ℕ) (p : Planner) (r : MovedOn) (was now : List ℕ) → StepAnswer (fileAsk f) p r was now → r .answer .number ≡ 0
-      → (ws : List ℕ) × rules.Step (fileTable f) (plannerOf p) (plannerOf (r .planner)) ws × (now ≡ lent ws was)
+  pub steps : (a : Ask) (p : Planner) (r : MovedOn) (was now : List ℕ) → StepAnswer a p r was now → r .answer .number ≡ 0
+      → (ws : List ℕ) × rules.Step (a .table) (plannerOf p) (plannerOf (r .planner)) ws × (now ≡ lent ws was)
   -- Loads qualify exactly if each is the row's lag rounded down or up, and so the sum over each set, which fits the interval.
   pub lags : Qualify-by-lags
   -- Every standing is total × h − (h / period) × cost × slot, 0 past the last row, and lies strictly between −h and h.
@@ -129,11 +141,16 @@ pub record Demand-2 : Type 1 where
       → (number ≡ 0) × (number′ ≡ 0) × (version″ ≡ version′) × (elements′ ≡ elements) × (rows′ ≡ rows) × (take (length xs) now′ ≡ xs)
 
 pub record Demand-3 : Type 1 where
+  -- The clauses about proper asks speak of the calls on a file, and of those with limits (#108).
+  pub file-proper : File-proper
+  pub limited-proper : Limited-proper
   -- Every table that the verdict admits gets, with room for h words, a whole plan that carries it: rows that share a segment never share a
   -- slot, at every interval's end each row has had its share, and every job gets exactly its cost before its deadline, for ever.
   pub carried : Carried
   -- Exactly one plan meets document 01: the words of the whole plan are one, and any that is one is those words.
   pub exactly-one-plan : Exactly-one-plan
+  -- With limits it is the same plan: limits refuse, and choose nothing.
+  pub same-plan : Same-plan
   -- The whole plan is what a fresh planner's steps write, joined in order.
   pub whole-is-steps : Whole-is-steps
   -- A step on any admitted table, from any due state that isn't off and with room, is never refused; the planner handed back isn't off.
@@ -142,13 +159,13 @@ pub record Demand-3 : Type 1 where
   pub in-place : (f : List ℕ) (p q : Planner) (a : Answer) (r : MovedOn) (was now then : List ℕ) → MovedInPlace f p q a was now
       → StepAnswer (fileAsk f) p r was then → (joined q a ≡ r) × (now ≡ then)
   -- Each step keeps rows that share a segment apart, adds to each total the slots that the row moves in, and brings each row to its share.
-  pub step-serves : (f : List ℕ) (p : Planner) (r : MovedOn) (was now : List ℕ) (k : ℕ) → StepAnswer (fileAsk f) p r was now
+  pub step-serves : (a : Ask) (p : Planner) (r : MovedOn) (was now : List ℕ) (k : ℕ) → Proper a → StepAnswer a p r was now
       → r .answer .number ≡ 0 → p .stage ≡ Due k
-      → Serves (fileTable f) (start (fileTable f) k) (end (fileTable f) k) (plannerOf p) (plannerOf (r .planner))
-      (take (end (fileTable f) k - start (fileTable f) k) now)
+      → Serves (a .table) (start (a .table) k) (end (a .table) k) (plannerOf p) (plannerOf (r .planner))
+      (take (end (a .table) k - start (a .table) k) now)
   -- So do the first steps of a fresh planner together.
-  pub first-steps : (f : List ℕ) (k : ℕ) (p : Planner) (ws : List ℕ) → Admits (fileAsk f) → Steps (fileAsk f) k p ws
-      → Served (fileTable f) k (plannerOf p) ws
+  pub first-steps : (a : Ask) (k : ℕ) (p : Planner) (ws : List ℕ) → Proper a → Admits a → Steps a k p ws
+      → Served (a .table) k (plannerOf p) ws
 
 pub record Demands : Type 1 where
   pub first : Demand-1

@@ -33,7 +33,7 @@ module _ (f : List ℕ) (r : Verdict) (J : IsVerdict f r) where
       let y : p ≡ x .place = ep ∙ ap placeOf e in
       record {
         lines = verdict n p ∷ [];
-        printed = rw (z, y) (refused (x .number) (x .place) (refusal f r J x e .answers) (refused-number f x (refusal f r J x e)));
+        printed = rw (z, y) (refused (x .number) (x .place) (refusal f r J x e .answers) (refused-number x (refusal f r J x e)));
         puts = rw (text-one (verdict n p)) (F .0);
         fits = omega (arith, F .1);
       }

@@ -109,7 +109,7 @@ module _ (f : List ℕ) (r : Verdict) (J : IsVerdict f r) where
     printed-refused x e =
         let z : n ≡ x .number = en ∙ ap numberOf e in
         let y : p ≡ x .place = ep ∙ ap placeOf e in
-        rw (z, y) (refused (x .number) (x .place) (rw i at (refusal x e .answers)) (refused-number f x (refusal x e)))
+        rw (z, y) (refused (x .number) (x .place) (rw i at (refusal x e .answers)) (refused-number x (refusal x e)))
 
     printed-admitted : (c l h x s : ℕ) → r ≡ Admitted c l h x s → (ws plan : List ℕ)
         → Sets (fileTable f) ws → WholePlan (fileTable f) plan

@@ -2,6 +2,7 @@ pub mod Answers
 pub mod Calls
 pub mod Small
 pub mod Shared
+pub mod Parties
 pub mod Interval
 pub mod Lags
 pub mod Sets

@@ -1,44 +1,51 @@
--- Every answer of the verdict and of the whole plan has a small number and a small place, so that both fit one number for C.
+-- Every answer of the verdict and of the whole plan, also with limits, has a small number and a small place, so that both fit one number
+-- for C.
 use mathlib.Core.Logic.{⊎-elim}
 use mathlib.Core.List.{List, [], _∷_, _++_, append-assoc}
-use Prim.Native.Nat.{ℕ, _-_, _≤_, _<_}
+use Prim.Native.Nat.{ℕ, suc, _-_, _≤_, _<_}
 use native.Mathlib.Omega.{arith}
 use lib.Dec.{lit≤}
 use Rattle.numbers.proofs.Truth.{le-or-lt}
 use Rattle.numbers.specs.Lists.{each}
-use Rattle.rules.specs.Bounds.{max-rows}
-use Rattle.rules.specs.Bus.{Table}
-use Rattle.rules.specs.TableFile.{fileTable}
+use Rattle.rules.specs.Bounds.{max-elements, max-rows}
+use Rattle.rules.specs.Bus.{Table, Labelled}
+use Rattle.rules.specs.TableFile.{fileTable, fileLabelled}
 use Rattle.rules.specs.Loads.{hyperperiod}
+use Rattle.rules.specs.Parties.{ours, theirs, own}
 use Rattle.rules.specs.Refusals.{Check, Answers, last-number, faults, pasted-row, light-row, over-bound, short-output}
+use Rattle.rules.specs.Refusals.{over-limit, wrong-limit, segment-checks, limit-checks, limited-checks}
 use Rattle.rules.specs.Refusals.{header-checks, row-checks, file-checks, pasted-checks, given-checks, line-checks, bound-checks}
 use Rattle.rules.specs.Refusals.{no-row, shared-checks, verdict-checks, plan-checks}
 use Rattle.rules.proofs.Answers.{None, Fit, answers-split, answers-fit, fit-join, fit-each}
 
--- places are rows, or sets, of which there are no more than rows
+-- places are rows, or sets, of which there are no more than rows, or segments, of which there are fewer
 abbrev pub last-place : ℕ
 last-place = max-rows - 1
 
--- A header that passes has no more rows than a table may have, so a place past it is one of theirs.
-small-by : (f : List ℕ) (cs : List Check) (n p : ℕ) → (fileTable f .rows ≤ max-rows → Fit last-number last-place cs)
+-- A header that passes has no more elements and rows than a table may have, so a place past it is one of theirs.
+small-by : (f : List ℕ) (cs : List Check) (n p : ℕ)
+    → (fileTable f .elements ≤ max-elements → fileTable f .rows ≤ max-rows → Fit last-number last-place cs)
     → Answers (header-checks f ++ cs) n p → (n ≤ last-number) × (p ≤ last-place)
 unfolding header-checks None Fit
 small-by f cs n p fit r =
     ⊎-elim
     (λ a. answers-fit last-number last-place (header-checks f) n p header a)
-    (λ a. answers-fit last-number last-place cs n p (fit (few (a .0 .1 .1 .1 .1 .0))) (a .1))
+    (λ a.
+    answers-fit last-number last-place cs n p
+    (fit (most 2 max-elements (fileTable f .elements) (a .0 .1 .1 .1 .0)) (most 1 max-rows (fileTable f .rows) (a .0 .1 .1 .1 .1 .0)))
+    (a .1))
     (answers-split (header-checks f) cs n p r)
   where
     header : Fit last-number last-place (header-checks f)
     header =
         (lit≤ tt, lit≤ tt, (lit≤ tt, lit≤ tt, (lit≤ tt, lit≤ tt, (lit≤ tt, lit≤ tt, (lit≤ tt, lit≤ tt, (lit≤ tt, lit≤ tt, tt))))))
 
-    few : (¬ ((1 ≤ fileTable f .rows) × (fileTable f .rows ≤ max-rows)) → ⊥) → fileTable f .rows ≤ max-rows
-    few h = ⊎-elim (λ l. l) (λ l. absurd (h (λ w. let z : ⊥ = omega arith in z))) (le-or-lt (fileTable f .rows) max-rows)
+    most : (a b x : ℕ) → (¬ ((a ≤ x) × (x ≤ b)) → ⊥) → x ≤ b
+    most a b x h = ⊎-elim (λ l. l) (λ l. absurd (h (λ w. let z : ⊥ = omega (arith, l, w .1) in z))) (le-or-lt x b)
 
--- the checks past the header
-abbrev past-header : Table → List Check
-past-header t = row-checks t ++ (pasted-checks t ++ (line-checks t ++ bound-checks t))
+-- the checks past the header, with ds past those of the line
+abbrev past-header : Table → List Check → List Check
+past-header t ds = row-checks t ++ (pasted-checks t ++ (line-checks t ++ ds))
 
 rows-fit : (t : Table) → t .rows ≤ max-rows → Fit last-number last-place (row-checks t)
 unfolding row-checks Fit
@@ -46,21 +53,61 @@ rows-fit t few =
     fit-each last-number last-place (faults t) (t .rows)
     (λ i l. (lit≤ tt, omega arith, (lit≤ tt, omega arith, (lit≤ tt, omega arith, tt))))
 
-table-fit : (t : Table) → t .rows ≤ max-rows → Fit last-number last-place (past-header t)
-unfolding pasted-checks line-checks bound-checks Fit
-table-fit t few =
+table-fit : (t : Table) (ds : List Check) → t .rows ≤ max-rows → Fit last-number last-place ds
+    → Fit last-number last-place (past-header t ds)
+unfolding pasted-checks line-checks Fit
+table-fit t ds few fit =
     let pasted = fit-each last-number last-place (λ i. pasted-row t i ∷ []) (t .rows) (λ i l. (lit≤ tt, omega arith, tt)) in
+    fit-join last-number last-place (row-checks t) (pasted-checks t ++ (line-checks t ++ ds)) (rows-fit t few)
+    (fit-join last-number last-place (pasted-checks t) (line-checks t ++ ds) pasted
+    (fit-join last-number last-place (line-checks t) ds (lit≤ tt, lit≤ tt, (lit≤ tt, lit≤ tt, tt)) fit))
+
+bound-fit : (t : Table) → t .rows ≤ max-rows → Fit last-number last-place (bound-checks t)
+unfolding bound-checks Fit
+bound-fit t few =
     let light = fit-each last-number last-place (λ i. light-row t i ∷ []) (t .rows) (λ i l. (lit≤ tt, omega arith, tt)) in
     let over = fit-each last-number last-place (λ k. over-bound t k ∷ []) (t .rows) (λ k l. (lit≤ tt, omega arith, tt)) in
-    fit-join last-number last-place (row-checks t) (pasted-checks t ++ (line-checks t ++ bound-checks t)) (rows-fit t few)
-    (fit-join last-number last-place (pasted-checks t) (line-checks t ++ bound-checks t) pasted
-    (fit-join last-number last-place (line-checks t) (bound-checks t) (lit≤ tt, lit≤ tt, (lit≤ tt, lit≤ tt, tt))
-    (fit-join last-number last-place (each (t .rows) (λ i. light-row t i ∷ [])) (each (t .rows) (λ k. over-bound t k ∷ [])) light over)))
+    fit-join last-number last-place (each (t .rows) (λ i. light-row t i ∷ [])) (each (t .rows) (λ k. over-bound t k ∷ [])) light over
 
 pub verdict-small : (f : List ℕ) (n p : ℕ) → Answers (verdict-checks f) n p → (n ≤ last-number) × (p ≤ last-place)
 unfolding verdict-checks given-checks file-checks
 verdict-small f n p r =
-    small-by f (past-header (fileTable f)) n p (table-fit (fileTable f)) (rw (append-assoc, append-assoc, append-assoc) at r)
+    let t = fileTable f in
+    small-by f (past-header t (bound-checks t)) n p (λ low few. table-fit t (bound-checks t) few (bound-fit t few))
+    (rw (append-assoc, append-assoc, append-assoc) at r)
+
+-- ---- with limits
+
+-- a party's own table has as many elements as the table
+segments-fit : (number : ℕ) (t : Table) (limit : ℕ) → number ≤ last-number → t .elements ≤ max-elements
+    → Fit last-number last-place (segment-checks number t limit)
+unfolding segment-checks Fit
+segments-fit number t limit s low =
+    fit-each last-number last-place (λ s. over-limit number t limit (suc s) ∷ []) (t .elements) (λ i l. (s, omega arith, tt))
+
+limits-fit : (t : Labelled) (our their : ℕ) → t .table .elements ≤ max-elements → Fit last-number last-place (limit-checks t our their)
+unfolding limit-checks own
+limits-fit t our their low =
+    fit-join last-number last-place (segment-checks 21 (own ours t) our) (segment-checks 22 (own theirs t) their)
+    (segments-fit 21 (own ours t) our (lit≤ tt) low) (segments-fit 22 (own theirs t) their (lit≤ tt) low)
+
+pub limited-small : (f : List ℕ) (our their n p : ℕ) → Answers (limited-checks f our their) n p → (n ≤ last-number) × (p ≤ last-place)
+unfolding limited-checks given-checks file-checks Fit
+limited-small f our their n p r =
+    let t = fileTable f in
+    let limits = limit-checks (fileLabelled f) our their in
+    let ds = limits ++ bound-checks t in
+    ⊎-elim
+    (λ a. answers-fit last-number last-place (wrong-limit our their ∷ []) n p (lit≤ tt, lit≤ tt, tt) a)
+    (λ a.
+    small-by f (past-header t ds) n p
+    (λ low few.
+    table-fit t ds few
+    (fit-join last-number last-place limits (bound-checks t) (limits-fit (fileLabelled f) our their low) (bound-fit t few)))
+    (rw (append-assoc, append-assoc) at (a .1)))
+    (answers-split (wrong-limit our their ∷ []) (given-checks f ++ (line-checks t ++ ds)) n p r)
+
+-- ---- of two rows, and of plans
 
 -- so has what is answered of two rows
 pub shared-small : (f : List ℕ) (i j n p : ℕ) → Answers (shared-checks f i j) n p → (n ≤ last-number) × (p ≤ last-place)
@@ -73,17 +120,18 @@ shared-small f i j n p r = small-by f (row-checks t ++ rest) n p fit (rw append-
     rest : List Check
     rest = no-row t 0 i ∷ no-row t 1 j ∷ []
 
-    fit : t .rows ≤ max-rows → Fit last-number last-place (row-checks t ++ rest)
-    fit few =
+    fit : t .elements ≤ max-elements → t .rows ≤ max-rows → Fit last-number last-place (row-checks t ++ rest)
+    fit low few =
         fit-join last-number last-place (row-checks t) rest (rows-fit t few) (lit≤ tt, lit≤ tt, (lit≤ tt, lit≤ tt, tt))
 
-abbrev room-check : List ℕ → ℕ → List Check
-room-check f room = short-output (room < hyperperiod (fileTable f)) ∷ []
+abbrev room-check : Table → ℕ → List Check
+room-check t room = short-output (room < hyperperiod t) ∷ []
 
-pub plan-small : (f : List ℕ) (room n p : ℕ) → Answers (plan-checks (verdict-checks f) (fileTable f) room) n p
-    → (n ≤ last-number) × (p ≤ last-place)
+-- a whole plan's answer is, where that of the verdict before it is
+pub plan-small : (cs : List Check) (t : Table) (room n p : ℕ) → (Answers cs n p → (n ≤ last-number) × (p ≤ last-place))
+    → Answers (plan-checks cs t room) n p → (n ≤ last-number) × (p ≤ last-place)
 unfolding plan-checks Fit
-plan-small f room n p r =
-    ⊎-elim (λ a. verdict-small f n p a)
-    (λ a. answers-fit last-number last-place (room-check f room) n p (lit≤ tt, lit≤ tt, tt) (a .1))
-    (answers-split (verdict-checks f) (room-check f room) n p r)
+plan-small cs t room n p small r =
+    ⊎-elim small
+    (λ a. answers-fit last-number last-place (room-check t room) n p (lit≤ tt, lit≤ tt, tt) (a .1))
+    (answers-split cs (room-check t room) n p r)

@@ -14,10 +14,11 @@ use lib.ListN.{length}
 use Rattle.numbers.specs.Word.{bit}
 use Rattle.numbers.specs.Lists.{at, each}
 use Rattle.rules.specs.Bounds.{max-elements, max-rows, max-slots}
-use Rattle.rules.specs.Bus.{Table, through, pasted}
+use Rattle.rules.specs.Bus.{Table, Labelled, through, pasted}
 use Rattle.rules.specs.TableFile.{table-mark, version-1, version-2, headerSize, rowSize, mark, version, fileTable}
 use Rattle.rules.specs.Line.{Sets}
 use Rattle.rules.specs.Loads.{hyperperiod, light, over}
+use Rattle.rules.specs.Parties.{ours, theirs, own, overLimit}
 use Rattle.rules.specs.Refusals.{
   Check,
   Answers,
@@ -31,6 +32,8 @@ use Rattle.rules.specs.Refusals.{
   given-checks,
   line-checks,
   bound-checks,
+  segment-checks,
+  limit-checks,
   verdict-checks,
 }
 use Rattle.numbers.proofs.Tests.{Test, holds-test, lt-test, le-test, eq-test, list-test}
@@ -126,6 +129,15 @@ module _ (t : Table) where
     unfolding bound-checks
     bound-tests =
         tests-join (tests-each (t .rows) (λ i. holds-test (light t i) then none)) (tests-each (t .rows) (λ k. over-test k then none))
+
+-- 21 and 22
+abbrev pub segment-tests : (number : ℕ) (t : Table) (limit : ℕ) → Tests (segment-checks number t limit)
+unfolding segment-checks
+segment-tests number t limit = tests-each (t .elements) (λ s. holds-test (overLimit t limit (suc s)) then none)
+
+abbrev pub limit-tests : (t : Labelled) (our their : ℕ) → Tests (limit-checks t our their)
+unfolding limit-checks
+limit-tests t our their = tests-join (segment-tests 21 (own ours t) our) (segment-tests 22 (own theirs t) their)
 
 abbrev pub file-tests : (f : List ℕ) → Tests (file-checks f)
 unfolding file-checks

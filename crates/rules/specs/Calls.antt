@@ -6,10 +6,11 @@
 --   ReadVersion1        the reader that takes version 1 alone
 --   Met                 where two rows meet: the segments that they share
 --   Crowded             an overlap set's rows, and the segments that all of them use
+--   Ask                 what verdict and planner are asked about: a table, and the checks before their own
+--   fileAsk f           a file's table, and the verdict's checks
+--   limitedAsk f x y    a file's table, and the checks of the verdict with limits (#108)
 --   Judged              the verdict
 --   Listed              the list of sets
---   Ask                 what the planner's calls are asked about: a table, and the checks before their own
---   fileAsk f           a file's table, and the verdict's checks
 --   Planned             the whole plan
 --   Stepped             a planner step
 --   Stood               the standings
@@ -38,6 +39,7 @@ use Rattle.rules.specs.Refusals.{
   writer-checks,
   shared-checks,
   verdict-checks,
+  limited-checks,
   sets-checks,
   set-checks,
   plan-checks,
@@ -85,6 +87,18 @@ Crowded file k number place rows segments =
     ((ws : List ℕ) × Sets (fileTable file) ws × (k < length ws) × (rows ≡ at ws k) × (segments ≡ common (fileTable file) (setAt ws k)))
     ((rows ≡ 0) × (segments ≡ 0))
 
+-- Verdict, whole plan, step and standings have forms with other checks before their own. So they are said of any table with checks.
+pub record Ask : Type 1 where
+  pub checks : List Check
+  pub table : Table
+
+abbrev pub fileAsk : List ℕ → Ask
+fileAsk f = record { checks = verdict-checks f; table = fileTable f }
+
+-- the same with a limit for each party (#108)
+abbrev pub limitedAsk : List ℕ → (our their : ℕ) → Ask
+limitedAsk f our their = record { checks = limited-checks f our their; table = fileTable f }
+
 -- When admitted, the verdict also returns cut, L, h, reported load and the number of sets.
 pub record Admitted (t : Table) (cut′ interval hyper load sets : ℕ) : Type 0 where
   pub list : List ℕ
@@ -95,9 +109,9 @@ pub record Admitted (t : Table) (cut′ interval hyper load sets : ℕ) : Type 0
   pub load-is : load ≡ reported t list
   pub sets-is : sets ≡ length list
 
-abbrev pub Judged : (file : List ℕ) (number place cut interval hyper load sets : ℕ) → Type 0
-Judged file number place cut interval hyper load sets =
-    Call (verdict-checks file) number place (Admitted (fileTable file) cut interval hyper load sets)
+abbrev pub Judged : (a : Ask) (number place cut interval hyper load sets : ℕ) → Type 0
+Judged a number place cut interval hyper load sets =
+    Call (a .checks) number place (Admitted (a .table) cut interval hyper load sets)
     ((cut ≡ 0) × (interval ≡ 0) × (hyper ≡ 0) × (load ≡ 0) × (sets ≡ 0))
 
 -- Returns the length of the list, and fills a slice with it.
@@ -106,15 +120,6 @@ Listed file was now number place sets =
     Call (sets-checks file (length was)) number place
     ((ws : List ℕ) × Sets (fileTable file) ws × (sets ≡ length ws) × (now ≡ lent ws was))
     ((sets ≡ 0) × (now ≡ was))
-
--- Whole plan, step and standings use the verdict's checks, and then numbers of their own. So they are said of any table with checks
--- before their own.
-pub record Ask : Type 1 where
-  pub checks : List Check
-  pub table : Table
-
-abbrev pub fileAsk : List ℕ → Ask
-fileAsk f = record { checks = verdict-checks f; table = fileTable f }
 
 abbrev pub Planned : (a : Ask) (was now : List ℕ) (number place : ℕ) → Type 0
 Planned a was now number place =

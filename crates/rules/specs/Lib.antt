@@ -6,6 +6,7 @@ pub mod TableFile
 pub mod Line
 pub mod Ties
 pub mod Loads
+pub mod Parties
 pub mod Interval
 pub mod Planner
 pub mod Refusals

@@ -7,16 +7,17 @@
 use mathlib.Core.Path.{_≡_}
 use mathlib.Core.Logic.{_⊎_, _≢_}
 use mathlib.Core.List.{List, [], _∷_, _++_}
-use Prim.Native.Nat.{ℕ, _+_, _-_, _*_, _≤_, _<_}
+use Prim.Native.Nat.{ℕ, suc, _+_, _-_, _*_, _≤_, _<_}
 use lib.Dec.{T}
 use lib.ListN.{length}
 use Rattle.numbers.specs.Lists.{each}
 use Rattle.rules.specs.Bounds.{max-elements, max-rows, max-slots}
 use Rattle.rules.specs.Bus.{Table, Labelled, through, pasted}
 use Rattle.rules.specs.TableFile.{table-mark, version-1, version-2, headerSize, rowSize, rowNumbers, mark, version, fileTable}
-use Rattle.rules.specs.TableFile.{memoryTable, memoryLabelled}
+use Rattle.rules.specs.TableFile.{fileLabelled, memoryTable, memoryLabelled}
 use Rattle.rules.specs.Line.{setAt, Sets}
 use Rattle.rules.specs.Loads.{hyperperiod, start, end, light, over}
+use Rattle.rules.specs.Parties.{max-limit, ours, theirs, own, overLimit}
 use Rattle.rules.specs.Planner.{Stage, due, finished, Planner, Off}
 
 pub record Check : Type 1 where
@@ -117,6 +118,14 @@ pasted-row t i = refuse 18 i (T (pasted t i))
 abbrev pub lost-label : ℕ → Labelled → ℕ → Check
 lost-label v t i = refuse 20 i ((v ≡ version-1) × (t .label i ≢ 0))
 
+-- a party's own table is over its limit on a segment (#108): 21 of our rows, 22 of the second maker's
+abbrev pub over-limit : ℕ → Table → (limit s : ℕ) → Check
+over-limit number t limit s = refuse number s (T (overLimit t limit s))
+
+-- a limit is above 1,000 thousandths (#108)
+abbrev pub wrong-limit : (our their : ℕ) → Check
+wrong-limit our their = refuse 23 0 ((max-limit < our) ⊎ (max-limit < their))
+
 -- a row that is asked for is past the last (#102); the place is 0 for the first of the two rows, 1 for the second
 abbrev pub no-row : Table → (place i : ℕ) → Check
 no-row t place i = refuse 32 place (t .rows ≤ i)
@@ -164,6 +173,14 @@ line-checks t = no-cut t ∷ long-hyperperiod t ∷ []
 unfoldable pub bound-checks : Table → List Check
 bound-checks t = each (t .rows) (λ i. light-row t i ∷ []) ++ each (t .rows) (λ k. over-bound t k ∷ [])
 
+-- 21 or 22: the lowest segment is the place
+unfoldable pub segment-checks : ℕ → Table → ℕ → List Check
+segment-checks number t limit = each (t .elements) (λ s. over-limit number t limit (suc s) ∷ [])
+
+-- 21 for all segments, then 22
+unfoldable pub limit-checks : Labelled → (our their : ℕ) → List Check
+limit-checks t our their = segment-checks 21 (own ours t) our ++ segment-checks 22 (own theirs t) their
+
 -- the reader uses 1 to 9, then 17
 unfoldable pub reader-checks : List ℕ → ℕ → List Check
 reader-checks f room = file-checks f ++ (short-output (room < rowNumbers * fileTable f .rows) ∷ [])
@@ -195,6 +212,12 @@ shared-checks f i j = file-checks f ++ (no-row (fileTable f) 0 i ∷ no-row (fil
 -- the verdict 1 to 9, 18, 10 to 14
 unfoldable pub verdict-checks : List ℕ → List Check
 verdict-checks f = given-checks f ++ line-checks (fileTable f) ++ bound-checks (fileTable f)
+
+-- the verdict with limits 23, then 1 to 9, 18, 10, 11, 21, 22, 13, 14 (#108)
+unfoldable pub limited-checks : List ℕ → (our their : ℕ) → List Check
+limited-checks f our their =
+    let t : Table = fileTable f in
+    wrong-limit our their ∷ (given-checks f ++ (line-checks t ++ (limit-checks (fileLabelled f) our their ++ bound-checks t)))
 
 -- the list of sets 1 to 9, 18, 10 and 11, then 17
 unfoldable pub sets-checks : List ℕ → ℕ → List Check

@@ -9,14 +9,18 @@ use Rattle.rules.specs.TableFile.{fileTable}
 use Rattle.rules.specs.Line.{Sets}
 use Rattle.rules.specs.Loads.{hyperperiod}
 use Rattle.rules.specs.Refusals.{Check, Answers, short-output, bound-checks, verdict-checks, sets-checks}
-use Rattle.rules.specs.Calls.{lent, c-answer, fileAsk}
+use Rattle.rules.specs.Calls.{lent, c-answer, Ask, fileAsk, limitedAsk}
 use Rattle.rules.proofs.Answers.{None, none-left, passed, done, joined, answered, answers-only}
 use Rattle.outline.specs.Outlined.{outline-checks}
 use Rattle.outline.proofs.Outlined.{outline-list-only}
+use Rattle.table.specs.declared.Answer.{Answer}
+use Rattle.promises.specs.Demands.{Carries}
+use Rattle.planner.specs.Proper.{Proper}
 use Rattle.planner.proofs.Asks.{file-proper}
 use Rattle.planner.proofs.Promises.{carried}
-use Rattle.supervisor.specs.ToC.{Valued, ValuesToC}
-use Rattle.supervisor.specs.Boundary.{Carried-to-C, Values-are, Carried-by-value, Listed-by-value, Boundary}
+use Rattle.limited_plan.proofs.Promises.{limited-proper, same-plan}
+use Rattle.supervisor.specs.ToC.{VerdictToC, Valued, ValuesToC, PlanToC}
+use Rattle.supervisor.specs.Boundary.{Carried-to-C, Limited-to-C, Values-are, Carried-by-value, Listed-by-value, Boundary}
 use Rattle.supervisor.proofs.Values.{values-none}
 
 -- an answer of 0 has number 0 and place 0
@@ -29,13 +33,31 @@ place-zero r n p e z = omega arith
 one-zero : (r n p : ℕ) → r ≡ c-answer n p → n ≡ 0 → p ≡ 0 → r ≡ 0
 one-zero r n p e z q = omega arith
 
+-- of any proper ask, with limits or without
+module _ (a : Ask) (N : Proper a) (was now : List ℕ) (r s : ℕ) (A : VerdictToC a r) (P : PlanToC a was now s) (z : r ≡ 0)
+    (room : hyperperiod (a .table) ≤ length was) where
+  n-zero : A .number ≡ 0
+  n-zero = number-zero r (A .number) (A .place) (A .as-one) z
+
+  planned-by : (P .answer .number ≡ 0) × (P .answer .place ≡ 0) × ((ws : List ℕ) × Carries (a .table) ws × (now ≡ lent ws was))
+  planned-by =
+      let place = place-zero r (A .number) (A .place) (A .as-one) z in
+      carried a (P .answer) was now N (P .planned) (rw (n-zero, place) at (A .answers)) room
+
+  carried-by : (s ≡ 0) × ((ws : List ℕ) × Carries (a .table) ws × (now ≡ lent ws was))
+  carried-by = (one-zero s _ _ (P .as-one) (planned-by .0) (planned-by .1), planned-by .2)
+
 pub carried-to-c : Carried-to-C
-carried-to-c f was now r s A P z room =
-    let n = number-zero r (A .number) (A .place) (A .as-one) z in
-    let p = place-zero r (A .number) (A .place) (A .as-one) z in
-    let a : Answers (verdict-checks f) 0 0 = rw (n, p) at (A .answers) in
-    let w = carried (fileAsk f) (P .answer) was now (file-proper f) (P .planned) a room in
-    (one-zero s _ _ (P .as-one) (w .0) (w .1), w .2)
+carried-to-c f was now r s A P z room = carried-by (fileAsk f) (file-proper f) was now r s A P z room
+
+pub limited-to-c : Limited-to-C
+limited-to-c f was now then our their r s q A P Q z room =
+    let a = limitedAsk f our their in
+    let w = planned-by a (limited-proper f our their) was now r s A P z room in
+    let e = same-plan f our their (P .answer) (Q .answer) was now then (P .planned) (Q .planned) (w .0) in
+    let number : Q .answer .number ≡ 0 = sym (ap (λ (b : Answer). b .number) (e .0)) ∙ w .0 in
+    let place : Q .answer .place ≡ 0 = sym (ap (λ (b : Answer). b .place) (e .0)) ∙ w .1 in
+    (carried-by a (limited-proper f our their) was now r s A P z room, one-zero q _ _ (Q .as-one) number place, sym (e .1))
 
 -- ---- with the values
 
@@ -97,6 +119,7 @@ listed-by-value f was now list list′ r s A S z room =
 pub boundary : Boundary
 boundary = record {
   carried = carried-to-c;
+  limited = limited-to-c;
   values-are = values-are;
   carried-by-value = carried-by-value;
   listed-by-value = listed-by-value;

@@ -1,11 +1,11 @@
--- Only one answer to C fits a file, and the memory lent beside it.
+-- Only one answer to C fits a file, or an ask, and the memory lent beside it.
 use mathlib.Core.Path.{_≡_, refl, sym, ap, ap₂, _∙_}
 use mathlib.Core.List.{List}
 use Prim.Native.Nat.{ℕ}
 use native.Mathlib.Decide.{ℕ-discrete}
 use lib.ListN.{length}
 use Rattle.rules.specs.Refusals.{shared-checks, verdict-checks}
-use Rattle.rules.specs.Calls.{lent, c-answer, fileAsk}
+use Rattle.rules.specs.Calls.{lent, c-answer, Ask}
 use Rattle.rules.proofs.Answers.{None, answered, answers-only}
 use Rattle.table.specs.declared.Answer.{Answer}
 use Rattle.outline.proofs.Listed.{listed-only}
@@ -17,9 +17,9 @@ use Rattle.planner.proofs.Only.{plan-only}
 use Rattle.supervisor.specs.ToC.{VerdictToC, values, values-checks, Valued, ValuesToC, SharedToC, SetsToC, PlanToC}
 use Rattle.supervisor.proofs.Values.{values-none}
 
-pub verdict-to-c-only : (f : List ℕ) (r s : ℕ) → VerdictToC f r → VerdictToC f s → r ≡ s
-verdict-to-c-only f r s A B =
-    let e = answers-only (verdict-checks f) (A .number) (B .number) (A .place) (B .place) (A .answers) (B .answers) in
+pub verdict-to-c-only : (a : Ask) (r s : ℕ) → VerdictToC a r → VerdictToC a s → r ≡ s
+verdict-to-c-only a r s A B =
+    let e = answers-only (a .checks) (A .number) (B .number) (A .place) (B .place) (A .answers) (B .answers) in
     A .as-one ∙ ap₂ c-answer (e .0) (e .1) ∙ sym (B .as-one)
 
 -- values as the verdict that gives them
@@ -69,7 +69,7 @@ sets-to-c-only f was now then r s A B =
     let e = listed-only f was now then _ _ _ _ _ _ (A .listed) (B .listed) in
     (A .as-one ∙ ap₂ c-answer (e .1) (e .2) ∙ sym (B .as-one), e .0)
 
-pub plan-to-c-only : (f was now then : List ℕ) (r s : ℕ) → PlanToC f was now r → PlanToC f was then s → (r ≡ s) × (now ≡ then)
-plan-to-c-only f was now then r s A B =
-    let e = plan-only (fileAsk f) (A .answer) (B .answer) was now then (A .planned) (B .planned) in
+pub plan-to-c-only : (a : Ask) (was now then : List ℕ) (r s : ℕ) → PlanToC a was now r → PlanToC a was then s → (r ≡ s) × (now ≡ then)
+plan-to-c-only a was now then r s A B =
+    let e = plan-only a (A .answer) (B .answer) was now then (A .planned) (B .planned) in
     (A .as-one ∙ ap (λ (a : Answer). c-answer (a .number) (a .place)) (e .0) ∙ sym (B .as-one), e .1)

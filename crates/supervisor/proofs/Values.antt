@@ -48,7 +48,7 @@ module _ (f : List ℕ) where
         → Call (values-checks f (length was)) (numberOf v) (placeOf v) (Valued f was was) (was ≡ was)
     unfolding values-checks
     values-refused v r X e =
-        let h : numberOf v ≢ 0 = rw e (refused-number f r (rw e at X)) in
+        let h : numberOf v ≢ 0 = rw e (refused-number r (rw e at X)) in
         record {
           answers = stopped (verdict-checks f) (no-room (length was) ∷ []) (numberOf v) (placeOf v) h (X .answers);
           done = λ z. absurd (h z);

@@ -2,6 +2,7 @@
 --
 --   Carried f was now r   a plan of file f was answered with r, and r is 0 and its words carry the table
 --   Carried-to-C          where ring_verdict answers 0 and there is room for h words, so is every plan
+--   Limited-to-C          the same with limits, and the words are those without
 --   Values-are            where ring_values answers 0, so does ring_verdict, and the fourth value is h
 --   Carried-by-value      the first again, with the fourth value for h
 --   Listed-by-value       the list of sets, with room for as many as the sixth value says
@@ -13,7 +14,7 @@ use Rattle.numbers.specs.Lists.{at}
 use Rattle.rules.specs.TableFile.{fileTable}
 use Rattle.rules.specs.Line.{Sets}
 use Rattle.rules.specs.Loads.{hyperperiod}
-use Rattle.rules.specs.Calls.{lent}
+use Rattle.rules.specs.Calls.{lent, fileAsk, limitedAsk}
 use Rattle.promises.specs.Demands.{Carries}
 use Rattle.supervisor.specs.ToC.{VerdictToC, ValuesToC, SetsToC, PlanToC}
 
@@ -23,17 +24,24 @@ Carried f was now r = (r ≡ 0) × ((ws : List ℕ) × Carries (fileTable f) ws 
 
 -- If ring_verdict answers 0 and there is room for h words, ring_plan answers 0 and the words carry the table.
 abbrev pub Carried-to-C : Type 0
-Carried-to-C = (f was now : List ℕ) (r s : ℕ) → VerdictToC f r → PlanToC f was now s → r ≡ 0 → hyperperiod (fileTable f) ≤ length was
-    → Carried f was now s
+Carried-to-C = (f was now : List ℕ) (r s : ℕ) → VerdictToC (fileAsk f) r → PlanToC (fileAsk f) was now s → r ≡ 0
+    → hyperperiod (fileTable f) ≤ length was → Carried f was now s
+
+-- If ring_verdict_limited answers 0 and there is room for h words, ring_plan_limited answers 0 and the words carry the table; ring_plan
+-- answers 0 then too, and writes the same words (#108).
+abbrev pub Limited-to-C : Type 0
+Limited-to-C = (f was now then : List ℕ) (our their r s q : ℕ) → VerdictToC (limitedAsk f our their) r
+    → PlanToC (limitedAsk f our their) was now s → PlanToC (fileAsk f) was then q → r ≡ 0 → hyperperiod (fileTable f) ≤ length was
+    → Carried f was now s × (q ≡ 0) × (then ≡ now)
 
 -- ring_values answers 0 only for a table that ring_verdict admits, and the fourth value is then h.
 abbrev pub Values-are : Type 0
-Values-are = (f was now : List ℕ) (r s : ℕ) → ValuesToC f was now r → VerdictToC f s → r ≡ 0
+Values-are = (f was now : List ℕ) (r s : ℕ) → ValuesToC f was now r → VerdictToC (fileAsk f) s → r ≡ 0
     → (s ≡ 0) × (at now 3 ≡ hyperperiod (fileTable f))
 
 -- So with as many words as the fourth value says, ring_plan answers 0 and the words carry the table.
 abbrev pub Carried-by-value : Type 0
-Carried-by-value = (f was now plan plan′ : List ℕ) (r s : ℕ) → ValuesToC f was now r → PlanToC f plan plan′ s → r ≡ 0
+Carried-by-value = (f was now plan plan′ : List ℕ) (r s : ℕ) → ValuesToC f was now r → PlanToC (fileAsk f) plan plan′ s → r ≡ 0
     → at now 3 ≤ length plan → Carried f plan plan′ s
 
 -- With as many words as the sixth value says, ring_sets answers 0 and writes the list of sets.
@@ -43,6 +51,7 @@ Listed-by-value = (f was now list list′ : List ℕ) (r s : ℕ) → ValuesToC 
 
 pub record Boundary : Type 0 where
   pub carried : Carried-to-C
+  pub limited : Limited-to-C
   pub values-are : Values-are
   pub carried-by-value : Carried-by-value
   pub listed-by-value : Listed-by-value

@@ -1,13 +1,15 @@
 -- What the functions for C answer: number and place of the verdict, its values, shared segments, the list of sets and the whole plan, as
 -- one number.
 --
---   VerdictToC f r            r is the verdict on file f
+--   VerdictToC a r            r is the verdict on ask a
 --   values c i h l s          the values of an admitted table in the order in which C gets them
 --   values-checks f room      the checks of the values: the verdict's, then 17
 --   ValuesToC f was now r     r answers for the values of file f's table, and a slice that held `was` now holds `now`
 --   SharedToC f i j was now r   r answers for the segments that rows i and j share, and a number that was `was` is now `now`
 --   SetsToC f was now r       r answers for the list of its sets
---   PlanToC f was now r       r answers for its whole plan
+--   PlanToC a was now r       r answers for the whole plan of ask a
+--
+-- Verdict and whole plan have forms with limits (#108), so they are said of an ask.
 use mathlib.Core.Path.{_≡_}
 use mathlib.Core.List.{List, [], _∷_, _++_}
 use Prim.Native.Nat.{ℕ, _<_}
@@ -15,14 +17,14 @@ use lib.ListN.{length}
 use Rattle.rules.specs.TableFile.{fileTable}
 use Rattle.rules.specs.Bus.{shared}
 use Rattle.rules.specs.Refusals.{Check, Answers, short-output, shared-checks, verdict-checks}
-use Rattle.rules.specs.Calls.{Call, lent, Admitted, Listed, fileAsk, c-answer}
+use Rattle.rules.specs.Calls.{Call, lent, Ask, Admitted, Listed, c-answer}
 use Rattle.table.specs.declared.Answer.{Answer}
 use Rattle.planner.specs.Answers.{PlanAnswer}
 
-pub record VerdictToC (f : List ℕ) (r : ℕ) : Type 0 where
+pub record VerdictToC (a : Ask) (r : ℕ) : Type 0 where
   pub number : ℕ
   pub place : ℕ
-  pub answers : Answers (verdict-checks f) number place
+  pub answers : Answers (a .checks) number place
   pub as-one : r ≡ c-answer number place
 
 -- ---- the values of an admitted table
@@ -70,7 +72,7 @@ pub record SetsToC (f was now : List ℕ) (r : ℕ) : Type 0 where
   pub listed : Listed f was now number place sets
   pub as-one : r ≡ c-answer number place
 
-pub record PlanToC (f was now : List ℕ) (r : ℕ) : Type 0 where
+pub record PlanToC (a : Ask) (was now : List ℕ) (r : ℕ) : Type 0 where
   pub answer : Answer
-  pub planned : PlanAnswer (fileAsk f) answer was now
+  pub planned : PlanAnswer a answer was now
   pub as-one : r ≡ c-answer (answer .number) (answer .place)

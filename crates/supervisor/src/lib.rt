@@ -1,12 +1,13 @@
-// The functions for the supervisor, a C program: verdict, its values, shared segments, list of sets and whole plan, each answering
-// 256 × number + place (include/ringplan.h).
+// The functions for the supervisor, a C program: verdict, its values, shared segments, list of sets and whole plan, and verdict and whole
+// plan with limits, each answering 256 × number + place (include/ringplan.h).
+use limits::Limits;
 use table::Answer;
 use verdict::Verdict;
 ghost use mathlib.Core.Path.{_≡_};
 ghost use Prim.Native.Nat.{_≤_};
 ghost use lib.ListN.{length};
 ghost use Rattle.rules.specs.Refusals.{last-number};
-ghost use Rattle.rules.specs.Calls.{lent, c-answer};
+ghost use Rattle.rules.specs.Calls.{lent, fileAsk, limitedAsk, c-answer};
 ghost use Rattle.supervisor.specs.ToC.{VerdictToC, values, value-count, ValuesToC, SharedToC, SetsToC, PlanToC};
 
 // Number and place as one number.
@@ -20,7 +21,7 @@ fn joined(number: u32, place: u32) -> u32
 // Whether the bus can carry the table of a file.
 #[no_mangle]
 pub extern "C" fn ring_verdict(file: &[u8]) -> u32
-    ensures { λ r. ⌜ VerdictToC (now (file .entry)) r ⌝ }
+    ensures { λ r. ⌜ VerdictToC (fileAsk (now (file .entry))) r ⌝ }
 {
     let answer = verdict::judge(file);
     joined(answer.number(), answer.place())
@@ -95,7 +96,7 @@ pub extern "C" fn ring_sets(file: &[u8], sets: &mut [u64]) -> u32
 // Fills the whole plan of an admitted table.
 #[no_mangle]
 pub extern "C" fn ring_plan(file: &[u8], plan: &mut [u64]) -> u32
-    ensures { λ r. ⌜ PlanToC (now (file .entry)) (now (plan .entry)) (now (plan .exit)) r ⌝ }
+    ensures { λ r. ⌜ PlanToC (fileAsk (now (file .entry))) (now (plan .entry)) (now (plan .exit)) r ⌝ }
 {
     let answer = planner::whole_plan(file, plan);
     joined(answer.number, answer.place)
@@ -104,8 +105,36 @@ pub extern "C" fn ring_plan(file: &[u8], plan: &mut [u64]) -> u32
 // Fills it by the plain planner (#114): the same words.
 #[no_mangle]
 pub extern "C" fn ring_plain_plan(file: &[u8], plan: &mut [u64]) -> u32
-    ensures { λ r. ⌜ PlanToC (now (file .entry)) (now (plan .entry)) (now (plan .exit)) r ⌝ }
+    ensures { λ r. ⌜ PlanToC (fileAsk (now (file .entry))) (now (plan .entry)) (now (plan .exit)) r ⌝ }
 {
     let found = planner::plain_plan(file, plan);
     joined(found.number, found.place)
+}
+
+// ---- with limits of two parties (#108)
+
+// Whether the bus can carry the table of a file within limits.
+#[no_mangle]
+pub extern "C" fn ring_verdict_limited(file: &[u8], ours: u32, theirs: u32) -> u32
+    ensures { λ r. ⌜ VerdictToC (limitedAsk (now (file .entry)) ours theirs) r ⌝ }
+{
+    let limits = Limits {
+        ours: ours,
+        theirs: theirs,
+    };
+    let verdict = limited::judge(file, limits);
+    joined(verdict.number(), verdict.place())
+}
+
+// Fills the whole plan of a table that is admitted within limits.
+#[no_mangle]
+pub extern "C" fn ring_plan_limited(file: &[u8], ours: u32, theirs: u32, plan: &mut [u64]) -> u32
+    ensures { λ r. ⌜ PlanToC (limitedAsk (now (file .entry)) ours theirs) (now (plan .entry)) (now (plan .exit)) r ⌝ }
+{
+    let limits = Limits {
+        ours: ours,
+        theirs: theirs,
+    };
+    let planned = limited_plan::whole_plan(file, limits, plan);
+    joined(planned.number, planned.place)
 }

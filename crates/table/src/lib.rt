@@ -157,6 +157,12 @@ impl Answer {
 
     pub const LOST_LABEL: u32 = 20;
 
+    pub const OUR_LIMIT: u32 = 21;
+
+    pub const THEIR_LIMIT: u32 = 22;
+
+    pub const WRONG_LIMIT: u32 = 23;
+
     pub const NO_ROW: u32 = 32;
 
     pub fn done() -> Answer

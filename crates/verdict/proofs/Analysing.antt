@@ -1,18 +1,17 @@
 -- The analysis of each outcome, and that only one fits a file.
 use mathlib.Core.Path.{_≡_, refl, sym, ap, _∙_}
 use mathlib.Core.Logic.{_≢_}
-use mathlib.Core.List.{List}
+use mathlib.Core.List.{List, _++_}
 use Prim.Native.Nat.{ℕ}
 use native.Mathlib.Decide.{ℕ-discrete}
 use lib.ListN.{take}
 use Rattle.rules.specs.Bus.{Table}
 use Rattle.rules.specs.TableFile.{fileTable}
-use Rattle.rules.specs.Loads.{rate, reported}
+use Rattle.rules.specs.Loads.{reported}
 use Rattle.rules.specs.Refusals.{Check, Answers, given-checks, line-checks, bound-checks, verdict-checks}
-use Rattle.rules.proofs.Answers.{None, stopped, joined, answered, answers-only}
+use Rattle.rules.proofs.Answers.{None, stopped, joined, answered, answers-only, none-right}
 use Rattle.rules.proofs.Sets.{sets-only}
 use Rattle.table.specs.declared.Answer.{Answer}
-use Rattle.table.specs.Columns.{ByRow}
 use Rattle.table.proofs.ByRow.{by-row-only}
 use Rattle.outline.specs.declared.Outline.{Outline}
 use Rattle.outline.specs.Outlined.{Outlined}
@@ -20,49 +19,59 @@ use Rattle.outline.proofs.Outlined.{answer-only, line-numbered, outlined-none, 
 use Rattle.verdict.specs.declared.Loaded.{Loaded}
 use Rattle.verdict.specs.declared.Analysis.{Analysis}
 use Rattle.verdict.specs.Weighing.{Weighs}
-use Rattle.verdict.specs.Analysed.{table-checks, blank, Analysed}
+use Rattle.verdict.specs.Analysed.{table-checks, blank, Rated, Analysed}
 use Rattle.verdict.proofs.Bound.{table-none, table-admissible, given-stops, given-passes}
 
 -- ---- the analysis of each outcome
 
-analysed-refused : {cs : List Check} {t : Table} (r : Answer) → r .number ≢ 0 → Answers cs (r .number) (r .place) → Analysed cs t (blank r)
+pub analysed-refused : {cs : List Check} {t : Table} (r : Answer) → r .number ≢ 0 → Answers cs (r .number) (r .place)
+    → Analysed cs t (blank r)
 analysed-refused r h a = record { answers = a; found = λ e. absurd (h e); refused = λ e. refl }
 
-module _ (t : Table) where
-  module _ (o : Outline) (O : Outlined (line-checks t) t o) where
-    -- 10 or 11
-    pub analysed-first : o .answer .number ≢ 0 → Analysed (table-checks t) t (blank (o .answer))
-    analysed-first h =
-        analysed-refused (o .answer) h
-        (stopped (line-checks t) (bound-checks t) (o .answer .number) (o .answer .place) h (O .answers))
+-- past checks of which none applies
+pub analysed-after : (cs ds : List Check) → None cs → {t : Table} {a : Analysis} → Analysed ds t a → Analysed (cs ++ ds) t a
+analysed-after cs ds none {t} {a} A = record {
+  answers = joined cs ds (a .outline .answer .number) (a .outline .answer .place) none (A .answers);
+  found = A .found;
+  refused = A .refused;
+}
 
-    module _ (z : o .answer .number ≡ 0) (w : Loaded) (W : Weighs t w) where
+module _ (t : Table) where
+  -- 10 or 11
+  pub analysed-first : (o : Outline) → Outlined (line-checks t) t o → o .answer .number ≢ 0
+      → Analysed (table-checks t) t (blank (o .answer))
+  analysed-first o O h =
+      analysed-refused (o .answer) h
+      (stopped (line-checks t) (bound-checks t) (o .answer .number) (o .answer .place) h (O .answers))
+
+  module _ {o : Outline} {xs : List ℕ} (R : Rated t o xs) where
+    pub line-none : None (line-checks t)
+    line-none = outlined-none (line-numbered t) (R .outlined) (R .passed)
+
+    module _ (w : Loaded) (W : Weighs t w) where
       -- 13 or 14
-      pub analysed-next : w .answer .number ≢ 0 → Analysed (table-checks t) t (blank (w .answer))
-      analysed-next h =
-          analysed-refused (w .answer) h
-          (joined (line-checks t) (bound-checks t) (w .answer .number) (w .answer .place) (outlined-none (line-numbered t) O z)
-          (W .answers))
+      pub analysed-next : w .answer .number ≢ 0 → Analysed (bound-checks t) t (blank (w .answer))
+      analysed-next h = analysed-refused (w .answer) h (W .answers)
 
       -- none
-      pub analysed-done : w .answer .number ≡ 0 → {xs : List ℕ} → ByRow (t .rows) (rate t) xs
-          → Analysed (table-checks t) t (record { outline = o; load = w .load; rate = xs })
-      analysed-done y R =
-          let F = O .found z in
+      pub analysed-done : w .answer .number ≡ 0 → Analysed (bound-checks t) t (record { outline = o; load = w .load; rate = xs })
+      analysed-done y =
+          let O = R .outlined in
+          let F = O .found (R .passed) in
           let s = F .timed .sound in
           let v = W .done y in
-          let none : None (table-checks t) = table-none t (outlined-none (line-numbered t) O z) (w .answer) y (W .answers) in
-          let still = answers-only (line-checks t) 0 0 (o .answer .place) 0 (rw z at (O .answers))
-          (answered (line-checks t) (outlined-none (line-numbered t) O z)) .1 in
+          let none : None (table-checks t) = table-none t line-none (w .answer) y (W .answers) in
+          let still = answers-only (line-checks t) 0 0 (o .answer .place) 0 (rw (R .passed) at (O .answers))
+          (answered (line-checks t) line-none) .1 in
           record {
-            answers = rw (z, still) (answered (table-checks t) none);
+            answers = rw (R .passed, still) (answered (bound-checks t) (none-right (line-checks t) (bound-checks t) none));
             found = λ h. record {
               outline = F;
               admissible = table-admissible t s none;
-              rate = R;
+              rate = R .rate;
               load = v .3 ∙ ap (reported t) (sets-only (s .rows-low) (v .1) (F .list));
             };
-            refused = λ h. absurd (h z);
+            refused = λ h. absurd (h (R .passed));
           }
 
 -- ---- of a file

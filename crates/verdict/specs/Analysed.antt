@@ -1,6 +1,7 @@
 -- A table analysed: its outline, its rows' rates and its reported load, or a refusal.
 --
 --   Accepted t a       a is the analysis of the table t, which is admitted
+--   Rated t o xs       o is the outline of the table t, which 10 and 11 don't refuse, and xs are its rows' rates
 --   blank r            the analysis of a refusal: 0 for all but the answer
 --   table-checks t     10 to 14, in their order
 --   Analysed cs t a    a answers the checks cs, and is what is found of table t where none of them applies
@@ -9,6 +10,7 @@
 use mathlib.Core.Path.{_≡_}
 use mathlib.Core.Logic.{_≢_}
 use mathlib.Core.List.{List, _++_}
+use Prim.Native.Nat.{ℕ}
 use lib.ListN.{take, replicate}
 use Rattle.rules.specs.Bounds.{max-rows}
 use Rattle.rules.specs.Bus.{Table}
@@ -16,7 +18,8 @@ use Rattle.rules.specs.Loads as loads
 use Rattle.rules.specs.Refusals.{Check, Answers, line-checks, bound-checks}
 use Rattle.table.specs.Columns.{ByRow}
 use Rattle.table.specs.declared.Answer.{Answer}
-use Rattle.outline.specs.Outlined.{Found}
+use Rattle.outline.specs.declared.Outline.{Outline}
+use Rattle.outline.specs.Outlined.{Found, Outlined}
 use Rattle.outline.specs.Outlined as outline
 use Rattle.lags.specs.Lags.{Admissible}
 use Rattle.verdict.specs.declared.Analysis.{Analysis}
@@ -26,6 +29,11 @@ pub record Accepted (t : Table) (a : Analysis) : Type 0 where
   pub admissible : Admissible t
   pub rate : ByRow (t .rows) (loads.rate t) (a .rate)
   pub load : a .load ≡ loads.reported t (take (a .outline .sets) (a .outline .words))
+
+pub record Rated (t : Table) (o : Outline) (xs : List ℕ) : Type 0 where
+  pub outlined : Outlined (line-checks t) t o
+  pub passed : o .answer .number ≡ 0
+  pub rate : ByRow (t .rows) (loads.rate t) xs
 
 abbrev pub blank : Answer → Analysis
 blank answer = record { outline = outline.blank answer; load = 0; rate = replicate max-rows 0 }

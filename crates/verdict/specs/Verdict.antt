@@ -4,7 +4,9 @@
 --   cutOf, intervalOf, hyperOf, loadOf, setsOf    cut, L, h, reported load and number of sets; 0 on a refusal
 --   JudgedBy cs t r                               r is the verdict on table t by the checks cs
 --   IsVerdict f r                                 r is the verdict on file f
+--   VerdictOn a r                                 r is the verdict that the analysis a amounts to
 use mathlib.Core.Path.{_≡_}
+use mathlib.Core.Logic.{_≢_}
 use mathlib.Core.List.{List}
 use Prim.Native.Nat.{ℕ}
 use Rattle.rules.specs.Bus.{Table}
@@ -12,6 +14,8 @@ use Rattle.rules.specs.TableFile.{fileTable}
 use Rattle.rules.specs.Refusals.{Check, verdict-checks}
 use Rattle.rules.specs.Calls as calls
 use Rattle.rules.specs.Calls.{Call}
+use Rattle.verdict.specs.declared.Analysis.{Analysis}
+use Rattle.verdict.specs.Analysed.{Accepted}
 use Rattle.verdict.specs.declared.Verdict.{Verdict}
 use Rattle.verdict.specs.declared.Verdict.the-variants.{Admitted, Refused}
 
@@ -50,3 +54,8 @@ JudgedBy cs t r =
 
 abbrev pub IsVerdict : List ℕ → Verdict → Type 0
 IsVerdict f r = JudgedBy (verdict-checks f) (fileTable f) r
+
+pub record VerdictOn (a : Analysis) (r : Verdict) : Type 0 where
+  pub done : a .outline .answer .number ≡ 0 → (t : Table) → Accepted t a
+      → (numberOf r ≡ 0) × (placeOf r ≡ 0) × calls.Admitted t (cutOf r) (intervalOf r) (hyperOf r) (loadOf r) (setsOf r)
+  pub refused : a .outline .answer .number ≢ 0 → r ≡ Refused (a .outline .answer)

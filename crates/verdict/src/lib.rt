@@ -7,13 +7,14 @@ ghost use mathlib.Core.Path.{_≡_};
 ghost use mathlib.Core.List.{List};
 ghost use Prim.Native.Nat.{ℕ, _+_};
 ghost use Rattle.rules.specs.TableFile.{fileTable};
-ghost use Rattle.rules.specs.Refusals.{verdict-checks};
-ghost use Rattle.rules.specs.Calls.{Judged};
+ghost use Rattle.rules.specs.Bus as bus;
+ghost use Rattle.rules.specs.Refusals.{bound-checks, verdict-checks};
+ghost use Rattle.rules.specs.Calls.{fileAsk, Judged};
 ghost use Rattle.table.specs.Sound.{Sound};
 ghost use Rattle.table.specs.Columns.{columnTable};
 ghost use Rattle.verdict.specs.Weighing.{Weighable, Weighs};
-ghost use Rattle.verdict.specs.Analysed.{table-checks, blank, Analysed};
-ghost use Rattle.verdict.specs.Verdict.{numberOf, placeOf, cutOf, intervalOf, hyperOf, loadOf, setsOf, JudgedBy};
+ghost use Rattle.verdict.specs.Analysed.{table-checks, blank, Accepted, Rated, Analysed};
+ghost use Rattle.verdict.specs.Verdict.{numberOf, placeOf, cutOf, intervalOf, hyperOf, loadOf, setsOf, JudgedBy, VerdictOn};
 
 // ---- the analysis
 
@@ -101,6 +102,44 @@ impl Analysis {
     }
 }
 
+// The analysis of a table whose outline and rates are found: 13, then 14.
+pub fn weighed<'a>(
+    elements: usize,
+    rows: usize,
+    cost: &'a [u16; Table::ROWS],
+    period: &'a [u16; Table::ROWS],
+    outline: Outline,
+    rate: [u16; Table::ROWS],
+) -> Analysis
+    requires { ⌜ ((first : List ℕ) × (second : List ℕ)
+        × Rated (columnTable elements rows (now cost) (now period) first second) outline rate) ⌝ }
+    ensures { λ r. ⌜ ((first second : List ℕ)
+        → Rated (columnTable elements rows (now (cost .entry)) (now (period .entry)) first second) outline rate
+        → Analysed
+        (bound-checks (columnTable elements rows (now (cost .entry)) (now (period .entry)) first second))
+        (columnTable elements rows (now (cost .entry)) (now (period .entry)) first second) r) ⌝ }
+{
+    let weighing = weigh(
+        elements,
+        rows,
+        outline.time,
+        cost,
+        period,
+        &outline.first,
+        &outline.second,
+        &rate,
+    );
+    let answer = weighing.answer;
+    if answer.number != Answer::DONE {
+        return Analysis::refused(answer);
+    }
+    Analysis {
+        outline: outline,
+        load: weighing.load,
+        rate: rate,
+    }
+}
+
 // The analysis of a table: 10 and 11 are refused by its outline, then 13, then 14.
 pub fn analysis_of<'a>(
     elements: usize,
@@ -121,27 +160,8 @@ pub fn analysis_of<'a>(
     if answer.number != Answer::DONE {
         return Analysis::refused(answer);
     }
-    let time = outline.time;
-    let rate = weights::rates(rows, time.hyper, cost, period);
-    let weighing = weigh(
-        elements,
-        rows,
-        time,
-        cost,
-        period,
-        &outline.first,
-        &outline.second,
-        &rate,
-    );
-    let next = weighing.answer;
-    if next.number != Answer::DONE {
-        return Analysis::refused(next);
-    }
-    Analysis {
-        outline: outline,
-        load: weighing.load,
-        rate: rate,
-    }
+    let rate = weights::rates(rows, outline.time.hyper, cost, period);
+    weighed(elements, rows, cost, period, outline, rate)
 }
 
 // The analysis of a file's table, or the first refusal of 1 to 9, 18, 10 to 14.
@@ -254,9 +274,28 @@ fn judge_table<'a>(
     }
 }
 
+// The verdict that an analysis amounts to.
+pub fn verdict_of(table: Analysis) -> Verdict
+    requires { ⌜ (table .outline .answer .number ≡ 0 → ((t : bus.Table) × Accepted t table)) ⌝ }
+    ensures { λ r. ⌜ VerdictOn table r ⌝ }
+{
+    let answer = table.outline.answer;
+    if answer.number != Answer::DONE {
+        return Verdict::Refused(answer);
+    }
+    Verdict::Admitted {
+        cut: table.outline.cut as u32,
+        interval: table.outline.time.interval as u32,
+        hyper: table.outline.time.hyper as u32,
+        load: table.load as u32,
+        sets: table.outline.sets as u32,
+    }
+}
+
 // Whether the bus can carry the table of a file.
 pub fn judge(file: &[u8]) -> Verdict
-    ensures { λ r. ⌜ Judged (now (file .entry)) (numberOf r) (placeOf r) (cutOf r) (intervalOf r) (hyperOf r) (loadOf r) (setsOf r) ⌝ }
+    ensures { λ r. ⌜ Judged (fileAsk (now (file .entry))) (numberOf r) (placeOf r)
+        (cutOf r) (intervalOf r) (hyperOf r) (loadOf r) (setsOf r) ⌝ }
 {
     let found = pasted::given(file);
     let answer = found.answer;

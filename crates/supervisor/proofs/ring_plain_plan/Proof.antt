@@ -1,6 +1,6 @@
 -- `supervisor::ring_plain_plan` meets its contract: number and place are the plain plan's, and so small that they fit one number.
 use borrow.Author.Needs.{needs}
-use Rattle.rules.proofs.Small.{plan-small}
+use Rattle.rules.proofs.Small.{verdict-small, plan-small}
 use Rattle.supervisor.proofs.ring_plain_plan.Statement.{statement}
 use Rattle.supervisor.proofs.ring_plain_plan.Tie as tie
 
@@ -8,7 +8,7 @@ plain-plan-requires : tie.Need-plain-plan-requires
 plain-plan-requires c κs = search needs
 
 joined-requires : tie.Need-joined-requires
-joined-requires c κs = plan-small _ _ _ _ (c .before .before .plain-plan .ensures .planned .answers)
+joined-requires c κs = plan-small _ _ _ _ _ (verdict-small _ _ _) (c .before .before .plain-plan .ensures .planned .answers)
 
 same-length : tie.Need-same-length
 same-length c = search needs

@@ -1,0 +1,95 @@
+// The verdict with a limit for each of two parties (#108): 23 before all else, and 21 and 22 between the outline's refusals and those of
+// the bound.
+use limits::Limits;
+use table::Answer;
+use table::Table;
+use verdict::Analysis;
+use verdict::Verdict;
+ghost use mathlib.Core.Path.{_≡_};
+ghost use mathlib.Core.Bool.{_||_};
+ghost use Prim.Native.Nat.{_≤_};
+ghost use lib.Dec.{ltb};
+ghost use Rattle.rules.specs.Parties.{max-limit};
+ghost use Rattle.rules.specs.TableFile.{fileTable};
+ghost use Rattle.rules.specs.Refusals.{limited-checks};
+ghost use Rattle.rules.specs.Calls.{limitedAsk, Judged};
+ghost use Rattle.table.specs.Sound.{Sound};
+ghost use Rattle.table.specs.Columns.{columnTable};
+ghost use Rattle.limits.specs.Limits.{labelled};
+ghost use Rattle.verdict.specs.Analysed.{blank, Analysed};
+ghost use Rattle.verdict.specs.Verdict.{numberOf, placeOf, cutOf, intervalOf, hyperOf, loadOf, setsOf};
+ghost use Rattle.limited.specs.Limited.{within-checks};
+
+// The analysis of a table with labels: 10 and 11, then 21 and 22, then 13 and 14.
+fn analysis_within<'a>(
+    elements: usize,
+    rows: usize,
+    cost: &'a [u16; Table::ROWS],
+    period: &'a [u16; Table::ROWS],
+    first: &'a [u8; Table::ROWS],
+    second: &'a [u8; Table::ROWS],
+    label: &'a [u16; Table::ROWS],
+    limits: Limits,
+) -> Analysis
+    requires { ⌜ Sound (columnTable elements rows (now cost) (now period) (now first) (now second))
+        × (limits .ours ≤ max-limit) × (limits .theirs ≤ max-limit) ⌝ }
+    ensures { λ r. ⌜ Analysed
+        (within-checks
+        (labelled (columnTable elements rows (now (cost .entry)) (now (period .entry)) (now (first .entry)) (now (second .entry)))
+        (now (label .entry)))
+        (limits .ours) (limits .theirs))
+        (columnTable elements rows (now (cost .entry)) (now (period .entry)) (now (first .entry)) (now (second .entry))) r ⌝ }
+{
+    let outline = outline::outline_of(elements, rows, period, first, second);
+    let answer = outline.answer;
+    if answer.number != Answer::DONE {
+        return Analysis::refused(answer);
+    }
+    let hyper = outline.time.hyper;
+    let rate = weights::rates(rows, hyper, cost, period);
+    let segments = ring::lay_segments(elements, rows, first, second);
+    let kept = limits::kept_within(elements, rows, hyper, &rate, &segments, label, limits);
+    if kept.number != Answer::DONE {
+        return Analysis::refused(kept);
+    }
+    verdict::weighed(elements, rows, cost, period, outline, rate)
+}
+
+// A limit is above 1,000 thousandths.
+fn are_wrong(limits: Limits) -> bool
+    ensures { λ r. ⌜ r ≡ (ltb max-limit (limits .ours) || ltb max-limit (limits .theirs)) ⌝ }
+{
+    limits.ours > Limits::MOST || limits.theirs > Limits::MOST
+}
+
+// The analysis of a file's table within limits, or the first refusal.
+pub fn analyse(file: &[u8], limits: Limits) -> Analysis
+    ensures { λ r. ⌜ Analysed (limited-checks (now (file .entry)) (limits .ours) (limits .theirs)) (fileTable (now (file .entry))) r ⌝ }
+{
+    if are_wrong(limits) {
+        return Analysis::refused(Answer::at(Answer::WRONG_LIMIT, 0));
+    }
+    let found = pasted::given(file);
+    let answer = found.answer;
+    if answer.number != Answer::DONE {
+        return Analysis::refused(answer);
+    }
+    analysis_within(
+        found.columns.elements,
+        found.columns.rows,
+        &found.columns.cost,
+        &found.columns.period,
+        &found.columns.first,
+        &found.columns.second,
+        &found.labels,
+        limits,
+    )
+}
+
+// Whether the bus can carry the table of a file within limits.
+pub fn judge(file: &[u8], limits: Limits) -> Verdict
+    ensures { λ r. ⌜ Judged (limitedAsk (now (file .entry)) (limits .ours) (limits .theirs)) (numberOf r) (placeOf r)
+        (cutOf r) (intervalOf r) (hyperOf r) (loadOf r) (setsOf r) ⌝ }
+{
+    verdict::verdict_of(analyse(file, limits))
+}

@@ -1,0 +1,3 @@
+pub mod Own
+pub mod Weighing
+pub mod Within
