@@ -1,0 +1,3 @@
+pub mod Costs
+pub mod Asked
+pub mod Writing
