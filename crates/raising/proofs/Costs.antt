@@ -51,7 +51,7 @@ unfolding light shortest someInterval nextEnd jobEnd hyperperiod equalPeriods
 light-priced t i c =
     ap (λ (b : Bool). not (equalPeriods t) && ltb (cond b c (t .cost i) * shortest t) (t .period i)) (is-true (eqb i i) (eqb-of i i refl))
 
-heavy-stays : (t : Table) (i : ℕ) → (T (light t i) → ⊥) → raisedCost t i ≡ t .cost i
+pub heavy-stays : (t : Table) (i : ℕ) → (T (light t i) → ⊥) → raisedCost t i ≡ t .cost i
 unfolding raisedCost
 heavy-stays t i h = ap (λ (b : Bool). cond b (leastCost t i) (t .cost i)) (is-false (light t i) h)
 

@@ -73,7 +73,7 @@ module _ (f : List ℕ) where
   raise-refused was a h = call-refused (before-13 f) (length was < length f) a h refl
 
   module _ (none : None (before-13 f)) where
-    file-none : None (file-checks f)
+    pub file-none : None (file-checks f)
     unfolding given-checks
     file-none = none-left (file-checks f) (pasted-checks (given .table)) (none-left (given-checks f) (line-checks (given .table)) none)
 

@@ -1,13 +1,14 @@
--- What raising light rows promises (#111), and what is found of a file's table. `proofs/Costs.antt` and `proofs/Data.antt` prove `Raise-raises` and
--- `Data-arrives`.
+-- What raising light rows promises (#111), and what is found of a file's table. The promises are statements only; `proofs/Costs.antt`,
+-- `proofs/Result.antt` and `proofs/Data.antt` prove `Raise-raises`, `Raised-verdict` and `Data-arrives`.
 --
 --   unraised a         answer a beside no table and no costs
 --   RaisedBeside f r   r answers the refusals before 13, and holds the file's table and its raised costs where none of them applies
 --   Raises t           what raising the rows of table t does
+--   Raised-verdict     what the verdict on the raised file can be
 --   carries ws i a c s in the plan ws, row i's slot a + s carries data: it is among the first c of the row's slots from slot a on
 --   Data-arrives       of every raised table that is admitted: each job's data moves before its deadline
 use mathlib.Core.Path.{_≡_}
-use mathlib.Core.Logic.{_≢_}
+use mathlib.Core.Logic.{_⊎_, _≢_}
 use mathlib.Core.Bool.{Bool, _&&_}
 use mathlib.Core.List.{List}
 use Prim.Native.Nat.{ℕ, _+_, _*_, _≤_, _<_}
@@ -19,7 +20,8 @@ use Rattle.rules.specs.Bus.{Table}
 use Rattle.rules.specs.TableFile.{fileTable, fileLabelled}
 use Rattle.rules.specs.Loads.{hyperperiod, shortest, equalPeriods, light}
 use Rattle.rules.specs.Planner.{WholePlan}
-use Rattle.rules.specs.Raising.{priced, raisedCost, raised, before-13}
+use Rattle.rules.specs.Refusals.{Answers, verdict-checks}
+use Rattle.rules.specs.Raising.{priced, raisedCost, raised, raisedLabelled, raisedFile, before-13}
 use Rattle.table.specs.Sound.{Sound}
 use Rattle.table.specs.Columns.{ByRow}
 use Rattle.table.specs.declared.Answer.{Answer}
@@ -53,6 +55,13 @@ pub record Raises (t : Table) : Type 0 where
 
 abbrev pub Raise-raises : Type 0
 Raise-raises = (t : Table) → Sound t → Raises t
+
+-- Where nothing before 13 is refused of a file, the raised file holds the raised table, and all that can be refused of it is 14.
+abbrev pub Raised-verdict : Type 0
+Raised-verdict =
+    (f : List ℕ) → Answers (before-13 f) 0 0
+    → (fileLabelled (raisedFile f) ≡ raisedLabelled (fileLabelled f))
+    × ((number place : ℕ) → Answers (verdict-checks (raisedFile f)) number place → (number ≡ 0) ⊎ (number ≡ 14))
 
 abbrev pub carries : List ℕ → (i a c s : ℕ) → Bool
 carries ws i a c s = endless ws i (a + s) && ltb (moved ws i a (a + s)) c
