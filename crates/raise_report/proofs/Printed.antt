@@ -41,7 +41,7 @@ use Rattle.raise_report.specs.Printed.{Costs, raisedLines, RaiseRendered
 -- ---- a line more, or none: `was < is`, as the loop tests it
 
 module _ (old new : ℕ → ℕ) (i : ℕ) {was mid : List ℕ} {next : ℕ} (P : PutsLines (raisedLines i old new) i was 0 mid next)
-  (a b : ℕ) (e : a ≡ old i) (g : b ≡ new i) where
+    (a b : ℕ) (e : a ≡ old i) (g : b ≡ new i) where
   line-of : {c : Bool} → ltb a b ≡ c → cond (ltb (old i) (new i)) (raise i (old i) (new i) ∷ []) [] ≡ cond c (raise i a b ∷ []) []
   line-of h = rw (sym e, sym g, h)
 

@@ -1,5 +1,5 @@
-// The functions for the supervisor, a C program: verdict, its values, shared segments, list of sets, whole plan and raised file, and verdict and
-// whole plan with limits, each answering 256 × number + place (include/ringplan.h).
+// The functions for the supervisor, a C program: verdict, its values, shared segments, list of sets, whole plan and raised file, and verdict
+// and whole plan with limits, each answering 256 × number + place (include/ringplan.h).
 use limits::Limits;
 use table::Answer;
 use verdict::Verdict;
