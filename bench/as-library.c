@@ -33,3 +33,7 @@ uint32_t ring_verdict_limited(const uint8_t *file, size_t file_bytes, uint32_t o
 uint32_t ring_plan_limited(const uint8_t *file, size_t file_bytes, uint32_t ours, uint32_t theirs, uint64_t *plan, size_t plan_words) {
     return plain_plan_limited(file, file_bytes, ours, theirs, plan, plan_words);
 }
+
+uint32_t ring_raise(const uint8_t *file, size_t file_bytes, uint8_t *out, size_t room) {
+    return plain_raise(file, file_bytes, out, room);
+}

@@ -326,3 +326,22 @@ uint32_t plain_plan_limited(const uint8_t *file, size_t length, uint32_t ours, u
     uint32_t answer = plain_verdict_limited(file, length, ours, theirs);
     return answer ? answer : plain_plan(file, length, plan, words);
 }
+
+/* ---- light rows raised to the least cost that passes */
+
+uint32_t plain_raise(const uint8_t *file, size_t length, uint8_t *out, size_t room) {
+    struct analysis a;
+    uint32_t answer = analyse(file, length, &a);
+    /* 13 and 14 come after all that raising asks of a table */
+    if (answer && answer / 256 != 13 && answer / 256 != 14) return answer;
+    if (room < length) return refuse(17, 0);
+    memcpy(out, file, length);
+    size_t size = (length - 7) / (size_t)a.rows;
+    for (int i = 0; i < a.rows; i++) {
+        /* where all periods are equal L is as long, and the least is 1 */
+        int64_t least = (a.period[i] + a.interval - 1) / a.interval;
+        uint8_t *r = out + 7 + size * (size_t)i;
+        if (a.cost[i] < least) r[0] = (uint8_t)(least % 256), r[1] = (uint8_t)(least / 256);
+    }
+    return 0;
+}

@@ -17,7 +17,7 @@
 
 /* The version of these functions. The second number grows where something is added, the first where something changes. */
 #define RINGPLAN_VERSION_MAJOR 5
-#define RINGPLAN_VERSION_MINOR 1
+#define RINGPLAN_VERSION_MINOR 2
 
 #ifdef __cplusplus
 extern "C" {
@@ -105,6 +105,12 @@ uint32_t ring_verdict_limited(const uint8_t *file, size_t file_bytes, uint32_t o
 
 /* The whole plan of a table that is admitted within the limits: the very words of ring_plan. Gives 0 to 14, 17, 18 and 21 to 23. */
 uint32_t ring_plan_limited(const uint8_t *file, size_t file_bytes, uint32_t ours, uint32_t theirs, uint64_t *plan, size_t plan_words);
+
+/* The table file with the cost of each row that 13 could name, a light one, raised to the least that passes, and nothing else changed. It
+ * has as many bytes as the file, and its version and labels; a file without a light row comes back as it is. The raised file's verdict is 0
+ * or 14, never 13. In its plan the first slots of each job, as many as the row's old cost, carry the data, all of them before the deadline,
+ * and the rest stay empty. Gives 0 to 11, 17 where `room` is under `file_bytes`, and 18. */
+uint32_t ring_raise(const uint8_t *file, size_t file_bytes, uint8_t *out, size_t room);
 
 #ifdef __cplusplus
 }

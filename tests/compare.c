@@ -1,5 +1,6 @@
 /* Compares the library over the C boundary with the oracle, and its words with those of the two plain C planners, on random tables: good,
- * at the bound, just past it and damaged; with limits of the two parties, and with other rows of one party.
+ * at the bound, just past it and damaged; with limits of the two parties, and with other rows of one party; and what it makes of their
+ * light rows.
  *
  *     compare TABLES SEED          all kinds of tables
  *     compare TABLES SEED routes   tables of many rows with long routes, well loaded: there the choice of loads is hardest
@@ -251,6 +252,7 @@ static void damage(struct file *f) {
 enum { LAST_NUMBER = 32 };
 static unsigned seen[LAST_NUMBER + 1];
 static unsigned long admitted, labelled, slots, exact, uneven, newly, within, alone[2][2];
+static unsigned long raised, raised_labelled, raised_admitted;
 
 static void fail(const struct file *f, const char *what) {
     printf("compare: %s; the table's bytes:\n", what);
@@ -259,10 +261,10 @@ static void fail(const struct file *f, const char *what) {
     exit(1);
 }
 
-/* ---- lent memory. Both buffers end where a page begins that nobody may touch, so a read or write past an end stops the run; what stands
+/* ---- lent memory. All buffers end where a page begins that nobody may touch, so a read or write past an end stops the run; what stands
  * before them and past the part in use is compared. */
 
-static uint8_t *file_end;
+static uint8_t *file_end, *out_end, kept_bytes[GUARD + FILE_ROOM];
 static uint64_t *plan_end, kept[GUARD + MAX_SLOTS];
 
 static void *fenced(size_t bytes) {
@@ -424,6 +426,77 @@ static void compare_alone(const struct file *given, const struct verdict *v) {
     alone[theirs][before[0] != 0]++;
 }
 
+/* ---- light rows raised */
+
+/* Lends `room` bytes for file f, with guard bytes before them; none of them is as it stands in f. */
+static uint8_t *lend_bytes(const struct file *f, size_t room) {
+    uint8_t *out = out_end - room;
+    memset(out - GUARD, 0xa5, GUARD);
+    for (size_t k = 0; k < room; k++) out[k] = (uint8_t)(f->byte[k] ^ 255);
+    memcpy(kept_bytes, out - GUARD, GUARD + room);
+    return out;
+}
+
+/* the bytes from `from` on, and the guard before them all, are as they were */
+static int bytes_unchanged_from(size_t from, const uint8_t *out, size_t room) {
+    return !memcmp(out - GUARD, kept_bytes, GUARD) && !memcmp(out + from, kept_bytes + GUARD + from, room - from);
+}
+
+/* The raised table as such: it is admitted or refused with 14, one slot less in a raised row is refused with 13, and in its plan the first
+ * slots of every job of row i, as many as the cost was, come before its deadline. */
+static void compare_result(const struct file *given, const struct verdict *was, const struct file *result, const struct table *t) {
+    static struct verdict v;
+    static uint64_t plan[MAX_SLOTS];
+    uint8_t *file = file_end - result->length;
+    memcpy(file, result->byte, result->length);
+    oracle_verdict(result->byte, result->length, &v);
+    uint32_t answer = ring_verdict(file, result->length);
+    if (answer != 256 * v.number + v.place) fail(given, "verdicts of the raised table differ");
+    if (v.number && v.number != RING_OVER_BOUND) fail(given, "the raised table is refused, and not with 14");
+    for (unsigned i = 0; i < t->rows; i++) {
+        if (t->row[i].cost == was->table.row[i].cost) continue;
+        struct table less = *t;
+        struct file f;
+        less.row[i].cost--;
+        encode(&less, &f);
+        memcpy(file, f.byte, f.length);
+        if (ring_verdict(file, f.length) != 256 * RING_LIGHT_ROW + i) fail(given, "a cost is raised to more than the least that passes");
+    }
+    raised++;
+    raised_labelled += t->version == 2;
+    if (v.number) return;
+    memcpy(file, result->byte, result->length);
+    if (ring_plan(file, result->length, plan, MAX_SLOTS)) fail(given, "the raised table is admitted and not planned");
+    const char *why = "";
+    if (!oracle_keeps(&v, plan, &why)) fail(given, why);
+    for (unsigned i = 0; i < t->rows; i++)
+        if (!oracle_arrives(&v, plan, i, was->table.row[i].cost)) fail(given, "data of a raised row comes after its deadline");
+    raised_admitted++;
+}
+
+/* The file with its light rows raised, with room for it, for one byte less and for one more. */
+static void compare_raise(const struct file *given, const uint8_t *file, const struct verdict *v) {
+    struct file wanted = *given;
+    struct table t = v->table;
+    unsigned held = v->number == 0 || v->number == 13 || v->number == 14, light = 0;
+    for (unsigned i = 0; held && i < t.rows; i++) {
+        t.row[i].cost = oracle_raised(v, i);
+        light += t.row[i].cost != v->table.row[i].cost;
+    }
+    if (held) encode(&t, &wanted);
+    if (wanted.length != given->length || (v->number == 13) != (light > 0)) fail(given, "the oracle raises the wrong rows");
+    for (size_t room = given->length ? given->length - 1 : 0; room <= given->length + 1; room++) {
+        uint8_t *out = lend_bytes(&wanted, room);
+        uint32_t answer = held ? 0 : 256 * v->number + v->place;
+        if (held && room < given->length) answer = 256 * RING_SHORT_OUTPUT;
+        if (ring_raise(file, given->length, room ? out : NULL, room) != answer) fail(given, "raising is answered wrongly");
+        if (!answer && memcmp(out, wanted.byte, wanted.length)) fail(given, "raised tables differ");
+        if (!bytes_unchanged_from(answer ? 0 : wanted.length, out, room)) fail(given, "raising changed memory that is not its own");
+    }
+    if (memcmp(file, given->byte, given->length)) fail(given, "raising changed the file's own bytes");
+    if (light) compare_result(given, v, &wanted, &t);
+}
+
 static void compare(const struct file *given) {
     static struct verdict v;
     uint8_t *file = file_end - given->length;
@@ -440,6 +513,8 @@ static void compare(const struct file *given) {
     compare_values(given, file, &v);
     compare_sets(given, file, &v);
     compare_shared(given, file, &v);
+    compare_raise(given, file, &v);
+    memcpy(file, given->byte, given->length); /* the raised table stood there */
     unsigned room = v.number ? below(MAX_SLOTS + 1) : v.hyper;
     if (v.number == 0 && below(4) == 0) {
         unsigned few = below(v.hyper);
@@ -503,6 +578,7 @@ static int given_by_some(unsigned n) {
 
 int main(int argc, char **argv) {
     file_end = fenced(FILE_ROOM);
+    out_end = fenced(GUARD + FILE_ROOM);
     plan_end = fenced((GUARD + MAX_SLOTS) * sizeof *plan_end);
     unsigned long tables = argc > 1 ? strtoul(argv[1], NULL, 10) : 20000;
     int routes = argc > 3 && !strcmp(argv[3], "routes");
@@ -511,7 +587,8 @@ int main(int argc, char **argv) {
     if (ring_verdict(NULL, 0) != 256 * RING_SHORT_FILE || ring_plan(NULL, 0, NULL, 0) != 256 * RING_SHORT_FILE
         || ring_verdict_limited(NULL, 0, 0, 1000) != 256 * RING_SHORT_FILE
         || ring_verdict_limited(NULL, 0, 0, 1001) != 256 * RING_WRONG_LIMIT
-        || ring_plan_limited(NULL, 0, 1000, 0, NULL, 0) != 256 * RING_SHORT_FILE) {
+        || ring_plan_limited(NULL, 0, 1000, 0, NULL, 0) != 256 * RING_SHORT_FILE
+        || ring_raise(NULL, 0, NULL, 0) != 256 * RING_SHORT_FILE) {
         printf("compare: a file of no bytes is answered wrongly\n");
         return 1;
     }
@@ -535,8 +612,11 @@ int main(int argc, char **argv) {
         alone[0][1], alone[0][0], alone[1][1], alone[1][0]);
     printf("%lu with intervals of different length, %lu that the greatest common divisor of all periods refuses\n", uneven, newly);
     printf("greedy was not enough in %lu of %lu intervals\n", words_settled, words_intervals);
+    printf("%lu with light rows raised, %lu of them of version 2, %lu admitted then and %lu refused with 14\n", raised, raised_labelled,
+        raised_admitted, raised - raised_admitted);
     if (routes) return 0;
-    if (!labelled || !uneven || !newly || !within || !alone[0][0] || !alone[0][1] || !alone[1][0] || !alone[1][1]) {
+    if (!labelled || !uneven || !newly || !within || !alone[0][0] || !alone[0][1] || !alone[1][0] || !alone[1][1] || !raised_labelled
+        || !raised_admitted || raised == raised_admitted) {
         printf("compare: no such table was seen\n");
         return 1;
     }

@@ -371,3 +371,23 @@ int oracle_keeps(const struct verdict *v, const uint64_t *plan, const char **why
         }
     return 1;
 }
+
+/* ---- light rows raised */
+
+unsigned oracle_raised(const struct verdict *v, unsigned i) {
+    struct row tried = v->table.row[i];
+    int equal = 1;
+    for (unsigned j = 0; j < v->table.rows; j++) equal &= v->table.row[j].period == tried.period;
+    while (light(&tried, v->interval, equal)) tried.cost++;
+    return tried.cost;
+}
+
+int oracle_arrives(const struct verdict *v, const uint64_t *plan, unsigned i, unsigned data) {
+    unsigned h = v->hyper, period = v->table.row[i].period;
+    for (unsigned arrival = 0; arrival < 2 * h; arrival += period) {
+        unsigned left = data;
+        for (unsigned slot = arrival; left && slot < arrival + period; slot++) left -= (unsigned)has(plan[slot % h], i);
+        if (left) return 0;
+    }
+    return 1;
+}

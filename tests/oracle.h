@@ -63,4 +63,10 @@ int oracle_before(const struct verdict *v);
 /* Whether a plan keeps every promise; `why` then says which is broken. */
 int oracle_keeps(const struct verdict *v, const uint64_t *plan, const char **why);
 
+/* The least cost, from its own on, with which row i of a table that has its list of sets is not light. */
+unsigned oracle_raised(const struct verdict *v, unsigned i);
+
+/* Whether in a plan the first `data` slots of each job of row i come before its deadline. */
+int oracle_arrives(const struct verdict *v, const uint64_t *plan, unsigned i, unsigned data);
+
 #endif

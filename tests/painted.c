@@ -9,13 +9,14 @@
 #include <string.h>
 #include <ucontext.h>
 
-enum { ROOM = 1 << 18, MARK = 0xa5, FUNCTIONS = 8 };
+enum { ROOM = 1 << 18, MARK = 0xa5, FUNCTIONS = 9 };
 
-static uint8_t stack[ROOM], file[RING_FILE_BYTES + 1];
+static uint8_t stack[ROOM], file[RING_FILE_BYTES + 1], raised[RING_FILE_BYTES];
 static uint64_t plan[RING_PLAN_SLOTS], sets[RING_MOST_SETS];
 static uint32_t values[RING_VALUES];
 static const char *const names[FUNCTIONS] = {
-    "ring_plan", "ring_plain_plan", "ring_plan_limited", "ring_sets", "ring_shared", "ring_values", "ring_verdict", "ring_verdict_limited"};
+    "ring_plan", "ring_plain_plan", "ring_plan_limited", "ring_raise", "ring_sets", "ring_shared", "ring_values", "ring_verdict",
+    "ring_verdict_limited"};
 static ucontext_t here, there;
 static size_t bytes;
 static unsigned which;
@@ -28,10 +29,11 @@ static void call(void) {
     case 0: ring_plan(file, bytes, plan, RING_PLAN_SLOTS); break;
     case 1: ring_plain_plan(file, bytes, plan, RING_PLAN_SLOTS); break;
     case 2: ring_plan_limited(file, bytes, 1000, 1000, plan, RING_PLAN_SLOTS); break;
-    case 3: ring_sets(file, bytes, sets, RING_MOST_SETS); break;
-    case 4: ring_shared(file, bytes, 0, 0, values); break;
-    case 5: ring_values(file, bytes, values, RING_VALUES); break;
-    case 6: ring_verdict(file, bytes); break;
+    case 3: ring_raise(file, bytes, raised, sizeof raised); break;
+    case 4: ring_sets(file, bytes, sets, RING_MOST_SETS); break;
+    case 5: ring_shared(file, bytes, 0, 0, values); break;
+    case 6: ring_values(file, bytes, values, RING_VALUES); break;
+    case 7: ring_verdict(file, bytes); break;
     default: ring_verdict_limited(file, bytes, 1000, 1000); break;
     }
 }

@@ -1,6 +1,8 @@
 # Why a table is refused, in its own numbers: what was found, what would pass. Reads the file's size, its first bytes and its rows as far as
-# they are there, and then the verdict line. Limits of the two parties, where there are some, are in `ours` and `theirs`.
+# they are there, and then the verdict line; beside 13 also the lines of the program that raises light rows. Limits of the two parties, where
+# there are some, are in `ours` and `theirs`.
 $1 == "bytes" { bytes = $2 }
+$1 == "raise" { least[$2] = $4 }
 $1 == "head" { head = $2 " " $3 " " $4; version = $5 + 256 * $6; said = $8 }
 
 function ends_of(i) {
@@ -61,13 +63,14 @@ function on_hyper(    i, h, list) {
     return "the periods " list " have the least common multiple " h "; at most 4096 passes"
 }
 
-function on_light(    i, l, line) {
+# Each light row, and the tool that raises them.
+function on_light(    i, l, lines) {
     l = shortest()
     for (i = 0; i < rows; i++)
-        if (cost[i] * l < period[i])
-            line = line (line == "" ? "" : "\n") "row " i " costs " plural(cost[i], "slot") " of " period[i] \
-                "; with a shortest interval of " plural(l, "slot") " the least that passes is " int((period[i] + l - 1) / l)
-    return line
+        if (i in least)
+            lines = lines "row " i " costs " plural(cost[i], "slot") " of " period[i] "; with a shortest interval of " plural(l, "slot") \
+                " the least that passes is " least[i] "\n"
+    return lines "./raise TABLE OUT writes the table with " (lines ~ /\n./ ? "these costs" : "this cost")
 }
 
 # What a party's rows ask for of segment s, as a fraction in lowest terms, beside its limit; its sum is over its own periods.

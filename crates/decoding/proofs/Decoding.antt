@@ -1,6 +1,7 @@
 -- A file's table, decoded row by row, and that only one answer fits.
 --
 --   Decoding t i cost period first second    the columns hold the first i rows of t, and 0 in every other place
+--   Blank t i                                all that t has of row i is 0
 use mathlib.Core.Path.{_≡_, refl, sym, ap, _∙_, fun-ext}
 use mathlib.Core.Logic.{_≢_}
 use mathlib.Core.List.{List}
@@ -56,17 +57,32 @@ decoding-next {c = c} {p = p} {f = f} {s = s} D l x y z w = record {
 past-row : {f : List ℕ} {i k : ℕ} → Whole f → fileTable f .rows ≤ i → headerSize + rowSize (version f) * i ≤ k → at f k ≡ 0
 past-row {f} {i} {k} w l h = past-end f k (omega (arith, w .size, mul-le-mul-left (rowSize (version f)) l))
 
+pub record Blank (t : Table) (i : ℕ) : Type 0 where
+  pub cost : t .cost i ≡ 0
+  pub period : t .period i ≡ 0
+  pub first : t .first i ≡ 0
+  pub second : t .second i ≡ 0
+
+pub blank-past : {f : List ℕ} {i : ℕ} → Whole f → fileTable f .rows ≤ i → Blank (fileTable f) i
+blank-past {f} {i} w l =
+    let byte : (k : ℕ) → headerSize + rowSize (version f) * i ≤ k → at f k ≡ 0 = λ k h. past-row w l h in
+    let pair : (k : ℕ) → headerSize + rowSize (version f) * i ≤ k → read16 f k ≡ 0 =
+    λ k h. omega (arith, byte k h, byte (k + 1) (omega arith)) in
+    record {
+      cost = pair _ (omega arith);
+      period = pair _ (omega arith);
+      first = byte _ (omega arith);
+      second = byte _ (omega arith);
+    }
+
 pub decoding-end : {f : List ℕ} (c : Columns) → Whole f → c .elements ≡ fileTable f .elements → c .rows ≡ fileTable f .rows
     → Decoding (fileTable f) (c .rows) (c .cost) (c .period) (c .first) (c .second) → Holds (fileTable f) c
 decoding-end {f} c w m n D =
-    let past : (i k : ℕ) → c .rows ≤ i → headerSize + rowSize (version f) * i ≤ k → at f k ≡ 0 =
-    λ i k l h. past-row w (rw n at l) h in
-    let pair : (i k : ℕ) → c .rows ≤ i → headerSize + rowSize (version f) * i ≤ k → read16 f k ≡ 0 =
-    λ i k l h. omega (arith, past i k l h, past i (k + 1) l (omega arith)) in
-    let cost : at (c .cost) ≡ fileTable f .cost = by-row-all (D .costs) (λ i l. pair i _ l (omega arith)) in
-    let period : at (c .period) ≡ fileTable f .period = by-row-all (D .periods) (λ i l. pair i _ l (omega arith)) in
-    let first : at (c .first) ≡ fileTable f .first = by-row-all (D .firsts) (λ i l. past i _ l (omega arith)) in
-    let second : at (c .second) ≡ fileTable f .second = by-row-all (D .seconds) (λ i l. past i _ l (omega arith)) in
+    let past : (i : ℕ) → c .rows ≤ i → Blank (fileTable f) i = λ i l. blank-past w (rw n at l) in
+    let cost : at (c .cost) ≡ fileTable f .cost = by-row-all (D .costs) (λ i l. past i l .cost) in
+    let period : at (c .period) ≡ fileTable f .period = by-row-all (D .periods) (λ i l. past i l .period) in
+    let first : at (c .first) ≡ fileTable f .first = by-row-all (D .firsts) (λ i l. past i l .first) in
+    let second : at (c .second) ≡ fileTable f .second = by-row-all (D .seconds) (λ i l. past i l .second) in
     record {
       table = λ k. record {
         elements = m k;
@@ -89,7 +105,7 @@ module _ {f : List ℕ} (w : Whole f) where
   label = fileLabelled f .label
 
   -- past the last row they are 0, as there are none
-  label-past : (i : ℕ) → fileTable f .rows ≤ i → label i ≡ 0
+  pub label-past : (i : ℕ) → fileTable f .rows ≤ i → label i ≡ 0
   label-past i l =
       low-past (labelSize (version f)) f _ (λ j. past-row w l (omega arith))
 

@@ -42,6 +42,7 @@ use Rattle.rules.specs.Refusals.{
   standings-checks,
 }
 use Rattle.rules.specs.Calls.{Ask}
+use Rattle.rules.specs.Raising.{raise-checks}
 use Rattle.rules.proofs.Answers.{None, Numbered, applied, stopped, joined, none-of}
 use Rattle.rules.proofs.Sets.{sets-only}
 use Rattle.rules.proofs.Verdict.{
@@ -167,6 +168,13 @@ module _ (f : List ℕ) where
       past-list some ws A =
           as-test (le-test (length ws) k) (λ h. (ws, A, h))
           (λ w. subst (λ (vs : List ℕ). length vs ≤ k) (sets-only some (w .1) A) (w .2))
+
+  pub raised-answered : (room : ℕ) → Answered (raise-checks f room)
+  unfolding raise-checks
+  raised-answered room =
+      rw append-assoc
+      (past-given (line-checks (fileTable f) ++ _)
+      (λ S. line-answered (fileTable f) S _ (λ ws A. lt-test room (length f) then none)))
 
   pub limited-answered : (our their : ℕ) → Answered (limited-checks f our their)
   unfolding limited-checks Numbered

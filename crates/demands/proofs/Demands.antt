@@ -26,6 +26,9 @@ use Rattle.planner.proofs.Only.{step-only}
 use Rattle.planner.proofs.Asks.{file-proper}
 use Rattle.planner.proofs.Promises.{admitted-table, steps-run, standings-between, never-refused, whole-is-steps, carried, exactly-one-plan}
 use Rattle.limited_plan.proofs.Promises.{limited-proper, same-plan}
+use Rattle.raising.proofs.Costs.{raise-raises}
+use Rattle.raising.proofs.Result.{raised-verdict}
+use Rattle.raising.proofs.Data.{data-arrives}
 use Rattle.demands.specs.Demands.{Demand-1, Demand-2, Demand-3, Demands}
 use Rattle.demands.proofs.Answered.{
   read-answered,
@@ -39,6 +42,7 @@ use Rattle.demands.proofs.Answered.{
   planned-answered,
   stepped-answered,
   stood-answered,
+  raised-answered,
 }
 
 -- ---- demand 1
@@ -60,6 +64,7 @@ first = record {
       planned-answered (limitedAsk f our their) (limited-proper f our their) (limited-answered f our their);
   stepped-limited = λ f our their.
       stepped-answered (limitedAsk f our their) (limited-proper f our their) (limited-answered f our their);
+  raised = raised-answered;
   one = answers-only;
   read-refused = λ f was now number place version′ elements rows c h. ⊎-elim (λ r. r .refused h) (λ r. r .refused h) c;
   write-refused = λ version′ elements rows xs was now number place c h. c .refused h;
@@ -70,6 +75,7 @@ first = record {
   plan-refused = λ a r was now c h. c .planned .refused h;
   step-refused = λ a p r was now c h. (c .same h, c .stepped .refused h .1);
   standings-refused = λ f p r c h. c .stood .refused h;
+  raise-refused = λ f was now number place c h. c .refused h;
 }
 
 -- ---- demand 2
@@ -100,6 +106,9 @@ second = record {
       let w = written-then-read v M n xs was now place was′ now′ number′ place′ v′ M′ n′ (rw (z .0) at W) l R in
       let size : length xs ≡ rowNumbers * n = written-sound v M n xs (written-none v M n xs (length was) N) .1 in
       (z .0, w .0, w .2, w .3, w .4, ap (λ (k : ℕ). take k now′) size ∙ w .5);
+  raises = raise-raises;
+  raised = λ f was now number place c h. c .done h;
+  raised-verdict = raised-verdict;
 }
 
 -- ---- demand 3
@@ -130,6 +139,7 @@ third = record {
       let e : take l now ≡ w .0 = ap (take l) (w .2) ∙ lent-take (w .0) was l (omega (arith, S .size)) in
       subst (Serves t (start t k) (end t k) (plannerOf p) (plannerOf (r .planner))) (sym e) S;
   first-steps = λ a k p ws P A s. run-serves (a .table) k (plannerOf p) ws (admitted-table a P A) (steps-run s);
+  data-arrives = data-arrives;
 }
 
 pub demands : Demands

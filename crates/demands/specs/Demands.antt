@@ -7,7 +7,7 @@
 --   Demand-3           every admitted table gets a plan that carries it
 --
 -- Each call's contract (`Read`, `Written`, `Met`, `Crowded`, `JudgedBy`, `Listed`, `PlanAnswer`, `StepAnswer`, `StandingsAnswer`,
--- `MovedInPlace`) relates what the call is given to what it answers. That the call returns, and that its answer stands in this relation, is
+-- `MovedInPlace`, `Raised`) relates what the call is given to what it answers. That the call returns, and that its answer stands in this relation, is
 -- proved of its function; a clause below speaks of every answer that the contract allows. `was` and `now` are what a lent slice holds
 -- before and after, `f` is the file. A clause about an ask `a` speaks of the calls on a file and of those with limits (#108) alike.
 use mathlib.Core.Path.{_≡_}
@@ -41,6 +41,7 @@ use Rattle.rules.specs.Refusals.{
   standings-checks,
 }
 use Rattle.rules.specs.Calls.{lent, Read, ReadVersion1, Written, Met, Crowded, Admitted, Listed, Ask, fileAsk}
+use Rattle.rules.specs.Raising.{raisedFile, raise-checks, Raised}
 use Rattle.table.specs.declared.Answer.{Answer}
 use Rattle.verdict.specs.declared.Verdict.{Verdict}
 use Rattle.verdict.specs.Verdict.{numberOf, cutOf, intervalOf, hyperOf, loadOf, setsOf, JudgedBy, IsVerdict}
@@ -56,6 +57,7 @@ use Rattle.planner.specs.Proper.{Proper, Admits}
 use Rattle.planner.specs.Promises.{File-proper, Steps, Standings-between, Never-refused, Whole-is-steps, Carried, Exactly-one-plan}
 use Rattle.limited_plan.specs.Promises.{Limited-proper, Same-plan}
 use Rattle.kept.specs.InPlace.{joined, MovedInPlace}
+use Rattle.raising.specs.Raises.{Raise-raises, Raised-verdict, Data-arrives}
 
 abbrev pub Answered : List Check → Type 0
 Answered cs = (number : ℕ) × (place : ℕ) × Answers cs number place
@@ -78,6 +80,8 @@ pub record Demand-1 : Type 1 where
   pub planned-limited : (f : List ℕ) (our their room : ℕ) → Answered (plan-checks (limited-checks f our their) (fileTable f) room)
   pub stepped-limited : (f : List ℕ) (our their : ℕ) (p : rules.Planner) (room : ℕ)
       → Answered (step-checks (limited-checks f our their) (fileTable f) p room)
+  -- So has raising (#111).
+  pub raised : (f : List ℕ) (room : ℕ) → Answered (raise-checks f room)
   -- Only one number and place do.
   pub one : (cs : List Check) (m n p q : ℕ) → Answers cs m p → Answers cs n q → (m ≡ n) × (p ≡ q)
   -- A refusal leaves lent output unchanged and hands back the planner it was given; any other returned number is then 0.
@@ -98,6 +102,7 @@ pub record Demand-1 : Type 1 where
       → r .answer .number ≢ 0 → (r .planner ≡ p) × (now ≡ was)
   pub standings-refused : (f : List ℕ) (p : Planner) (r : Standings) → StandingsAnswer (fileAsk f) p r → r .answer .number ≢ 0
       → (i : ℕ) → i < max-rows → getD (r .values) i (pos 0) ≡ pos 0
+  pub raise-refused : (f was now : List ℕ) (number place : ℕ) → Raised f was now number place → number ≢ 0 → now ≡ was
 
 pub record Demand-2 : Type 1 where
   -- A table is admitted exactly if none of the refusals listed for the verdict applies, and with limits likewise;
@@ -139,6 +144,11 @@ pub record Demand-2 : Type 1 where
       → Written version′ elements rows xs was now number place
       → Read (take (headerSize + rowSize version′ * rows) now) was′ now′ number′ place′ version″ elements′ rows′
       → (number ≡ 0) × (number′ ≡ 0) × (version″ ≡ version′) × (elements′ ≡ elements) × (rows′ ≡ rows) × (take (length xs) now′ ≡ xs)
+  -- Raising makes each light row's cost the least that passes and changes nothing else (#111), and writes the file of that table;
+  pub raises : Raise-raises
+  pub raised : (f was now : List ℕ) (number place : ℕ) → Raised f was now number place → number ≡ 0 → now ≡ lent (raisedFile f) was
+  -- of which nothing but 14 can be refused.
+  pub raised-verdict : Raised-verdict
 
 pub record Demand-3 : Type 1 where
   -- The clauses about proper asks speak of the calls on a file, and of those with limits (#108).
@@ -166,6 +176,8 @@ pub record Demand-3 : Type 1 where
   -- So do the first steps of a fresh planner together.
   pub first-steps : (a : Ask) (k : ℕ) (p : Planner) (ws : List ℕ) → Proper a → Admits a → Steps a k p ws
       → Served (a .table) k (plannerOf p) ws
+  -- In the plan of a raised table the first slots of a job, as many as its cost was, all come before its deadline (#111).
+  pub data-arrives : Data-arrives
 
 pub record Demands : Type 1 where
   pub first : Demand-1

@@ -27,7 +27,7 @@ fn put_numbers(row: Row, at: usize, out: &mut [u16])
 }
 
 // The numbers of all rows of a table in columns, at the front of `out`.
-fn put_all_numbers<'a>(
+pub fn put_all_numbers<'a>(
     rows: usize,
     cost: &'a [u16; Table::ROWS],
     period: &'a [u16; Table::ROWS],

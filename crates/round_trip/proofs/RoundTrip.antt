@@ -41,7 +41,7 @@ use Rattle.rules.specs.TableFile.{
   rowBytes,
   bytes,
 }
-use Rattle.rules.specs.Refusals.{lost-label, header-checks, file-checks, reader-checks, label-checks, version-checks, writer-checks}
+use Rattle.rules.specs.Refusals.{wrong-version, lost-label, header-checks, file-checks, reader-checks, label-checks, version-checks, writer-checks}
 use Rattle.rules.specs.Calls.{lent, Read, Written}
 use Rattle.rules.proofs.Answers.{None, Numbered, none-join, none-left, numbered-join, single-none, none-single}
 use Rattle.table.specs.Sound.{Sound}
@@ -267,6 +267,16 @@ fits-labels : (v : ℕ) (t : Labelled) → ((i : ℕ) → i < t .table .rows →
 unfolding label-checks
 fits-labels v t h = single-none (lost-label v t) (t .table .rows) (λ i l w. w .1 (h i l (w .0)))
 
+-- the numbers of a table that has no fault pass in every version that can hold its labels
+pub table-passes : (v : ℕ) (t : Labelled) → (wrong-version v .applies → ⊥) → Sound (t .table)
+    → ((i : ℕ) → i < t .table .rows → v ≡ version-1 → t .label i ≡ 0)
+    → None (version-checks v (t .table .elements) (t .table .rows) (numbers t))
+table-passes v t k s h =
+    let M : ℕ = t .table .elements in
+    let n : ℕ = t .table .rows in
+    version-none M n (numbers t) v k (memory-none M n (numbers t) (sound-alike (memory-back t) s) (numbers-length t))
+    (fits-labels v (memoryLabelled M n (numbers t)) (λ i l e. memory-back t .label i l ∙ h i l e))
+
 -- a file is read and written
 module _ (f : List ℕ) (a : None (file-checks f)) where
   abbrev t : Labelled
@@ -282,7 +292,7 @@ module _ (f : List ℕ) (a : None (file-checks f)) where
   read-written b = bytes-alike (version f) (memory-back t) ∙ bytes-whole f b a
 
   -- in version 1 all labels are 0
-  bare : (i : ℕ) → version f ≡ version-1 → t .label i ≡ 0
+  pub bare : (i : ℕ) → version f ≡ version-1 → t .label i ≡ 0
   unfolding readLow
   bare i e =
       ap (λ (k : ℕ). readLow k f (headerSize + rowWith (labelSize (version f)) * i + 6))
@@ -291,9 +301,8 @@ module _ (f : List ℕ) (a : None (file-checks f)) where
   pub read-passes : None (version-checks (version f) M n (numbers t))
   unfolding file-checks
   read-passes =
-      version-none M n (numbers t) (version f) (known-right (header-split f (none-left (header-checks f) _ a) .2))
-      (memory-none M n (numbers t) (sound-alike (memory-back t) (passed-none f a .sound)) (numbers-length t))
-      (fits-labels (version f) (memoryLabelled M n (numbers t)) (λ i l e. memory-back t .label i l ∙ bare i e))
+      table-passes (version f) t (known-right (header-split f (none-left (header-checks f) _ a) .2)) (passed-none f a .sound)
+      (λ i l e. bare i e)
 
 -- rows are written and read
 module _ (v M n : ℕ) (xs : List ℕ) where

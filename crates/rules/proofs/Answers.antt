@@ -52,6 +52,11 @@ unfolding Answers None
 joined [] ds n p a r = r
 joined (c ∷ cs) ds n p a r = inr (a .0, joined cs ds n p (a .1) r)
 
+pub unjoined : (cs ds : List Check) (n p : ℕ) → None cs → Answers (cs ++ ds) n p → Answers ds n p
+unfolding Answers None
+unjoined [] ds n p a r = r
+unjoined (c ∷ cs) ds n p a r = ⊎-elim (λ w. absurd (a .0 (w .0))) (λ w. unjoined cs ds n p (a .1) (w .1)) r
+
 -- ---- no check applies
 
 pub answered : (cs : List Check) → None cs → Answers cs 0 0

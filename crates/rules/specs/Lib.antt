@@ -13,4 +13,5 @@ pub mod Refusals
 pub mod Calls
 pub mod Text
 pub mod Program
+pub mod Raising
 pub mod Cases

@@ -14,7 +14,8 @@ use Rattle.verdict.specs.declared.Verdict.the-variants.{Admitted}
 use Rattle.verdict.specs.Verdict.{cutOf, intervalOf, hyperOf, loadOf, setsOf, IsVerdict}
 use Rattle.verdict.proofs.Judging.{judged-only}
 use Rattle.planner.proofs.Only.{plan-only}
-use Rattle.supervisor.specs.ToC.{VerdictToC, values, values-checks, Valued, ValuesToC, SharedToC, SetsToC, PlanToC}
+use Rattle.raising.proofs.Writing.{raised-only}
+use Rattle.supervisor.specs.ToC.{VerdictToC, values, values-checks, Valued, ValuesToC, SharedToC, SetsToC, PlanToC, RaiseToC}
 use Rattle.supervisor.proofs.Values.{values-none}
 
 pub verdict-to-c-only : (a : Ask) (r s : ℕ) → VerdictToC a r → VerdictToC a s → r ≡ s
@@ -73,3 +74,8 @@ pub plan-to-c-only : (a : Ask) (was now then : List ℕ) (r s : ℕ) → PlanToC
 plan-to-c-only a was now then r s A B =
     let e = plan-only a (A .answer) (B .answer) was now then (A .planned) (B .planned) in
     (A .as-one ∙ ap (λ (a : Answer). c-answer (a .number) (a .place)) (e .0) ∙ sym (B .as-one), e .1)
+
+pub raise-to-c-only : (f was now then : List ℕ) (r s : ℕ) → RaiseToC f was now r → RaiseToC f was then s → (r ≡ s) × (now ≡ then)
+raise-to-c-only f was now then r s A B =
+    let e = raised-only f was now then _ _ _ _ (A .raised) (B .raised) in
+    (A .as-one ∙ ap₂ c-answer (e .0) (e .1) ∙ sym (B .as-one), e .2)

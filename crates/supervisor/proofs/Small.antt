@@ -1,7 +1,7 @@
--- Every answer of the list of sets has a small number and a small place, as the verdict's and the whole plan's have.
+-- Every answer of the list of sets and of raising has a small number and a small place, as the verdict's and the whole plan's have.
 use mathlib.Core.Path.{_≡_}
 use mathlib.Core.Logic.{⊎-elim}
-use mathlib.Core.List.{List, [], _∷_}
+use mathlib.Core.List.{List, [], _∷_, _++_}
 use Prim.Native.Nat.{ℕ, _≤_, _<_}
 use native.Mathlib.Decide.{ℕ-discrete}
 use native.Mathlib.Omega.{arith}
@@ -9,7 +9,8 @@ use lib.Dec.{lit≤}
 use lib.ListN.{length}
 use Rattle.rules.specs.TableFile.{fileTable}
 use Rattle.rules.specs.Line.{Sets}
-use Rattle.rules.specs.Refusals.{Check, Answers, last-number, short-output, bound-checks, verdict-checks, sets-checks}
+use Rattle.rules.specs.Refusals.{Answers, last-number, short-output, bound-checks, verdict-checks, sets-checks}
+use Rattle.rules.specs.Raising.{raise-checks}
 use Rattle.rules.proofs.Answers.{Fit, stopped, answered, none-of, answers-only, answers-split, answers-fit}
 use Rattle.rules.proofs.Small.{last-place, verdict-small}
 use Rattle.outline.specs.Outlined.{outline-checks}
@@ -25,12 +26,18 @@ module _ (f : List ℕ) where
       let e = answers-only (outline-checks f) n 0 p 0 a (answered (outline-checks f) none) in
       (omega (arith, e .0), omega (arith, e .1))
 
-  abbrev no-room : ℕ → List Check
-  no-room room = short-output ((ws : List ℕ) × Sets (fileTable f) ws × (room < length ws)) ∷ []
+  -- 17 after them has place 0
+  room-small : (A : Type 0) (n p : ℕ) → Answers (outline-checks f ++ (short-output A ∷ [])) n p → (n ≤ last-number) × (p ≤ last-place)
+  unfolding Fit
+  room-small A n p r =
+      ⊎-elim (λ a. outline-small n p a (ℕ-discrete n 0))
+      (λ a. answers-fit last-number last-place (short-output A ∷ []) n p (lit≤ tt, lit≤ tt, tt) (a .1))
+      (answers-split (outline-checks f) (short-output A ∷ []) n p r)
 
   pub sets-small : (room n p : ℕ) → Answers (sets-checks f room) n p → (n ≤ last-number) × (p ≤ last-place)
-  unfolding sets-checks Fit
-  sets-small room n p r =
-      ⊎-elim (λ a. outline-small n p a (ℕ-discrete n 0))
-      (λ a. answers-fit last-number last-place (no-room room) n p (lit≤ tt, lit≤ tt, tt) (a .1))
-      (answers-split (outline-checks f) (no-room room) n p r)
+  unfolding sets-checks
+  sets-small room n p r = room-small ((ws : List ℕ) × Sets (fileTable f) ws × (room < length ws)) n p r
+
+  pub raise-small : (room n p : ℕ) → Answers (raise-checks f room) n p → (n ≤ last-number) × (p ≤ last-place)
+  unfolding raise-checks
+  raise-small room n p r = room-small (room < length f) n p r

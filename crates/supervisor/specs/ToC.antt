@@ -8,6 +8,7 @@
 --   SharedToC f i j was now r   r answers for the segments that rows i and j share, and a number that was `was` is now `now`
 --   SetsToC f was now r       r answers for the list of its sets
 --   PlanToC a was now r       r answers for the whole plan of ask a
+--   RaiseToC f was now r      r answers for the raised file
 --
 -- Verdict and whole plan have forms with limits (#108), so they are said of an ask.
 use mathlib.Core.Path.{_≡_}
@@ -18,6 +19,7 @@ use Rattle.rules.specs.TableFile.{fileTable}
 use Rattle.rules.specs.Bus.{shared}
 use Rattle.rules.specs.Refusals.{Check, Answers, short-output, shared-checks, verdict-checks}
 use Rattle.rules.specs.Calls.{Call, lent, Ask, Admitted, Listed, c-answer}
+use Rattle.rules.specs.Raising.{Raised}
 use Rattle.table.specs.declared.Answer.{Answer}
 use Rattle.planner.specs.Answers.{PlanAnswer}
 
@@ -76,3 +78,11 @@ pub record PlanToC (a : Ask) (was now : List ℕ) (r : ℕ) : Type 0 where
   pub answer : Answer
   pub planned : PlanAnswer a answer was now
   pub as-one : r ≡ c-answer (answer .number) (answer .place)
+
+-- ---- raising light rows (#111)
+
+pub record RaiseToC (f was now : List ℕ) (r : ℕ) : Type 0 where
+  pub number : ℕ
+  pub place : ℕ
+  pub raised : Raised f was now number place
+  pub as-one : r ≡ c-answer number place

@@ -1,5 +1,5 @@
-// The functions for the supervisor, a C program: verdict, its values, shared segments, list of sets and whole plan, and verdict and whole
-// plan with limits, each answering 256 × number + place (include/ringplan.h).
+// The functions for the supervisor, a C program: verdict, its values, shared segments, list of sets, whole plan and raised file, and verdict
+// and whole plan with limits, each answering 256 × number + place (include/ringplan.h).
 use limits::Limits;
 use table::Answer;
 use verdict::Verdict;
@@ -8,7 +8,7 @@ ghost use Prim.Native.Nat.{_≤_};
 ghost use lib.ListN.{length};
 ghost use Rattle.rules.specs.Refusals.{last-number};
 ghost use Rattle.rules.specs.Calls.{lent, fileAsk, limitedAsk, c-answer};
-ghost use Rattle.supervisor.specs.ToC.{VerdictToC, values, value-count, ValuesToC, SharedToC, SetsToC, PlanToC};
+ghost use Rattle.supervisor.specs.ToC.{VerdictToC, values, value-count, ValuesToC, SharedToC, SetsToC, PlanToC, RaiseToC};
 
 // Number and place as one number.
 fn joined(number: u32, place: u32) -> u32
@@ -137,4 +137,13 @@ pub extern "C" fn ring_plan_limited(file: &[u8], ours: u32, theirs: u32, plan: &
     };
     let planned = limited_plan::whole_plan(file, limits, plan);
     joined(planned.number, planned.place)
+}
+
+// The file of the table with its light rows' costs raised to the least that passes, as long as the file (#111).
+#[no_mangle]
+pub extern "C" fn ring_raise(file: &[u8], out: &mut [u8]) -> u32
+    ensures { λ r. ⌜ RaiseToC (now (file .entry)) (now (out .entry)) (now (out .exit)) r ⌝ }
+{
+    let raised = raising::raise(file, out);
+    joined(raised.number, raised.place)
 }

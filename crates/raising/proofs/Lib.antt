@@ -1,0 +1,5 @@
+pub mod Costs
+pub mod Asked
+pub mod Writing
+pub mod Result
+pub mod Data
