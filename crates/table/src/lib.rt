@@ -157,6 +157,10 @@ impl Answer {
 
     pub const LOST_LABEL: u32 = 20;
 
+    pub const NO_FREE_PLACE: u32 = 24;
+
+    pub const NO_ROW_THERE: u32 = 25;
+
     pub const NO_ROW: u32 = 32;
 
     pub fn done() -> Answer

@@ -1,0 +1,72 @@
+-- The numbers of a live table's answers are small, so that number and place fit one number.
+use mathlib.Core.Path.{_≡_}
+use Prim.Native.Nat.{ℕ, _≤_}
+use native.Mathlib.Decide.{ℕ-discrete}
+use native.Mathlib.Omega.{arith}
+use mathlib.Core.Bool.{not}
+use lib.Dec.{lit≤}
+use Rattle.numbers.proofs.Finite.{lowest-le}
+use Rattle.rules.specs.Bounds.{max-rows}
+use Rattle.rules.specs.Refusals.{last-number}
+use Rattle.rules.specs.Live.{held, new-checks, add-checks, remove-checks}
+use Rattle.rules.proofs.Answers.{Fit, answers-fit}
+use Rattle.table.specs.declared.Row.{Row}
+use Rattle.live.specs.declared.Live.{Live}
+use Rattle.live.specs.declared.Changed.{Changed}
+use Rattle.live.specs.State.{liveOf, entryOf}
+use Rattle.live.specs.Answers.{NewAnswer, AddAnswer, RemoveAnswer}
+
+abbrev Small : Changed → Type 0
+Small x = (x .answer .number ≤ last-number) × (x .taken ≤ max-rows)
+
+pub new-small : {M : ℕ} {x : Changed} → NewAnswer M x → Small x
+unfolding Fit
+new-small {M} {x} A =
+    (answers-fit last-number 0 (new-checks M) _ _ (lit≤ tt, lit≤ tt, tt) (A .made .answers) .0, omega (arith, A .taken))
+
+pub add-small : {l : Live} {row : Row} {label : ℕ} {x : Changed} → AddAnswer l row label x → Small x
+unfolding Fit
+add-small {l} {row} {label} {x} A = (
+  answers-fit last-number 0 (add-checks (liveOf l) (entryOf row label)) _ _ (
+    lit≤ tt,
+    lit≤ tt,
+    (
+      lit≤ tt,
+      lit≤ tt,
+      (
+        lit≤ tt,
+        lit≤ tt,
+        (
+          lit≤ tt,
+          lit≤ tt,
+          (
+            lit≤ tt,
+            lit≤ tt,
+            (
+              lit≤ tt,
+              lit≤ tt,
+              (
+                lit≤ tt,
+                lit≤ tt,
+                tt,
+              ),
+            ),
+          ),
+        ),
+      ),
+    ),
+  )
+      (A .added .answers) .0,
+  few (ℕ-discrete (x .answer .number) 0),
+)
+  where
+    few : Dec (x .answer .number ≡ 0) → x .taken ≤ max-rows
+    few (yes z) = omega (arith, A .added .done z .0, lowest-le max-rows (λ i. not (held (liveOf l) i)))
+    few (no n) = omega (arith, A .added .refused n .0)
+
+pub remove-small : {l : Live} {k : ℕ} {x : Changed} → RemoveAnswer l k x → Small x
+unfolding Fit
+remove-small {l} {k} {x} A = (
+  answers-fit last-number 0 (remove-checks (liveOf l) k) _ _ (lit≤ tt, lit≤ tt, (lit≤ tt, lit≤ tt, tt)) (A .removed .answers) .0,
+  omega (arith, A .taken),
+)
