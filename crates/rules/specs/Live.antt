@@ -14,8 +14,10 @@
 --   empty M, nothing   a new live table, and one of nothing but zeros
 --   put l k e          place k holds e, and denominator and sums are worked out afresh
 --   repeated l e       a row present has e's ends and period
---   new-checks, add-checks, remove-checks   the orders of checking
---   Made, Added, Removed                    what is answered
+--   placeOf h j        the place of row j of the rows present, of all places that have h: j of those before it have h too
+--   present l          the table of the rows present, in the order of their places, with their labels
+--   new-checks, add-checks, remove-checks, rows-file-checks   the orders of checking
+--   Made, Added, Removed, Filed                               what is answered
 --   Reached l          a live table to which new, additions and removals lead, refused ones among them
 use mathlib.Core.Path.{_≡_}
 use mathlib.Core.Logic.{_⊎_}
@@ -23,12 +25,14 @@ use mathlib.Core.Bool.{Bool, not, _&&_, cond}
 use mathlib.Core.List.{List, [], _∷_, _++_}
 use Prim.Native.Nat.{ℕ, suc, _*_, _/_, _≤_, _<_, max}
 use lib.Dec.{T, ltb, eqb}
-use Rattle.numbers.specs.Finite.{any, every, lowest, only, sumIn}
+use lib.ListN.{length}
+use Rattle.numbers.specs.Finite.{any, every, lowest, only, sumIn, count}
 use Rattle.numbers.specs.Divisors.{lcm}
 use Rattle.rules.specs.Bounds.{max-elements, max-rows, max-slots}
-use Rattle.rules.specs.Bus.{Table, uses, pasted}
-use Rattle.rules.specs.Refusals.{Check, refuse, Answers, wrong-elements, faults}
-use Rattle.rules.specs.Calls.{Call}
+use Rattle.rules.specs.Bus.{Table, Labelled, uses, pasted}
+use Rattle.rules.specs.TableFile.{numbers, bytes}
+use Rattle.rules.specs.Refusals.{Check, refuse, Answers, wrong-elements, faults, writer-checks}
+use Rattle.rules.specs.Calls.{Call, lent}
 
 -- sum s is that of segment s + 1
 pub record Live : Type 0 where
@@ -155,7 +159,25 @@ put l k e =
       sum = sumOver (common m) m;
     }
 
--- ---- the refusals, in their orders; none has a place
+-- ---- the rows present, as a table
+
+unfoldable pub placeOf : (ℕ → Bool) → ℕ → ℕ
+placeOf h j = lowest max-rows (λ i. h i && eqb (count i h) j)
+
+abbrev pub present : Live → Labelled
+present l = record {
+  table = record {
+    elements = l .elements;
+    rows = count max-rows (held l);
+    cost = λ j. l .cost (placeOf (held l) j);
+    period = λ j. l .period (placeOf (held l) j);
+    first = λ j. l .first (placeOf (held l) j);
+    second = λ j. l .second (placeOf (held l) j);
+  };
+  label = λ j. l .label (placeOf (held l) j);
+}
+
+-- ---- the refusals, in their orders; none of the live table's own has a place
 
 -- the live table handed in breaks the rules
 abbrev pub off-live : Live → Check
@@ -200,6 +222,11 @@ add-checks l e = off-live l ∷ faults (alone l e) 0 ++ (repeated-row l e ∷ no
 abbrev pub remove-checks : Live → ℕ → List Check
 remove-checks l k = off-live l ∷ no-row-there l k ∷ []
 
+-- 15, then the writer's of the rows present
+abbrev pub rows-file-checks : (version : ℕ) → Live → (room : ℕ) → List Check
+rows-file-checks version l room =
+    off-live l ∷ writer-checks version (present l .table .elements) (present l .table .rows) (numbers (present l)) room
+
 -- ---- the calls
 
 -- Made from M.
@@ -213,6 +240,11 @@ Added l e m number place taken =
 
 abbrev pub Removed : (l : Live) (k : ℕ) (m : Live) (number place : ℕ) → Type 0
 Removed l k m number place = Call (remove-checks l k) number place (m ≡ put l k vacant) (m ≡ l)
+
+-- The rows present are written as a table file, in the version that is told. The live table stays as it is.
+abbrev pub Filed : (version : ℕ) (l : Live) (was now : List ℕ) (number place : ℕ) → Type 0
+Filed version l was now number place =
+    Call (rows-file-checks version l (length was)) number place (now ≡ lent (bytes version (present l)) was) (now ≡ was)
 
 -- Calls may be refused: the live table then stays as it was.
 pub data Reached : Live → Type 0 where

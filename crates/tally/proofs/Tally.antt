@@ -21,14 +21,14 @@ use Rattle.numbers.proofs.Lists.{zeros-at}
 use Rattle.numbers.proofs.Word.{bit-shr, bit-word}
 use Rattle.numbers.proofs.Divisors.{Positive, lcm-of-least, lcm-as-least}
 use Rattle.rules.specs.Bounds.{max-elements, max-rows, max-slots}
-use Rattle.rules.specs.Bus.{Table, uses, routeUses}
+use Rattle.rules.specs.Bus.{Table, Labelled, uses, routeUses}
 use Rattle.rules.specs.Live.{Live, places, commonOf, sumOver}
 use Rattle.table.specs.declared.Row.{Row}
 use Rattle.table.specs.Rows.{IsRow, single}
 use Rattle.table.specs.Sound.{SoundRow}
 use Rattle.table.specs.Columns.{ByRow}
 use Rattle.ring.specs.Route.{segments}
-use Rattle.outline.specs.Time.{Periods, Capped}
+use Rattle.time.specs.Time.{Periods, Capped}
 use Rattle.tally.specs.Tally.{segmentLoad}
 
 -- ---- the denominator
@@ -156,7 +156,7 @@ laid-end d l {n} {xs} L h =
 pub adds-little : (d p c : ℕ) → c ≤ p → d / p * c ≤ d
 adds-little d p c l = le-trans (mul-le-mul-left (d / p) l) (div-mul-le-self d p)
 
-pub row-alone : {t : Table} {i : ℕ} {r : Row} → IsRow t i r → SoundRow t i → SoundRow (single (t .elements) r) 0
+pub row-alone : {t : Labelled} {i : ℕ} {r : Row} → IsRow t i r → SoundRow (t .table) i → SoundRow (single (t .table .elements) r) 0
 row-alone q S = record {
   first-low = rw (q .first) (S .first-low);
   first-high = rw (q .first) (S .first-high);
@@ -169,7 +169,8 @@ row-alone q S = record {
   cost-high = rw (q .cost, q .period) (S .cost-high);
 }
 
-pub load-alone : (d s : ℕ) {t : Table} {i : ℕ} {r : Row} → IsRow t i r → segmentLoad d (single (t .elements) r) s 0 ≡ segmentLoad d t s i
+pub load-alone : (d s : ℕ) {t : Labelled} {i : ℕ} {r : Row} → IsRow t i r
+    → segmentLoad d (single (t .table .elements) r) s 0 ≡ segmentLoad d (t .table) s i
 unfolding uses
 load-alone d s q = rw (q .cost, q .period, q .first, q .second) refl
 

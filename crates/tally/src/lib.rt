@@ -3,7 +3,6 @@
 use table::Row;
 use table::Table;
 ghost use mathlib.Core.Path.{_≡_};
-ghost use mathlib.Core.List.{[]};
 ghost use Prim.Native.Nat.{ℕ, _≤_, _<_, max};
 ghost use lib.ListN.{length};
 ghost use Rattle.numbers.specs.Lists.{at};
@@ -12,7 +11,7 @@ ghost use Rattle.rules.specs.Live.{commonOf, sumOver};
 ghost use Rattle.table.specs.Rows.{single};
 ghost use Rattle.table.specs.Columns.{ByRow, columnTable};
 ghost use Rattle.table.specs.Sound.{SoundRow};
-ghost use Rattle.outline.specs.Time.{Capped};
+ghost use Rattle.time.specs.Time.{Capped};
 ghost use Rattle.tally.specs.Tally.{columnLive, Passing, segmentLoad};
 
 fn at_least_one(x: u16) -> u16
@@ -43,7 +42,7 @@ pub fn denominator_of(period: &[u16; Table::ROWS]) -> u64
     ensures { λ r. ⌜ Capped (commonOf (at (now (period .entry)))) r ⌝ }
 {
     let all = counted(period);
-    outline::hyperperiod_of(Table::ROWS, &all)
+    time::hyperperiod_of(Table::ROWS, &all)
 }
 
 // What a row, or a free place, adds to the load of segment s + 1, in units of 1 / d.
@@ -69,12 +68,14 @@ fn sum_of<'a>(
     period: &'a [u16; Table::ROWS],
     first: &'a [u8; Table::ROWS],
     second: &'a [u8; Table::ROWS],
+    label: &'a [u16; Table::ROWS],
     s: usize,
 ) -> u64
     requires { ⌜ (d ≤ max-slots) × (s < elements)
         × Passing (columnTable elements max-rows (now cost) (now period) (now first) (now second)) ⌝ }
     ensures { λ r. ⌜ r
-        ≡ sumOver d (columnLive elements (now (cost .entry)) (now (period .entry)) (now (first .entry)) (now (second .entry)) []) s ⌝ }
+        ≡ sumOver d (columnLive elements (now (cost .entry)) (now (period .entry)) (now (first .entry)) (now (second .entry))
+        (now (label .entry))) s ⌝ }
 {
     let mut total: u64 = 0;
     let mut i: usize = 0;
@@ -83,7 +84,7 @@ fn sum_of<'a>(
             + load_of(
                 elements,
                 d,
-                table::row_at(cost, period, first, second, i),
+                table::row_at(cost, period, first, second, label, i),
                 s,
             );
         i += 1;
@@ -99,16 +100,18 @@ pub fn sums_of<'a>(
     period: &'a [u16; Table::ROWS],
     first: &'a [u8; Table::ROWS],
     second: &'a [u8; Table::ROWS],
+    label: &'a [u16; Table::ROWS],
 ) -> [u64; Table::ELEMENTS]
     requires { ⌜ (d ≤ max-slots) × Passing (columnTable elements max-rows (now cost) (now period) (now first) (now second)) ⌝ }
     ensures { λ r. ⌜ (length r ≡ max-elements)
         × (at r
-        ≡ sumOver d (columnLive elements (now (cost .entry)) (now (period .entry)) (now (first .entry)) (now (second .entry)) [])) ⌝ }
+        ≡ sumOver d (columnLive elements (now (cost .entry)) (now (period .entry)) (now (first .entry)) (now (second .entry))
+        (now (label .entry)))) ⌝ }
 {
     let mut sums = [0u64; Table::ELEMENTS];
     let mut s: usize = 0;
     while s < elements {
-        sums[s] = sum_of(elements, d, cost, period, first, second, s);
+        sums[s] = sum_of(elements, d, cost, period, first, second, label, s);
         s += 1;
     }
     sums

@@ -10,11 +10,11 @@ use Rattle.tally.proofs.sum_of.Statement.{statement}
 use Rattle.tally.proofs.sum_of.Tie as tie
 
 abbrev Inv-loop : tie.InvT-loop
-Inv-loop elements d cost period first second s total₀ i₀ total i = Adding d (
+Inv-loop elements d cost period first second label s total₀ i₀ total i = Adding d (
     columnTable elements max-rows cost period first second) s i total
 
 abbrev μ-loop : tie.MeasureT-loop
-μ-loop elements d cost period first second s total₀ i₀ total i = max-rows - i
+μ-loop elements d cost period first second label s total₀ i₀ total i = max-rows - i
 
 loop-holds : tie.Need-loop-holds Inv-loop μ-loop
 loop-holds c = adding-start

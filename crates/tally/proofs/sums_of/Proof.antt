@@ -1,6 +1,5 @@
 -- `tally::sums_of` meets its contract: segment after segment is summed.
 use Prim.Native.Nat.{_-_, _≤_}
-use mathlib.Core.List.{[]}
 use native.Mathlib.Omega.{arith}
 use Rattle.rules.specs.Live.{sumOver}
 use Rattle.tally.specs.Tally.{columnLive}
@@ -9,11 +8,11 @@ use Rattle.tally.proofs.sums_of.Statement.{statement}
 use Rattle.tally.proofs.sums_of.Tie as tie
 
 abbrev Inv-loop : tie.InvT-loop
-Inv-loop elements d cost period first second sums₀ s₀ sums s =
-    (s ≤ elements) × Laid (sumOver d (columnLive elements cost period first second [])) s sums
+Inv-loop elements d cost period first second label sums₀ s₀ sums s =
+    (s ≤ elements) × Laid (sumOver d (columnLive elements cost period first second label)) s sums
 
 abbrev μ-loop : tie.MeasureT-loop
-μ-loop elements d cost period first second sums₀ s₀ sums s = elements - s
+μ-loop elements d cost period first second label sums₀ s₀ sums s = elements - s
 
 loop-holds : tie.Need-loop-holds Inv-loop μ-loop
 loop-holds c = (omega arith, laid-start)
