@@ -10,7 +10,7 @@ use lib.Dec.{eqb, ltb, eqb→eq, ltb→lt, lt→ltb}
 use Rattle.numbers.specs.Finite.{any}
 use Rattle.numbers.specs.Decides.{Decides}
 use Rattle.numbers.proofs.Truth.{is-true, is-false, eqb-of, of-true, of-false, decides-yes, decides-no}
-use Rattle.rules.specs.Bus.{Table, pasted}
+use Rattle.rules.specs.Bus.{Labelled, pasted}
 use Rattle.rules.specs.Refusals.{Answers, faults}
 use Rattle.rules.specs.Live.{Live, Blank, places}
 use Rattle.rules.proofs.Answers.{answers-only, answered, none-of}
@@ -22,36 +22,36 @@ use Rattle.seats.specs.Seats.{Zeros, Seat, equal}
 
 -- ---- one place
 
-pub zeros-decided : {row : Row} {l : ℕ} → row .cost ≡ 0 → row .period ≡ 0 → row .first ≡ 0 → row .second ≡ 0
-    → Decides (Zeros row l) (eqb l 0)
-zeros-decided {row} {l} c p f s = record {
-  holds = λ e. record { cost = c; period = p; first = f; second = s; label = eqb→eq l 0 (of-true e) };
-  fails = λ e z. of-false e (eqb-of l 0 (z .label));
+pub zeros-decided : {row : Row} → row .cost ≡ 0 → row .period ≡ 0 → row .first ≡ 0 → row .second ≡ 0
+    → Decides (Zeros row) (eqb (row .label) 0)
+zeros-decided {row} c p f s = record {
+  holds = λ e. record { cost = c; period = p; first = f; second = s; label = eqb→eq (row .label) 0 (of-true e) };
+  fails = λ e z. of-false e (eqb-of (row .label) 0 (z .label));
 }
 
 -- a place that isn't free is right exactly if no number of 7 to 9 is found
-pub fault-decided : (M n l : ℕ) (row : Row) → (Zeros row l → ⊥) → Answers (faults (single M row) 0) n 0
-    → Decides (Zeros row l ⊎ Answers (faults (single M row) 0) 0 0) (eqb n 0)
-fault-decided M n l row z a = record {
+pub fault-decided : (M n : ℕ) (row : Row) → (Zeros row → ⊥) → Answers (faults (single M row) 0) n 0
+    → Decides (Zeros row ⊎ Answers (faults (single M row) 0) 0 0) (eqb n 0)
+fault-decided M n row z a = record {
   holds = λ e. let q : n ≡ 0 = eqb→eq n 0 (of-true e) in inr (rw q at a);
   fails = λ e. ⊎-elim z (λ b. of-false e (eqb-of n 0 (answers-only (faults (single M row) 0) n 0 0 0 a b .0)));
 }
 
--- what is found of a row and its label is so of the place that holds them
-module _ {l : Live} {i label : ℕ} {row : Row} (R : IsRow (places l) i row) (e : label ≡ l .label i) where
-  pub seat-of : Zeros row label ⊎ Answers (faults (single (l .elements) row) 0) 0 0 → Seat l i
+-- what is found of a row is so of the place that holds it
+module _ {l : Live} {i : ℕ} {row : Row} (R : IsRow (record { table = places l; label = l .label }) i row) where
+  pub seat-of : Zeros row ⊎ Answers (faults (single (l .elements) row) 0) 0 0 → Seat l i
   seat-of =
       ⊎-elim
-      (λ (z : Zeros row label). inl (record {
+      (λ (z : Zeros row). inl (record {
         cost = sym (R .cost) ∙ z .cost;
         period = sym (R .period) ∙ z .period;
         first = sym (R .first) ∙ z .first;
         second = sym (R .second) ∙ z .second;
-        label = sym e ∙ z .label;
+        label = sym (R .label) ∙ z .label;
       }))
-      (λ a. inr (answered (faults (places l) i) (row-clean (l .elements) row (places l) i refl R a)))
+      (λ a. inr (answered (faults (places l) i) (row-clean (l .elements) row (record { table = places l; label = l .label }) i refl R a)))
 
-  pub of-seat : Seat l i → Zeros row label ⊎ Answers (faults (single (l .elements) row) 0) 0 0
+  pub of-seat : Seat l i → Zeros row ⊎ Answers (faults (single (l .elements) row) 0) 0 0
   of-seat =
       ⊎-elim
       (λ (z : Blank l i). inl (record {
@@ -59,7 +59,7 @@ module _ {l : Live} {i label : ℕ} {row : Row} (R : IsRow (places l) i row) (e 
         period = R .period ∙ z .period;
         first = R .first ∙ z .first;
         second = R .second ∙ z .second;
-        label = e ∙ z .label;
+        label = R .label ∙ z .label;
       }))
       (λ (a : Answers (faults (places l) i) 0 0). inr (answered (faults (single (l .elements) row) 0) (row-none _ 0
       (row-alone R (row-sound (places l) i (none-of (faults (places l) i) 0 (faults-numbered (places l) i) a))))))
@@ -82,7 +82,8 @@ module _ (a b c x y z : ℕ) where
     third-decides f = sym (ap₂ (λ (t u : Bool). t && u && eqb c z) same-first (is-true (eqb b y) (eqb-of b y f)))
 
 -- an earlier place has the row of place i
-pub earlier-equal : {t : Table} {i : ℕ} {row : Row} → IsRow t i row → any i (equal (t .period) (t .first) (t .second) row) ≡ pasted t i
+pub earlier-equal : {t : Labelled} {i : ℕ} {row : Row} → IsRow t i row
+    → any i (equal (t .table .period) (t .table .first) (t .table .second) row) ≡ pasted (t .table) i
 unfolding pasted
 earlier-equal R = rw (R .period, R .first, R .second) refl
 

@@ -1,6 +1,6 @@
 -- The places of a live table, one by one.
 --
---   Zeros row label        nothing but zeros
+--   Zeros row              nothing but zeros, the label too
 --   Seat l i               place i of l is free, or holds a row that passes 7 to 9
 --   equal .. row j         place j has the row's ends and period
 use mathlib.Core.Path.{_≡_}
@@ -12,12 +12,12 @@ use Rattle.rules.specs.Refusals.{Answers, faults}
 use Rattle.rules.specs.Live.{Live, Blank, places}
 use Rattle.table.specs.declared.Row.{Row}
 
-pub record Zeros (row : Row) (l : ℕ) : Type 0 where
+pub record Zeros (row : Row) : Type 0 where
   pub cost : row .cost ≡ 0
   pub period : row .period ≡ 0
   pub first : row .first ≡ 0
   pub second : row .second ≡ 0
-  pub label : l ≡ 0
+  pub label : row .label ≡ 0
 
 abbrev pub Seat : Live → ℕ → Type 0
 Seat l i = Blank l i ⊎ Answers (faults (places l) i) 0 0

@@ -21,8 +21,8 @@ ghost use Rattle.tally.specs.Tally.{columnLive};
 ghost use Rattle.seats.specs.Seats.{Zeros, Seat, equal};
 
 // A free place holds zeros, the label too.
-fn is_free(row: Row, label: u64) -> bool
-    ensures { λ r. ⌜ Decides (Zeros row label) r ⌝ }
+fn is_free(row: Row) -> bool
+    ensures { λ r. ⌜ Decides (Zeros row) r ⌝ }
 {
     if row.cost != 0 {
         return false;
@@ -36,13 +36,13 @@ fn is_free(row: Row, label: u64) -> bool
     if row.second != 0 {
         return false;
     }
-    label == 0
+    row.label == 0
 }
 
-fn is_seat(elements: usize, row: Row, label: u64) -> bool
-    ensures { λ r. ⌜ Decides (Zeros row label ⊎ Answers (faults (single elements row) 0) 0 0) r ⌝ }
+fn is_seat(elements: usize, row: Row) -> bool
+    ensures { λ r. ⌜ Decides (Zeros row ⊎ Answers (faults (single elements row) 0) 0 0) r ⌝ }
 {
-    if is_free(row, label) {
+    if is_free(row) {
         return true;
     }
     table::row_fault(elements, row) == Answer::DONE
@@ -66,8 +66,7 @@ fn are_seats<'a>(
     while i < Table::ROWS {
         if !is_seat(
             elements,
-            table::row_at(cost, period, first, second, i),
-            table::slots_at(label, i),
+            table::row_at(cost, period, first, second, label, i),
         ) {
             return false;
         }
@@ -123,6 +122,7 @@ fn is_repeated<'a>(
     period: &'a [u16; Table::ROWS],
     first: &'a [u8; Table::ROWS],
     second: &'a [u8; Table::ROWS],
+    label: &'a [u16; Table::ROWS],
     i: usize,
 ) -> bool
     requires { ⌜ i < max-rows ⌝ }
@@ -138,7 +138,7 @@ fn is_repeated<'a>(
         period,
         first,
         second,
-        table::row_at(cost, period, first, second, i),
+        table::row_at(cost, period, first, second, label, i),
     )
 }
 
@@ -148,6 +148,7 @@ fn are_single<'a>(
     period: &'a [u16; Table::ROWS],
     first: &'a [u8; Table::ROWS],
     second: &'a [u8; Table::ROWS],
+    label: &'a [u16; Table::ROWS],
 ) -> bool
     ensures { λ r. ⌜ ((elements : ℕ) → Decides ((i : ℕ) → i < max-rows → T (ltb 0 (at (now (period .entry)) i))
         → T (pasted
@@ -156,7 +157,7 @@ fn are_single<'a>(
 {
     let mut i: usize = 0;
     while i < Table::ROWS {
-        if is_repeated(cost, period, first, second, i) {
+        if is_repeated(cost, period, first, second, label, i) {
             return false;
         }
         i += 1;
@@ -187,5 +188,5 @@ pub fn are_seated<'a>(
     if !are_seats(elements, cost, period, first, second, label) {
         return false;
     }
-    are_single(cost, period, first, second)
+    are_single(cost, period, first, second, label)
 }

@@ -22,20 +22,17 @@ loop-holds c = upto-start
 row-at-requires : tie.Need-row-at-requires Inv-loop μ-loop
 row-at-requires c κs = search needs
 
-slots-at-requires : tie.Need-slots-at-requires Inv-loop μ-loop
-slots-at-requires c κs = search needs
-
 is-seat-requires : tie.Need-is-seat-requires Inv-loop μ-loop
 is-seat-requires c κs = search needs
 
 returns : tie.Need-returns Inv-loop μ-loop
 returns c =
     let s = c .before in
-    let r = s .before .before in
+    let r = s .before in
     let u = r .before .before in
     upto-stop (u .loop .i) (omega arith)
     (λ q. denied (s .is-seat .ensures) (c .if1 .taken)
-    (of-seat (r .row-at .ensures (u .before .args .elements) max-rows) (s .before .slots-at .ensures) q))
+    (of-seat (r .row-at .ensures (u .before .args .elements) max-rows) q))
 
 add-i : tie.Need-add-i Inv-loop μ-loop
 add-i c = search needs
@@ -46,10 +43,10 @@ loop-less c = search needs
 loop-again : tie.Need-loop-again Inv-loop μ-loop
 loop-again c =
     let s = c .before in
-    let r = s .before .before in
+    let r = s .before in
     let u = r .before .before in
     upto-next (u .loop .inv) (omega arith)
-    (seat-of (r .row-at .ensures (u .before .args .elements) max-rows) (s .before .slots-at .ensures)
+    (seat-of (r .row-at .ensures (u .before .args .elements) max-rows)
     (granted (s .is-seat .ensures) (c .if1 .left)))
 
 returns-2 : tie.Need-returns-2 Inv-loop μ-loop
@@ -63,7 +60,6 @@ are-seats-spec =
     μ-loop
     loop-holds
     row-at-requires
-    slots-at-requires
     is-seat-requires
     returns
     add-i

@@ -19,10 +19,10 @@ Single cost period first second i =
     T (ltb 0 (at period i)) → T (pasted (columnTable 0 max-rows cost period first second) i) → ⊥
 
 abbrev Inv-loop : tie.InvT-loop
-Inv-loop cost period first second i₀ i = Upto max-rows (Single cost period first second) i
+Inv-loop cost period first second label i₀ i = Upto max-rows (Single cost period first second) i
 
 abbrev μ-loop : tie.MeasureT-loop
-μ-loop cost period first second i₀ i = max-rows - i
+μ-loop cost period first second label i₀ i = max-rows - i
 
 loop-holds : tie.Need-loop-holds Inv-loop μ-loop
 loop-holds c = upto-start

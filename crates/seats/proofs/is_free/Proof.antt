@@ -18,8 +18,9 @@ returns-4 c = decides-no (λ z. c .if4 .taken (z .second))
 
 returns-5 : tie.Need-returns-5
 returns-5 c =
-    zeros-decided (c .before .before .before .before .before .before .if1 .left) (c .before .before .before .before .if2 .left)
-    (c .before .before .if3 .left) (c .if4 .left)
+    let d = c .before in
+    zeros-decided (d .before .before .before .before .before .before .if1 .left) (d .before .before .before .before .if2 .left)
+    (d .before .before .if3 .left) (d .if4 .left)
 
 pub is-free-spec : {M : Type 1} → statement M
 is-free-spec = tie.close (tie.spec returns returns-2 returns-3 returns-4 returns-5)

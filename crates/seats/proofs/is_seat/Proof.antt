@@ -16,7 +16,7 @@ row-fault-requires : tie.Need-row-fault-requires
 row-fault-requires c κs = search needs
 
 returns-2 : tie.Need-returns-2
-returns-2 c = fault-decided _ _ _ _ (c .before .before .is-free .ensures .fails (c .before .if1 .left)) (c .row-fault .ensures)
+returns-2 c = fault-decided _ _ _ (c .before .before .is-free .ensures .fails (c .before .if1 .left)) (c .row-fault .ensures)
 
 pub is-seat-spec : {M : Type 1} → statement M
 is-seat-spec = tie.close (tie.spec is-free-requires returns row-fault-requires returns-2)
