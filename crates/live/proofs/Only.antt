@@ -25,7 +25,7 @@ new-only M r s A B =
     (⊎-elim (λ d. d .0 ∙ sym (d .1)) (λ d. d .0 ∙ sym (d .1)) (c .2))
 
 pub addition-only : One-addition
-addition-only l row label r s A B =
+addition-only l row r s A B =
     let c = call-only (A .added) (B .added) in
     joined r s (c .0) (c .1)
     (⊎-elim (λ d. d .0 .0 ∙ sym (d .1 .0)) (λ d. d .0 .0 ∙ sym (d .1 .0)) (c .2)) (A .size) (B .size)

@@ -2,7 +2,7 @@
 use mathlib.Core.Path.{_≡_, sym, ap, _∙_}
 use mathlib.Core.Logic.{_⊎_, inl, inr, ⊎-elim, _≢_}
 use mathlib.Core.Bool.{Bool}
-use mathlib.Core.List.{List, []}
+use mathlib.Core.List.{List}
 use Prim.Native.Nat.{ℕ, _<_}
 use native.Mathlib.Omega.{arith}
 use Rattle.numbers.specs.Decides.{Decides}
@@ -11,8 +11,8 @@ use Rattle.numbers.proofs.Divisors.{lcm-positive}
 use Rattle.rules.specs.Bounds.{max-elements, max-rows}
 use Rattle.rules.specs.Live as rules
 use Rattle.rules.specs.Live.{Blank, Seated, InOrder, common, commonOf, sumOver}
-use Rattle.outline.specs.Time.{Capped}
-use Rattle.outline.proofs.Periods.{capped-some, capped-none}
+use Rattle.time.specs.Time.{Capped}
+use Rattle.time.proofs.Periods.{capped-some, capped-none}
 use Rattle.tally.specs.Tally.{columnLive}
 use Rattle.tally.proofs.Tally.{one-positive}
 use Rattle.live.specs.declared.Live.{Live}
@@ -56,14 +56,14 @@ module _ (l : Live) {d : ℕ} (C : Capped (common (liveOf l)) d) where
 
   -- the sums decide
   pub sums-decide : d ≢ 0 → d ≡ l .denominator → Seated (liveOf l) → (xs : List ℕ) {b : Bool}
-      → at xs ≡ sumOver d (columnLive (l .elements) (l .cost) (l .period) (l .first) (l .second) [])
+      → at xs ≡ sumOver d (columnLive (l .elements) (l .cost) (l .period) (l .first) (l .second) (l .label))
       → Decides ((s : ℕ) → s < max-elements → at (l .sums) s ≡ at xs s) b → Decides (InOrder (liveOf l)) b
   unfolding sumOver
   sums-decide z e S xs {b} X D =
       let c : d ≡ common (liveOf l) = capped-some C z .0 in
       let worked : (s : ℕ) → at xs s ≡ sumOver (common (liveOf l)) (liveOf l) s =
       λ s. ap (λ (g : ℕ → ℕ). g s) X
-      ∙ ap (λ (n : ℕ). sumOver n (columnLive (l .elements) (l .cost) (l .period) (l .first) (l .second) []) s) c in
+      ∙ ap (λ (n : ℕ). sumOver n (columnLive (l .elements) (l .cost) (l .period) (l .first) (l .second) (l .label)) s) c in
       record {
         holds = λ t. record {
           rows = S;

@@ -17,7 +17,7 @@ use Rattle.rules.specs.Refusals.{Answers, faults}
 use Rattle.rules.specs.Live.{Blank, Seated, places, vacant, but, common, commonOf, sumOver, placed, put}
 use Rattle.table.specs.declared.Row.{Row}
 use Rattle.table.specs.Columns.{columnTable}
-use Rattle.outline.specs.Time.{Capped}
+use Rattle.time.specs.Time.{Capped}
 use Rattle.tally.specs.Tally.{Passing}
 use Rattle.live.specs.declared.Live.{Live}
 use Rattle.seats.specs.Seats.{Zeros}
@@ -125,13 +125,13 @@ put-passing l k row Z h S N =
       first = sym (at-set (l .first) k (row .first) (omega (arith, Z .first))) j;
       second = sym (at-set (l .second) k (row .second) (omega (arith, Z .second))) j;
     })
-    (live-passing (put (liveOf l) k (entryOf row 0)) (S .high) (put-place S k {e = entryOf row 0} (⊎-elim (λ R. inr R) (λ z. inl (
+    (live-passing (put (liveOf l) k (entryOf row)) (S .high) (put-place S k {e = entryOf row} (⊎-elim (λ R. inr R) (λ z. inl (
     vacant-is z)) N)))
   where
-    vacant-is : Zeros row 0 → entryOf row 0 ≡ vacant
-    vacant-is z = λ j. record { cost = z .cost j; period = z .period j; first = z .first j; second = z .second j; label = 0 }
+    vacant-is : Zeros row → entryOf row ≡ vacant
+    vacant-is z = λ j. record { cost = z .cost j; period = z .period j; first = z .first j; second = z .second j; label = z .label j }
 
-module _ {l r : Live} {k label : ℕ} {row : Row} (Z : Sized l) (h : k < max-rows) (P : PutIn l k row label r) where
+module _ {l r : Live} {k : ℕ} {row : Row} (Z : Sized l) (h : k < max-rows) (P : PutIn l k row r) where
   cost-is : at (r .cost) ≡ but (at (l .cost)) k (row .cost)
   cost-is = ap at (P .cost) ∙ at-set (l .cost) k (row .cost) (omega (arith, Z .cost))
 
@@ -144,8 +144,8 @@ module _ {l r : Live} {k label : ℕ} {row : Row} (Z : Sized l) (h : k < max-row
   second-is : at (r .second) ≡ but (at (l .second)) k (row .second)
   second-is = ap at (P .second) ∙ at-set (l .second) k (row .second) (omega (arith, Z .second))
 
-  label-is : at (r .label) ≡ but (at (l .label)) k label
-  label-is = ap at (P .labels) ∙ at-set (l .label) k label (omega (arith, Z .label))
+  label-is : at (r .label) ≡ but (at (l .label)) k (row .label)
+  label-is = ap at (P .label) ∙ at-set (l .label) k (row .label) (omega (arith, Z .label))
 
   pub put-sized : Sized r
   put-sized = record {
@@ -153,18 +153,18 @@ module _ {l r : Live} {k label : ℕ} {row : Row} (Z : Sized l) (h : k < max-row
     period = ap length (P .period) ∙ length-set (l .period) k (row .period) ∙ Z .period;
     first = ap length (P .first) ∙ length-set (l .first) k (row .first) ∙ Z .first;
     second = ap length (P .second) ∙ length-set (l .second) k (row .second) ∙ Z .second;
-    label = ap length (P .labels) ∙ length-set (l .label) k label ∙ Z .label;
+    label = ap length (P .label) ∙ length-set (l .label) k (row .label) ∙ Z .label;
     sums = P .size;
   }
 
-  pub put-common : common (liveOf r) ≡ common (placed (liveOf l) k (entryOf row label))
+  pub put-common : common (liveOf r) ≡ common (placed (liveOf l) k (entryOf row))
   put-common = ap commonOf period-is
 
-  module _ (short : common (placed (liveOf l) k (entryOf row label)) ≤ max-slots) where
-    denominator-is : r .denominator ≡ common (placed (liveOf l) k (entryOf row label))
+  module _ (short : common (placed (liveOf l) k (entryOf row)) ≤ max-slots) where
+    denominator-is : r .denominator ≡ common (placed (liveOf l) k (entryOf row))
     denominator-is = P .denominator .short (omega (arith, put-common)) ∙ put-common
 
-    sum-is : at (r .sums) ≡ sumOver (common (placed (liveOf l) k (entryOf row label))) (placed (liveOf l) k (entryOf row label))
+    sum-is : at (r .sums) ≡ sumOver (common (placed (liveOf l) k (entryOf row))) (placed (liveOf l) k (entryOf row))
     unfolding sumOver
     sum-is =
         P .sums
@@ -179,7 +179,7 @@ module _ {l r : Live} {k label : ℕ} {row : Row} (Z : Sized l) (h : k < max-row
           sum = λ s. 0;
         }))
 
-    pub put-is : liveOf r ≡ put (liveOf l) k (entryOf row label)
+    pub put-is : liveOf r ≡ put (liveOf l) k (entryOf row)
     put-is = λ j. record {
       elements = P .elements j;
       cost = cost-is j;

@@ -25,7 +25,7 @@ abbrev pub One-new : Type 0
 One-new = (M : ℕ) (r s : Changed) → NewAnswer M r → NewAnswer M s → r ≡ s
 
 abbrev pub One-addition : Type 0
-One-addition = (l : LiveTable) (row : Row) (label : ℕ) (r s : Changed) → AddAnswer l row label r → AddAnswer l row label s → r ≡ s
+One-addition = (l : LiveTable) (row : Row) (r s : Changed) → AddAnswer l row r → AddAnswer l row s → r ≡ s
 
 abbrev pub One-removal : Type 0
 One-removal = (l : LiveTable) (k : ℕ) (r s : Changed) → RemoveAnswer l k r → RemoveAnswer l k s → r ≡ s

@@ -7,14 +7,14 @@ use table::Answer;
 use table::Row;
 use table::Table;
 ghost use mathlib.Core.Path.{_≡_};
-ghost use mathlib.Core.Bool.{not};
+ghost use mathlib.Core.Bool.{not, cond};
 ghost use Prim.Native.Nat.{ℕ, _<_};
 ghost use lib.Dec.{ltb};
 ghost use Rattle.numbers.specs.Decides.{Decides};
 ghost use Rattle.numbers.specs.Finite.{lowest};
 ghost use Rattle.numbers.specs.Lists.{at};
 ghost use Rattle.rules.specs.Bounds.{max-elements, max-rows};
-ghost use Rattle.rules.specs.Live.{InOrder, Seated};
+ghost use Rattle.rules.specs.Live.{InOrder};
 ghost use Rattle.live.specs.State.{liveOf, NewSeat, PutIn, unchanged};
 ghost use Rattle.live.specs.Answers.{NewAnswer, AddAnswer, RemoveAnswer};
 
@@ -65,6 +65,19 @@ fn lowest_free(period: &[u16; Table::ROWS]) -> usize
     i
 }
 
+// The number of the first of two refusals that applies, else 0.
+fn earlier_of(first: bool, number: u32, second: bool, other: u32) -> u32
+    ensures { λ r. ⌜ r ≡ cond first number (cond second other 0) ⌝ }
+{
+    if first {
+        return number;
+    }
+    if second {
+        return other;
+    }
+    Answer::DONE
+}
+
 impl Live {
     // No rows. A denominator of 0 is no live table's.
     fn blank(elements: usize, denominator: u64) -> Live
@@ -83,7 +96,7 @@ impl Live {
     }
 
     // It keeps the rules: any other is off.
-    fn is_in_order(self) -> bool
+    pub fn is_in_order(self) -> bool
         ensures { λ r. ⌜ Decides (InOrder (liveOf self)) r ⌝ }
     {
         let live = self;
@@ -111,34 +124,35 @@ impl Live {
             &live.period,
             &live.first,
             &live.second,
+            &live.label,
         );
         are_same(&live.sums, &sums)
     }
 
     // Place `k` holds the row, and denominator and sums are worked out afresh. The denominator is 0 where it would be above 4096.
-    fn put(self, k: usize, row: Row, label: u16) -> Live
-        requires { ⌜ (k < max-rows) × Seated (liveOf self) × NewSeat (self .elements) row ⌝ }
-        ensures { λ r. ⌜ PutIn self k row label r ⌝ }
+    fn put(self, k: usize, row: Row) -> Live
+        requires { ⌜ (k < max-rows) × InOrder (liveOf self) × NewSeat (self .elements) row ⌝ }
+        ensures { λ r. ⌜ PutIn self k row r ⌝ }
     {
         let mut cost = self.cost;
         let mut period = self.period;
         let mut first = self.first;
         let mut second = self.second;
-        let mut labels = self.label;
+        let mut label = self.label;
         cost[k] = row.cost;
         period[k] = row.period;
         first[k] = row.first as u8;
         second[k] = row.second as u8;
-        labels[k] = label;
+        label[k] = row.label;
         let d = tally::denominator_of(&period);
-        let sums = tally::sums_of(self.elements, d, &cost, &period, &first, &second);
+        let sums = tally::sums_of(self.elements, d, &cost, &period, &first, &second, &label);
         Live {
             elements: self.elements,
             cost: cost,
             period: period,
             first: first,
             second: second,
-            label: labels,
+            label: label,
             denominator: d,
             sums: sums,
         }
@@ -172,9 +186,9 @@ impl Live {
         }
     }
 
-    // A row with its label is put in the lowest free place.
-    pub fn add(self, row: Row, label: u16) -> Changed
-        ensures { λ r. ⌜ AddAnswer self row label r ⌝ }
+    // A row is put in the lowest free place.
+    pub fn add(self, row: Row) -> Changed
+        ensures { λ r. ⌜ AddAnswer self row r ⌝ }
     {
         let live = self;
         if !Live::is_in_order(live) {
@@ -184,14 +198,14 @@ impl Live {
         if number != Answer::DONE {
             return Live::refused(live, number);
         }
-        if seats::has_row(Table::ROWS, &live.period, &live.first, &live.second, row) {
-            return Live::refused(live, Answer::PASTED_ROW);
-        }
+        let pasted = seats::has_row(Table::ROWS, &live.period, &live.first, &live.second, row);
         let k = lowest_free(&live.period);
-        if k == Table::ROWS {
-            return Live::refused(live, Answer::NO_FREE_PLACE);
+        let full = k == Table::ROWS;
+        let other = earlier_of(pasted, Answer::PASTED_ROW, full, Answer::NO_FREE_PLACE);
+        if other != Answer::DONE {
+            return Live::refused(live, other);
         }
-        let after = Live::put(live, k, row, label);
+        let after = Live::put(live, k, row);
         if after.denominator == 0 {
             return Live::refused(live, Answer::LONG_HYPERPERIOD);
         }
@@ -221,11 +235,12 @@ impl Live {
             period: 0,
             first: 0,
             second: 0,
+            label: 0,
         };
         Changed {
             answer: Answer::done(),
             taken: 0,
-            live: Live::put(live, k, free, 0),
+            live: Live::put(live, k, free),
         }
     }
 }

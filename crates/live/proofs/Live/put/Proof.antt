@@ -33,7 +33,7 @@ array-write-period c = search needs
 cast-first : tie.Need-cast-first
 cast-first c =
     let z = c .before .before .before .before .before .before in
-    omega (arith, new-seat-fits (z .args .self .elements) (z .args .row) (z .pre .1 .high) (z .pre .2) .0)
+    omega (arith, new-seat-fits (z .args .self .elements) (z .args .row) (z .pre .1 .rows .high) (z .pre .2) .0)
 
 array-write-first : tie.Need-array-write-first
 array-write-first c = search needs
@@ -41,41 +41,41 @@ array-write-first c = search needs
 cast-second : tie.Need-cast-second
 cast-second c =
     let z = c .before .before .before .before .before .before .before in
-    omega (arith, new-seat-fits (z .args .self .elements) (z .args .row) (z .pre .1 .high) (z .pre .2) .1)
+    omega (arith, new-seat-fits (z .args .self .elements) (z .args .row) (z .pre .1 .rows .high) (z .pre .2) .1)
 
 array-write-second : tie.Need-array-write-second
 array-write-second c = search needs
 
-mul-labels : tie.Need-mul-labels
-mul-labels c = search needs
+mul-label : tie.Need-mul-label
+mul-label c = search needs
 
-array-write-labels : tie.Need-array-write-labels
-array-write-labels c = search needs
+array-write-label : tie.Need-array-write-label
+array-write-label c = search needs
 
 denominator-of-requires : tie.Need-denominator-of-requires
 denominator-of-requires c κs =
     let z = c .before .before .before .before .before .before .before .before in
-    passing-periods _ (put-passing (z .args .self) (z .args .k) (z .args .row) (sized z) (z .pre .0) (z .pre .1) (z .pre .2))
+    passing-periods _ (put-passing (z .args .self) (z .args .k) (z .args .row) (sized z) (z .pre .0) (z .pre .1 .rows) (z .pre .2))
 
 sums-of-requires : tie.Need-sums-of-requires
 sums-of-requires c κs =
-    let d = c .before .before .before .before in
+    let d = c .before .before .before .before .before in
     let z = d .before .before .before .before .before .before .before .before .before in (
-      capped-small (d .denominator-of .ensures),
-      put-passing (z .args .self) (z .args .k) (z .args .row) (sized z) (z .pre .0) (z .pre .1) (z .pre .2),
+      omega (arith, capped-small (d .denominator-of .ensures), z .pre .1 .short),
+      put-passing (z .args .self) (z .args .k) (z .args .row) (sized z) (z .pre .0) (z .pre .1 .rows) (z .pre .2),
     )
 
 returns : tie.Need-returns
 unfolding sumOver
 returns c =
-    let d = c .before .before .before .before .before in
+    let d = c .before .before .before .before .before .before in
     record {
       elements = refl;
       cost = refl;
       period = refl;
       first = refl;
       second = refl;
-      labels = refl;
+      label = refl;
       denominator = d .denominator-of .ensures;
       sums = c .sums-of .ensures .1;
       size = c .sums-of .ensures .0;
@@ -93,8 +93,8 @@ put-spec =
     array-write-first
     cast-second
     array-write-second
-    mul-labels
-    array-write-labels
+    mul-label
+    array-write-label
     denominator-of-requires
     sums-of-requires
     returns)

@@ -67,7 +67,7 @@ done-requires c κs = search needs
 put-requires : tie.Need-put-requires
 put-requires c κs = (
   omega (arith, c .before .before .before .before .before .if2 .left),
-  ordered (c .before .before .before .before .before .before) .rows,
+  ordered (c .before .before .before .before .before .before),
   inr (record { cost = refl; period = refl; first = refl; second = refl; label = refl }),
 )
 
