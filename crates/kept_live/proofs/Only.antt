@@ -19,7 +19,7 @@ new-in-place-only M q r c d A B = said-only (new-only M (A .0) (B .0) (A .1) (B 
 pub add-in-place-only : (p : Live) (cost period first second label : ℕ) (q r : Live) (c d : ℕ)
     → AddInPlace p cost period first second label q c → AddInPlace p cost period first second label r d → (q ≡ r) × (c ≡ d)
 add-in-place-only p cost period first second label q r c d A B =
-    said-only (addition-only p _ label (A .0) (B .0) (A .1) (B .1)) (A .2) (B .2)
+    said-only (addition-only p _ (A .0) (B .0) (A .1) (B .1)) (A .2) (B .2)
 
 pub remove-in-place-only : (p : Live) (k : ℕ) (q r : Live) (c d : ℕ) → RemoveInPlace p k q c → RemoveInPlace p k r d → (q ≡ r) × (c ≡ d)
 remove-in-place-only p k q r c d A B = said-only (removal-only p k (A .0) (B .0) (A .1) (B .1)) (A .2) (B .2)

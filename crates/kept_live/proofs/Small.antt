@@ -24,10 +24,10 @@ unfolding Fit
 new-small {M} {x} A =
     (answers-fit last-number 0 (new-checks M) _ _ (lit≤ tt, lit≤ tt, tt) (A .made .answers) .0, omega (arith, A .taken))
 
-pub add-small : {l : Live} {row : Row} {label : ℕ} {x : Changed} → AddAnswer l row label x → Small x
+pub add-small : {l : Live} {row : Row} {x : Changed} → AddAnswer l row x → Small x
 unfolding Fit
-add-small {l} {row} {label} {x} A = (
-  answers-fit last-number 0 (add-checks (liveOf l) (entryOf row label)) _ _ (
+add-small {l} {row} {x} A = (
+  answers-fit last-number 0 (add-checks (liveOf l) (entryOf row)) _ _ (
     lit≤ tt,
     lit≤ tt,
     (

@@ -26,7 +26,7 @@ NewInPlace M q c = (x : Changed) × NewAnswer M x × Said x q c
 
 abbrev pub AddInPlace : Live → (cost period first second label : ℕ) → Live → ℕ → Type 0
 AddInPlace p cost period first second label q c =
-    (x : Changed) × AddAnswer p (record { cost = cost; period = period; first = first; second = second }) label x × Said x q c
+    (x : Changed) × AddAnswer p (record { cost = cost; period = period; first = first; second = second; label = label }) x × Said x q c
 
 abbrev pub RemoveInPlace : Live → ℕ → Live → ℕ → Type 0
 RemoveInPlace p k q c = (x : Changed) × RemoveAnswer p k x × Said x q c

@@ -42,8 +42,9 @@ fn added(was: Live, cost: u16, period: u16, first: u16, second: u16, label: u16)
         period: period,
         first: first,
         second: second,
+        label: label,
     };
-    told(Live::add(was, row, label))
+    told(Live::add(was, row))
 }
 
 fn removed(was: Live, place: usize) -> Kept
@@ -62,7 +63,7 @@ pub extern "C" fn ring_live_new(live: &mut Live, elements: usize) -> u32
     after.code
 }
 
-// A row with its label is put in the lowest free place.
+// A row is put in the lowest free place.
 #[no_mangle]
 pub extern "C" fn ring_live_add(
     live: &mut Live,
