@@ -4,12 +4,16 @@ use Prim.Native.Nat.{ℕ, _≤_}
 use native.Mathlib.Decide.{ℕ-discrete}
 use native.Mathlib.Omega.{arith}
 use mathlib.Core.Bool.{not}
+use mathlib.Core.List.{List}
 use lib.Dec.{lit≤}
-use Rattle.numbers.proofs.Finite.{lowest-le}
+use lib.ListN.{length}
+use Rattle.numbers.proofs.Finite.{lowest-le, count-le}
 use Rattle.rules.specs.Bounds.{max-rows}
 use Rattle.rules.specs.Refusals.{last-number}
-use Rattle.rules.specs.Live.{held, new-checks, add-checks, remove-checks}
+use Rattle.rules.specs.TableFile.{numbers}
+use Rattle.rules.specs.Live.{held, present, new-checks, add-checks, remove-checks, rows-file-checks, Filed}
 use Rattle.rules.proofs.Answers.{Fit, answers-fit}
+use Rattle.rules.proofs.Small.{last-place, writer-fit}
 use Rattle.table.specs.declared.Row.{Row}
 use Rattle.live.specs.declared.Live.{Live}
 use Rattle.live.specs.declared.Changed.{Changed}
@@ -70,3 +74,14 @@ remove-small {l} {k} {x} A = (
   answers-fit last-number 0 (remove-checks (liveOf l) k) _ _ (lit≤ tt, lit≤ tt, (lit≤ tt, lit≤ tt, tt)) (A .removed .answers) .0,
   omega (arith, A .taken),
 )
+
+pub file-small : (v : ℕ) (l : Live) (was now : List ℕ) (n p : ℕ) → Filed v (liveOf l) was now n p → (n ≤ last-number) × (p ≤ last-place)
+unfolding Fit
+file-small v l was now n p A =
+    let t = present (liveOf l) in
+    answers-fit last-number last-place (rows-file-checks v (liveOf l) (length was)) n p (
+      lit≤ tt,
+      lit≤ tt,
+      writer-fit v (t .table .elements) (t .table .rows) (numbers t) (length was) (count-le max-rows (held (liveOf l))),
+    )
+    (A .answers)

@@ -1,12 +1,13 @@
 // The live table changed where it is kept (#109), for those who keep one: the supervisor, a C program (include/ringlive.h). Each call takes
 // it by value, and what is handed back is stored where it was. Each answers 256 × number + place; an addition's place is the one taken.
+// The rows present are written as a table file from where they are kept.
 use live::Changed;
 use live::Live;
 use table::Row;
 ghost use Prim.Native.Nat.{_≤_};
 ghost use Rattle.rules.specs.Bounds.{max-rows};
 ghost use Rattle.rules.specs.Refusals.{last-number};
-ghost use Rattle.kept_live.specs.InPlace.{NewInPlace, AddInPlace, RemoveInPlace, Told};
+ghost use Rattle.kept_live.specs.InPlace.{NewInPlace, AddInPlace, RemoveInPlace, Told, FileToC};
 
 // A live table, and what is answered.
 #[repr(C)]
@@ -88,4 +89,19 @@ pub extern "C" fn ring_live_remove(live: &mut Live, place: usize) -> u32
     let after = removed(*live, place);
     *live = after.live;
     after.code
+}
+
+fn written(was: Live, version: u64, out: &mut [u8]) -> u32
+    ensures { λ r. ⌜ FileToC was version (now (out .entry)) (now (out .exit)) r ⌝ }
+{
+    let answer = live_file::write_file(was, version, out);
+    256 * answer.number + answer.place
+}
+
+// The rows present, written as a table file in the version that is told.
+#[no_mangle]
+pub extern "C" fn ring_live_file(live: &Live, version: u64, out: &mut [u8]) -> u32
+    ensures { λ r. ⌜ FileToC (now (live .entry)) version (now (out .entry)) (now (out .exit)) r ⌝ }
+{
+    written(*live, version, out)
 }
