@@ -10,29 +10,19 @@
  *     show                                  the denominator, then the rows present and the load sums of the segments, a line each
  *     verdict                               number and place of the verdict on the rows present, in the order of their places
  *
- * ringplan.h has the meaning of each number. */
+ * Any other line is answered `no such line`. ringplan.h has the meaning of each number. The program `session` answers the same. */
 #include "ringlive.h"
 #include "ringplan.h"
 
 #include <inttypes.h>
 #include <stdio.h>
+#include <string.h>
 
-/* The table file of the rows present; its length. */
-static size_t write_file(const struct ring_live *live, uint8_t *file) {
-    const uint8_t head[7] = {'R', 'B', 'T', 1, 0, (uint8_t)live->elements, 0};
-    size_t n = 0;
-    for (; n < sizeof head; n++) file[n] = head[n];
-    for (unsigned i = 0; i < RING_LIVE_PLACES; i++) {
-        if (live->period[i] == 0) continue;
-        file[n++] = (uint8_t)(live->cost[i] % 256);
-        file[n++] = (uint8_t)(live->cost[i] / 256);
-        file[n++] = (uint8_t)(live->period[i] % 256);
-        file[n++] = (uint8_t)(live->period[i] / 256);
-        file[n++] = live->first[i];
-        file[n++] = live->second[i];
-        file[6]++;
-    }
-    return n;
+/* The verdict on the rows present, or why they are no table file. */
+static uint32_t verdict(const struct ring_live *live) {
+    static uint8_t file[RING_FILE_BYTES];
+    uint32_t answer = ring_live_file(live, 2, file, sizeof file);
+    return answer ? answer : ring_verdict(file, 7 + 8 * (size_t)file[6]);
 }
 
 static void show(const struct ring_live *live) {
@@ -46,28 +36,24 @@ static void show(const struct ring_live *live) {
 int main(void) {
     /* all zeros, which is no live table: 15 until one is made */
     static struct ring_live live;
-    static uint8_t file[RING_FILE_BYTES];
     char line[128];
     while (fgets(line, sizeof line, stdin)) {
         unsigned cost, period, first, second, label;
         size_t place, elements;
         uint32_t answer;
-        char word[16] = "";
-        if (sscanf(line, "add %u %u %u %u %u", &cost, &period, &first, &second, &label) == 5) {
-            if (cost > 65535 || period > 65535 || first > 65535 || second > 65535 || label > 65535) {
-                printf("no such number\n");
-                continue;
-            }
+        int end = 0;
+        if (sscanf(line, "add %u %u %u %u %u %n", &cost, &period, &first, &second, &label, &end) == 5 && line[end] == '\0' &&
+            cost < 65536 && period < 65536 && first < 65536 && second < 65536 && label < 65536) {
             answer = ring_live_add(&live, (uint16_t)cost, (uint16_t)period, (uint16_t)first, (uint16_t)second, (uint16_t)label);
             printf("add %u %u\n", RING_NUMBER(answer), RING_PLACE(answer));
-        } else if (sscanf(line, "new %zu", &elements) == 1) {
+        } else if (sscanf(line, "new %zu %n", &elements, &end) == 1 && line[end] == '\0') {
             printf("new %u\n", RING_NUMBER(ring_live_new(&live, elements)));
-        } else if (sscanf(line, "remove %zu", &place) == 1) {
+        } else if (sscanf(line, "remove %zu %n", &place, &end) == 1 && line[end] == '\0') {
             printf("remove %u\n", RING_NUMBER(ring_live_remove(&live, place)));
-        } else if (sscanf(line, "%15s", word) == 1 && word[0] == 's') {
+        } else if (strcmp(line, "show\n") == 0) {
             show(&live);
-        } else if (word[0] == 'v') {
-            answer = ring_verdict(file, write_file(&live, file));
+        } else if (strcmp(line, "verdict\n") == 0) {
+            answer = verdict(&live);
             printf("verdict %u %u\n", RING_NUMBER(answer), RING_PLACE(answer));
         } else {
             printf("no such line\n");

@@ -6,8 +6,8 @@
  * need no heap, no initialisation and no C library but memcpy, memset and memmove; none calls itself; each takes at most
  * RING_STACK_BYTES bytes of stack (ringplan.h, where the numbers of refusals are).
  *
- * All answer 256 × number + place. Number 0 says done; its place is the place that an added row has taken, else 0. A refusal's place is
- * 0. */
+ * All answer 256 × number + place. Number 0 says done; its place is the place that an added row has taken, else 0. A refusal's place is 0,
+ * but for 20. */
 #ifndef RINGLIVE_H
 #define RINGLIVE_H
 
@@ -47,6 +47,13 @@ uint32_t ring_live_add(struct ring_live *live, uint16_t cost, uint16_t period, u
 
 /* Removes the row in a place, which is then free. Gives 0, 15 as above, and 25 where the place is above 63 or holds no row. */
 uint32_t ring_live_remove(struct ring_live *live, size_t place);
+
+/* Writes the rows present as a table file, in the order of their places: what the functions of ringplan.h take. Version 2 has their labels.
+ * The file's byte 6 is the number of rows; it has 7 + 6 × rows bytes in version 1 and 7 + 8 × rows in version 2, at most RING_FILE_BYTES.
+ * Past it the lent bytes are left alone. The live table stays as it is. Gives 0, and in this order 15 as above, 3 where the version is
+ * neither 1 nor 2, 5 where there are no rows, 20 for a row with a label in version 1, its place the lowest such row of the file, and 17
+ * where `room` is too short. */
+uint32_t ring_live_file(const struct ring_live *live, uint64_t version, uint8_t *file, size_t room);
 
 #ifdef __cplusplus
 }

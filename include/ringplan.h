@@ -42,7 +42,7 @@ enum {
     RING_HAS_FINISHED = 16,     /* not given by these functions */
     RING_SHORT_OUTPUT = 17,     /* the memory lent for the answer is too short */
     RING_PASTED_ROW = 18,       /* a row has the ends and the period of an earlier one; place: the later row */
-    RING_LOST_LABEL = 20,       /* not given by these functions: a label that is to be written in version 1; place: the row */
+    RING_LOST_LABEL = 20,       /* a label that is to be written in version 1 (ringlive.h); place: the row */
     RING_NO_FREE_PLACE = 24,    /* all 64 places of a live table hold rows (ringlive.h) */
     RING_NO_ROW_THERE = 25,     /* a place of a live table is above 63 or holds no row (ringlive.h) */
     RING_NO_ROW = 32            /* a row that is asked for is past the last; place: 0 for the first of the two, 1 for the second */

@@ -56,5 +56,11 @@ pub fn write_file(live: Live, version: u64, out: &mut [u8]) -> Answer
         &mut numbers,
     );
     let size = Table::ROW_NUMBERS * rows;
-    writer::write(version, live.elements as u64, rows as u64, &numbers[..size], out)
+    writer::write(
+        version,
+        live.elements as u64,
+        rows as u64,
+        &numbers[..size],
+        out,
+    )
 }
