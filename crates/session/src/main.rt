@@ -133,8 +133,12 @@ fn show(live: Live) {
     }
 }
 
-// The verdict on a file at the front of `bytes`.
-fn judge(bytes: &[u8], size: usize) {
+// The verdict on a file of version 2 with this many rows, at the front of `bytes`.
+fn judge(bytes: &[u8], rows: usize) {
+    if rows > Table::ROWS {
+        return;
+    }
+    let size = table::row_place(Table::VERSION_2, rows);
     if size > bytes.len() {
         return;
     }
@@ -149,8 +153,8 @@ fn verdict(live: Live) {
         print_line(b"verdict", &[answer.number as u64, answer.place as u64]);
         return;
     }
-    let size = Table::HEADER + table::row_bytes(Table::VERSION_2) * Table::of(&bytes).rows;
-    judge(&bytes, size);
+    let head = Table::of(&bytes);
+    judge(&bytes, head.rows);
 }
 
 fn make(given: &[u64]) -> Live {
