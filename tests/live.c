@@ -277,6 +277,9 @@ int main(int argc, char **argv) {
     if (limits() || broken_states()) return 1;
     for (unsigned k = 0; k < sessions; k++)
         if (session(150)) return 1;
+    static const unsigned wanted[] = {0, 3, 4, 5, 7, 8, 9, 11, 15, 17, 18, 20, 24, 25};
+    for (unsigned k = 0; k < sizeof wanted / sizeof *wanted && sessions >= 200; k++)
+        if (!given[wanted[k]]) return fail("a number that was never given");
     printf("%u sessions;", sessions);
     for (unsigned n = 0; n < 33; n++)
         if (given[n]) printf(" %u: %u", n, given[n]);

@@ -34,11 +34,11 @@ but-other g k x i n = ap (λ (b : Bool). cond b x (g i)) (is-false (eqb i k) (λ
 
 -- ---- rows with the same ends and period
 
-three-of : {a b c x y z : ℕ} → a ≡ x → b ≡ y → c ≡ z → T (eqb a x && eqb b y && eqb c z)
+pub three-of : {a b c x y z : ℕ} → a ≡ x → b ≡ y → c ≡ z → T (eqb a x && eqb b y && eqb c z)
 three-of {a} {b} {c} {x} {y} {z} e f g =
     both (eqb a x && eqb b y) (eqb c z) (both (eqb a x) (eqb b y) (eqb-of a x e) (eqb-of b y f)) (eqb-of c z g)
 
-of-three : {a b c x y z : ℕ} → T (eqb a x && eqb b y && eqb c z) → (a ≡ x) × (b ≡ y) × (c ≡ z)
+pub of-three : {a b c x y z : ℕ} → T (eqb a x && eqb b y && eqb c z) → (a ≡ x) × (b ≡ y) × (c ≡ z)
 of-three {a} {b} {c} {x} {y} {z} t =
     let q = fst (eqb a x && eqb b y) (eqb c z) t in
     (eqb→eq a x (fst (eqb a x) (eqb b y) q), eqb→eq b y (snd (eqb a x) (eqb b y) q), eqb→eq c z (snd (eqb a x && eqb b y) (eqb c z) t))
