@@ -9,8 +9,8 @@ version := $(shell sed -n 's/^.define RINGPLAN_VERSION_[A-Z]* //p' include/ringp
 
 all: $(library) $(live)
 
-$(library): crates.txt $(shell find crates -type f)
-	rt staticlib supervisor
+target/staticlib/lib%.a: crates.txt $(shell find crates -type f)
+	rt staticlib $*
 
 install: $(library) $(live)
 	install -d '$(DESTDIR)$(PREFIX)/include' '$(DESTDIR)$(PREFIX)/lib/pkgconfig'
