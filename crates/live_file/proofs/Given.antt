@@ -10,8 +10,8 @@ use lib.Dec.{T, ltb, ltb→lt}
 use lib.ListN.{length}
 use Rattle.numbers.specs.Finite.{sum, count, any}
 use Rattle.numbers.specs.Divisors.{lcm}
-use Rattle.numbers.proofs.Truth.{decide, le-or-lt}
-use Rattle.numbers.proofs.Finite.{least, any-of, count-mono}
+use Rattle.numbers.proofs.Truth.{decide, le-or-lt, is-true, is-false}
+use Rattle.numbers.proofs.Finite.{least, any-of, only-true, only-false, count-mono}
 use Rattle.numbers.proofs.Divisors.{Positive, lcm-divides, lcm-multiple}
 use Rattle.rules.specs.Bounds.{max-rows, max-slots}
 use Rattle.rules.specs.Bus.{Labelled, pasted}
@@ -26,7 +26,7 @@ use Rattle.tally.proofs.Tally.{one-positive}
 use Rattle.live.proofs.Kept.{three-of, of-three}
 use Rattle.live.proofs.Order.{common-positive}
 use Rattle.live_file.specs.Promises.{Rows-are-given}
-use Rattle.live_file.proofs.Present.{count-held, count-free, place-of-count}
+use Rattle.live_file.proofs.Present.{place-of-count}
 
 -- ---- the place of a row
 
@@ -40,8 +40,8 @@ module _ (h : ℕ → Bool) where
       (λ (m : j < count n h). let z = nth n j m in (z .0, omega (arith, z .1), z .2, z .3))
       (λ (m : count n h ≤ j).
       ⊎-elim
-      (λ (t : T (h n)). (n, omega arith, t, omega (arith, count-held h n t)))
-      (λ f. absurd (let z : ⊥ = omega (arith, count-free h n f) in z))
+      (λ (t : T (h n)). (n, omega arith, t, omega (arith, only-true (h n) 1 (is-true (h n) t))))
+      (λ f. absurd (let z : ⊥ = omega (arith, only-false (h n) 1 (is-false (h n) f)) in z))
       (decide (h n)))
       (⊎-elim (λ m. inr m) (λ m. inl m) (le-or-lt (count n h) j))
 
@@ -130,9 +130,9 @@ module _ (v : ℕ) (l : Live) (O : InOrder l) where
     unfolding pasted
     unpasted j m p =
         let k = least j _ p in
-        let e = of-three (k .2) in
         let i : j < n = omega (arith, few) in
         let h : k .0 < n = omega (arith, k .1) in
+        let e = of-three (k .2) in
         apart l O j (k .0) i (k .1) (sym (first-is (k .0) h) ∙ e .0 ∙ first-is j i) (sym (second-is (k .0) h) ∙ e .1 ∙ second-is j i)
         (sym (period-is (k .0) h) ∙ e .2 ∙ period-is j i)
 
