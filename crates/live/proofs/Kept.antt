@@ -16,7 +16,8 @@ use Rattle.rules.specs.Bounds.{max-elements, max-rows, max-slots}
 use Rattle.rules.specs.Bus.{Table, pasted}
 use Rattle.rules.specs.Refusals.{Answers, faults}
 use Rattle.rules.specs.Live.{Live, Entry, Blank, Seated, InOrder, Made, Added, Removed, Reached, made, added, removed}
-use Rattle.rules.specs.Live.{vacant, places, held, free, common, commonOf, sumOver, empty, but, placed, put, alone, repeated, add-checks, remove-checks}
+use Rattle.rules.specs.Live.{vacant, places, held, free, common, commonOf, sumOver, empty, but, placed, put, alone}
+use Rattle.rules.specs.Live.{repeated, add-checks, remove-checks}
 use Rattle.rules.proofs.Answers.{None, Numbered, none-of, answered}
 use Rattle.rules.proofs.Calls.{call-none}
 use Rattle.table.specs.Sound.{SoundRow}

@@ -151,5 +151,6 @@ present-length {cost} {period} {first} {second} {label} P =
     ap length (present-numbers P) ∙ numbers-length (presentIn cost period first second label)
     ∙ ap (λ (k : ℕ). rowNumbers * k) (sym (P .rows))
 
-pub present-few : {cost period first second label was now : List ℕ} {n : ℕ} → PutPresent cost period first second label was now n → n ≤ max-rows
+pub present-few : {cost period first second label was now : List ℕ} {n : ℕ} → PutPresent cost period first second label was now n
+    → n ≤ max-rows
 present-few {period = period} P = omega (arith, P .rows, count-le max-rows (holds period))

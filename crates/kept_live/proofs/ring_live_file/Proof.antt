@@ -1,5 +1,5 @@
--- `kept_live::ring_live_file` meets its contract: a walk of its MIR, by hand. The borrow of the live table is looked into, the live table is
--- copied out, and `written` is handed the copy, the version and the bytes. All that the proof knows of `written` is that it meets its
+-- `kept_live::ring_live_file` meets its contract: a walk of its MIR, by hand. The borrow of the live table is looked into, the live table
+-- is copied out, and `written` is handed the copy, the version and the bytes. All that the proof knows of `written` is that it meets its
 -- contract.
 use mathlib.Core.Path.{_≡_, refl}
 use Prim.Native.Nat.{ℕ, _<_, _^_}
@@ -69,7 +69,7 @@ Cited 𝓤 H A at-mem run = tripleOf 𝓤 H A callee.signature (callee.spec 𝓤
 abbrev mach : Live → Val
 mach d = LL.val T.the-type T′.the-laws d
 
--- ---- the walk, for any live table h, version and bytes ys; of each borrow κ is the lifetime, q the share, b and o the place and γ the name
+-- ---- the walk, for any live table h, version and bytes ys; of each borrow κ is the lifetime, q the share, b and o the place, γ the name
 
 module _
     {M : Type 1} (𝓤 : URA M) (H : Heap 𝓤) (A : Atoms 𝓤) (W : Given 𝓤 H A) (at-mem : Memory → SProp 𝓤) (run : Routine → Fun 𝓤)

@@ -1,6 +1,6 @@
 -- `kept_live::ring_live_remove` meets its contract: a walk of its MIR, by hand. The borrow is opened, the live table is copied out and
--- passed to `removed` with the numbers, and the one handed back is stored where it was. All that the proof knows of `removed` is that it meets
--- its contract.
+-- passed to `removed` with the numbers, and the one handed back is stored where it was. All that the proof knows of `removed` is that it
+-- meets its contract.
 use mathlib.Core.Path.{refl, ap}
 use Prim.Native.Nat.{ℕ, _<_, _^_}
 use mathlib.Core.List.{[], _∷_, List}

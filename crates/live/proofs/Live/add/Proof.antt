@@ -68,7 +68,9 @@ same : (c : tie.Else3) → c .before .before .lowest-free .result ≡ free (live
 same c = c .before .before .lowest-free .ensures
 
 -- the row is put there
-placed : (c : tie.After-put) → let z = start (c .before .before) .args in PutIn (z .self) (free (liveOf (z .self))) (z .row) (c .put .result)
+placed : (c : tie.After-put)
+    → let z = start (c .before .before) .args in
+    PutIn (z .self) (free (liveOf (z .self))) (z .row) (c .put .result)
 placed c = rw (same (c .before)) at (c .put .ensures)
 
 is-in-order-requires : tie.Need-is-in-order-requires
