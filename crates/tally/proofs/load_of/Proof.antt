@@ -31,8 +31,11 @@ segments-requires : tie.Need-segments-requires
 segments-requires c κs =
     let b = c .before .before in
     let z = b .before .before in
-    let S = z .pre .3 (omega (arith, b .if1 .left)) in
-    (z .pre .0, record { low = S .first-low; high = S .first-high }, record { low = S .second-low; high = S .second-high })
+    let S = z .pre .3 (omega (arith, b .if1 .left)) in (
+      z .pre .0,
+      record { low = omega (arith, S .first-low, S .second-low); high = omega (arith, S .first-high, S .second-high) },
+      record { low = omega (arith, S .first-low, S .second-low); high = omega (arith, S .first-high, S .second-high) },
+    )
 
 cast-if2 : tie.Need-cast-if2
 cast-if2 c = search needs
