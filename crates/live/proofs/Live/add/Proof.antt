@@ -46,11 +46,14 @@ sound c = c .before .before .before .before .before .before .before .before .bef
 abbrev start : tie.After-earlier-of → tie.Start
 start c = sound c .before .before .before .before
 
-found : (c : tie.After-earlier-of) → let z = start c .args in Found (z .self) (z .row) (c .earlier-of .result)
+-- what the numbers handed to `earlier_of` say, of what it answers
+found : (c : tie.After-earlier-of)
+    → c .earlier-of .result
+    ≡ cond (c .before .before .before .before .has-row .result) 18 (cond (eqb (c .before .lowest-free .result) max-rows) 24 0)
+    → let z = start c .args in Found (z .self) (z .row) (c .earlier-of .result)
 unfolding repeated
-found c =
-    c .earlier-of .ensures
-    ∙ ap₂ (λ (a b : Bool). cond a 18 (cond b 24 0)) (c .before .before .before .before .has-row .ensures)
+found c e =
+    e ∙ ap₂ (λ (a b : Bool). cond a 18 (cond b 24 0)) (c .before .before .before .before .has-row .ensures)
     (ap (λ (k : ℕ). eqb k max-rows) (c .before .lowest-free .ensures))
 
 -- 18 and 24 are not found
@@ -61,7 +64,7 @@ clear c =
     let b = c .before in
     let z = start b in
     add-clear (z .args .self) (z .args .row) (sized z) (ordered (sound b .before .before)) (clean (sound b)) (b .earlier-of .result)
-    (found b) (c .if3 .left)
+    (found b (b .earlier-of .ensures)) (c .if3 .left)
 
 -- the place that is found is the lowest free one
 same : (c : tie.Else3) → c .before .before .lowest-free .result ≡ free (liveOf (start (c .before) .args .self))
@@ -116,7 +119,7 @@ returns-3 c =
     let z = start b in
     rw (c .refused3 .ensures)
     (add-found (z .args .self) (z .args .row) (sized z) (ordered (sound b .before .before)) (clean (sound b)) (b .earlier-of .result)
-    (found b) (c .before .if3 .taken))
+    (found b (b .earlier-of .ensures)) (c .before .if3 .taken))
 
 put-requires : tie.Need-put-requires
 put-requires c κs =
