@@ -17,7 +17,7 @@
 
 /* The version of these functions. The second number grows where something is added, the first where something changes. */
 #define RINGPLAN_VERSION_MAJOR 5
-#define RINGPLAN_VERSION_MINOR 2
+#define RINGPLAN_VERSION_MINOR 3
 
 #ifdef __cplusplus
 extern "C" {
@@ -39,14 +39,16 @@ enum {
     /* 12 is retired and never given: two overlap sets can't end alike */
     RING_LIGHT_ROW = 13,        /* periods differ, and the row's cost is too small for it; place: the row */
     RING_OVER_BOUND = 14,       /* an overlap set asks for more than the bus can carry; place: the set */
-    RING_OFF_STATE = 15,        /* not given by these functions */
+    RING_OFF_STATE = 15,        /* a live table breaks the rules (ringlive.h); not given by these functions */
     RING_HAS_FINISHED = 16,     /* not given by these functions */
     RING_SHORT_OUTPUT = 17,     /* the memory lent for the answer is too short */
     RING_PASTED_ROW = 18,       /* a row has the ends and the period of an earlier one; place: the later row */
-    RING_LOST_LABEL = 20,       /* not given by these functions: a label that is to be written in version 1; place: the row */
+    RING_LOST_LABEL = 20,       /* a label that is to be written in version 1 (ringlive.h); place: the row */
     RING_OUR_LIMIT = 21,        /* our rows (labels below 32,768) are over our limit on a segment; place: the segment */
     RING_THEIR_LIMIT = 22,      /* the second maker's rows (labels from 32,768 on) are over their limit on a segment; place: the segment */
     RING_WRONG_LIMIT = 23,      /* a limit is above 1,000 thousandths */
+    RING_NO_FREE_PLACE = 24,    /* all 64 places of a live table hold rows (ringlive.h) */
+    RING_NO_ROW_THERE = 25,     /* a place of a live table is above 63 or holds no row (ringlive.h) */
     RING_NO_ROW = 32            /* a row that is asked for is past the last; place: 0 for the first of the two, 1 for the second */
 };
 

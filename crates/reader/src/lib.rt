@@ -15,7 +15,7 @@ ghost use Rattle.table.specs.Rows.{inMemory};
 ghost use Rattle.table.specs.Columns.{columnLabelled};
 
 // The numbers of a row, from `at` on.
-fn put_numbers(row: Row, at: usize, out: &mut [u16])
+pub fn put_numbers(row: Row, at: usize, out: &mut [u16])
     requires { ⌜ at + rowNumbers ≤ length (now out) ⌝ }
     ensures { λ _. ⌜ now (out .exit) ≡ sets (now (out .entry)) at (inMemory row) ⌝ }
 {

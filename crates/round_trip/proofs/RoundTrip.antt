@@ -337,7 +337,7 @@ reader-numbered : (f : List ℕ) (room : ℕ) → Numbered (reader-checks f room
 unfolding reader-checks Numbered
 reader-numbered f room = numbered-join (file-checks f) _ (file-numbered f) (omega arith)
 
-writer-numbered : (v M n : ℕ) (xs : List ℕ) (room : ℕ) → Numbered (writer-checks v M n xs room)
+pub writer-numbered : (v M n : ℕ) (xs : List ℕ) (room : ℕ) → Numbered (writer-checks v M n xs room)
 unfolding writer-checks Numbered
 writer-numbered v M n xs room = numbered-join (version-checks v M n xs) _ (version-numbered M n xs v) (omega arith)
 

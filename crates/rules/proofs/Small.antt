@@ -1,21 +1,23 @@
--- Every answer of the verdict and of the whole plan, also with limits, has a small number and a small place, so that both fit one number
--- for C.
+-- Every answer of the verdict and of the whole plan, also with limits, and of the writer has a small number and a small place, so that both
+-- fit one number for C.
 use mathlib.Core.Logic.{⊎-elim}
 use mathlib.Core.List.{List, [], _∷_, _++_, append-assoc}
-use Prim.Native.Nat.{ℕ, suc, _-_, _≤_, _<_}
+use Prim.Native.Nat.{ℕ, suc, _*_, _-_, _≤_, _<_}
 use native.Mathlib.Omega.{arith}
+use lib.ListN.{length}
 use lib.Dec.{lit≤}
 use Rattle.numbers.proofs.Truth.{le-or-lt}
 use Rattle.numbers.specs.Lists.{each}
 use Rattle.rules.specs.Bounds.{max-elements, max-rows}
 use Rattle.rules.specs.Bus.{Table, Labelled}
-use Rattle.rules.specs.TableFile.{fileTable, fileLabelled}
+use Rattle.rules.specs.TableFile.{rowNumbers, fileTable, fileLabelled, memoryTable, memoryLabelled}
 use Rattle.rules.specs.Loads.{hyperperiod}
 use Rattle.rules.specs.Parties.{ours, theirs, own}
 use Rattle.rules.specs.Refusals.{Check, Answers, last-number, faults, pasted-row, light-row, over-bound, short-output}
 use Rattle.rules.specs.Refusals.{over-limit, wrong-limit, segment-checks, limit-checks, limited-checks}
 use Rattle.rules.specs.Refusals.{header-checks, row-checks, file-checks, pasted-checks, given-checks, line-checks, bound-checks}
 use Rattle.rules.specs.Refusals.{no-row, shared-checks, verdict-checks, plan-checks}
+use Rattle.rules.specs.Refusals.{lost-label, size-checks, memory-checks, label-checks, version-checks, writer-checks}
 use Rattle.rules.proofs.Answers.{None, Fit, answers-split, answers-fit, fit-join, fit-each}
 
 -- places are rows, or sets, of which there are no more than rows, or segments, of which there are fewer
@@ -52,6 +54,19 @@ unfolding row-checks Fit
 rows-fit t few =
     fit-each last-number last-place (faults t) (t .rows)
     (λ i l. (lit≤ tt, omega arith, (lit≤ tt, omega arith, (lit≤ tt, omega arith, tt))))
+
+-- the writer's, of no more rows than a table may have
+pub writer-fit : (v M n : ℕ) (xs : List ℕ) (room : ℕ) → n ≤ max-rows → Fit last-number last-place (writer-checks v M n xs room)
+unfolding writer-checks version-checks memory-checks label-checks Fit
+writer-fit v M n xs room few =
+    let t = memoryTable M n xs in
+    let sizes = size-checks t (length xs) (rowNumbers * n) in
+    let memory : Fit last-number last-place (memory-checks M n xs) =
+    fit-join last-number last-place sizes (row-checks t) (lit≤ tt, lit≤ tt, (lit≤ tt, lit≤ tt, (lit≤ tt, lit≤ tt, tt))) (rows-fit t few) in
+    let labels = fit-each last-number last-place (λ i. lost-label v (memoryLabelled M n xs) i ∷ []) n (λ i l. (lit≤ tt, omega arith, tt)) in
+    fit-join last-number last-place (version-checks v M n xs) _
+    (lit≤ tt, lit≤ tt, fit-join last-number last-place (memory-checks M n xs) (label-checks v (memoryLabelled M n xs)) memory labels)
+    (lit≤ tt, lit≤ tt, tt)
 
 table-fit : (t : Table) (ds : List Check) → t .rows ≤ max-rows → Fit last-number last-place ds
     → Fit last-number last-place (past-header t ds)

@@ -11,6 +11,7 @@ pub mod Interval
 pub mod Planner
 pub mod Refusals
 pub mod Calls
+pub mod Live
 pub mod Text
 pub mod Program
 pub mod Raising

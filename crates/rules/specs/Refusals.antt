@@ -3,7 +3,8 @@
 --   Check              a refusal: its number, its place, and the condition under which it is given
 --   Answers cs n p     number n and place p answer the checks cs: those of the first that applies, or 0 and 0 where none does
 --
--- Each refusal of the table stands here once, with its number. Below are the calls' own orders of checking.
+-- Each refusal of the table stands here once, with its number; those that only a live table gives stand in specs/Live. Below are the calls'
+-- own orders of checking.
 use mathlib.Core.Path.{_≡_}
 use mathlib.Core.Logic.{_⊎_, _≢_}
 use mathlib.Core.List.{List, [], _∷_, _++_}

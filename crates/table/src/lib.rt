@@ -163,6 +163,10 @@ impl Answer {
 
     pub const WRONG_LIMIT: u32 = 23;
 
+    pub const NO_FREE_PLACE: u32 = 24;
+
+    pub const NO_ROW_THERE: u32 = 25;
+
     pub const NO_ROW: u32 = 32;
 
     pub fn done() -> Answer

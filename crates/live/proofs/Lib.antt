@@ -1,0 +1,5 @@
+pub mod State
+pub mod Kept
+pub mod Order
+pub mod Answering
+pub mod Only

@@ -1,0 +1,3 @@
+pub mod Present
+pub mod Only
+pub mod Given
