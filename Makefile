@@ -1,5 +1,5 @@
-# make install PREFIX=FOLDER   the libraries for C: FOLDER/include/ringplan.h and ringlive.h, FOLDER/lib/libringplan.a and libringlive.a, and
-# a file for pkg-config.
+# make install PREFIX=FOLDER   the libraries for C: FOLDER/include/ringplan.h and ringlive.h, FOLDER/lib/libringplan.a and libringlive.a,
+# and a file for pkg-config.
 #
 # A library is proved and built first where it is missing or older than its source. It is code for x86-64.
 PREFIX ?= /usr/local

@@ -20,7 +20,19 @@ use Rattle.rules.specs.Loads.{light}
 use Rattle.rules.specs.Refusals.{Answers, short-output, verdict-checks}
 use Rattle.rules.specs.Text.{Line, text}
 use Rattle.rules.specs.Program.{verdict}
-use Rattle.rules.specs.Raising.{leastCost, raisedCost, raisedFile, before-13, raise-checks, Raised, raise, raise-lines, RaisePrinted, refused, raises}
+use Rattle.rules.specs.Raising.{
+  leastCost,
+  raisedCost,
+  raisedFile,
+  before-13,
+  raise-checks,
+  Raised,
+  raise,
+  raise-lines,
+  RaisePrinted,
+  refused,
+  raises,
+}
 use Rattle.rules.proofs.Answers.{None, answers-only, answered, none-join}
 use Rattle.rules.proofs.Calls.{lent-take, call-must}
 use Rattle.table.specs.Sound.{Sound, Passed}
@@ -151,7 +163,8 @@ module _ (f : List ℕ) (x : Raising) (R : RaisedBeside f x) where
         (λ i l. ap (λ (b : ℕ). lineBy (ltb (t .cost i) b) i (t .cost i) b) (R .costs z .row i l) ∙ row-line t (passed .sound) i l)
 
     pub rendered-raised : (r : Verdict) → IsVerdict (raisedFile f) r → {was mid now : List ℕ} {next size n p : ℕ}
-        → PutsLines (raisedLines (x .given .columns .rows) (at (x .given .columns .cost)) (at (x .cost))) (x .given .columns .rows) was 0 mid next
+        → PutsLines (raisedLines (x .given .columns .rows) (at (x .given .columns .cost)) (at (x .cost)))
+        (x .given .columns .rows) was 0 mid next
         → n ≡ numberOf r → p ≡ placeOf r → PutsLine (verdict n p) mid next now size → RaiseRendered f was now size
     rendered-raised r J {was} {mid} {now} {next} {size} {n} {p} P en ep Q = record {
       lines = raise-lines t ++ (verdict n p ∷ []);

@@ -117,7 +117,8 @@ module _ (f : List ℕ) (r : Decoded) (D : Decodes (given-checks f) (fileLabelle
             labelled = D .labelled;
             refused = D .refused;
           };
-          costs = λ e. costs-are cs (subst (λ (u : Table). ByRow (u .rows) (λ i. max (u .cost i) (up (u .period i) (l .time .interval))) cs) held B);
+          costs = λ e. costs-are cs
+              (subst (λ (u : Table). ByRow (u .rows) (λ i. max (u .cost i) (up (u .period i) (l .time .interval))) cs) held B);
           none = λ e. absurd (e z);
         }
 

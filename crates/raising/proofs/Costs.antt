@@ -74,7 +74,8 @@ module _ (t : Table) (s : Sound t) (i : ℕ) (l : i < t .rows) where
   passing-over : (c : ℕ) → T (not (equalPeriods t)) → T (passing c) → P ≤ c * L
   passing-over c d h =
       ⊎-elim (λ q. q)
-      (λ q. absurd (refutes (light (priced t i c) i) h (along (sym (light-priced t i c)) (both (not (equalPeriods t)) (ltb (c * L) P) d (lt→ltb (c * L) P q)))))
+      (λ q. absurd (refutes (light (priced t i c) i) h
+      (along (sym (light-priced t i c)) (both (not (equalPeriods t)) (ltb (c * L) P) d (lt→ltb (c * L) P q)))))
       (le-or-lt P (c * L))
 
   over-passing : (c : ℕ) → P ≤ c * L → T (passing c)

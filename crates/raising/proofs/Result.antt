@@ -57,7 +57,8 @@ blank-raised {t} {i} B =
 each-row : {n : ℕ} {a b : ℕ → ℕ} → ((i : ℕ) → i < n → a i ≡ b i) → ((i : ℕ) → n ≤ i → a i ≡ b i) → a ≡ b
 each-row {n} h k = fun-ext (λ i. ⊎-elim (k i) (h i) (le-or-lt n i))
 
-same-table : {s t : Labelled} → Alike s t → ((i : ℕ) → t .table .rows ≤ i → Blank (s .table) i) → ((i : ℕ) → t .table .rows ≤ i → Blank (t .table) i)
+same-table : {s t : Labelled} → Alike s t → ((i : ℕ) → t .table .rows ≤ i → Blank (s .table) i)
+    → ((i : ℕ) → t .table .rows ≤ i → Blank (t .table) i)
     → ((i : ℕ) → t .table .rows ≤ i → s .label i ≡ t .label i) → s ≡ t
 same-table {s} {t} q p r l =
     let cost : s .table .cost ≡ t .table .cost = each-row (q .cost) (λ i m. p i m .cost ∙ sym (r i m .cost)) in

@@ -10,7 +10,17 @@ use Rattle.numbers.specs.Lists.{at}
 use Rattle.rules.specs.Bounds.{max-rows}
 use Rattle.rules.specs.Bus.{Table, Labelled}
 use Rattle.rules.specs.TableFile.{headerSize, rowSize, rowNumbers, version, fileTable, fileLabelled, memoryLabelled, numbers, bytes}
-use Rattle.rules.specs.Refusals.{Answers, short-output, file-checks, header-checks, given-checks, line-checks, pasted-checks, version-checks, writer-checks}
+use Rattle.rules.specs.Refusals.{
+  Answers,
+  short-output,
+  file-checks,
+  header-checks,
+  given-checks,
+  line-checks,
+  pasted-checks,
+  version-checks,
+  writer-checks,
+}
 use Rattle.rules.specs.Calls.{lent, Written}
 use Rattle.rules.specs.Raising.{raised, raisedLabelled, raisedFile, before-13, raise-checks, Raised}
 use Rattle.rules.proofs.Answers.{None, Numbered, joined, unjoined, none-of, none-left, numbered-join}
@@ -49,7 +59,8 @@ raised-sound {t} s = record {
 
 pub raising-none : (f : List ℕ) (x : Raising) → RaisedBeside f x → x .given .answer .number ≡ 0 → None (before-13 f)
 raising-none f x R z =
-    none-of (before-13 f) (x .given .answer .place) (outline-numbered f) (answers-zero (before-13 f) (x .given .answer) z (R .given .answers))
+    none-of (before-13 f) (x .given .answer .place) (outline-numbered f)
+    (answers-zero (before-13 f) (x .given .answer) z (R .given .answers))
 
 module _ (f : List ℕ) where
   abbrev given : Labelled
@@ -103,7 +114,8 @@ module _ (f : List ℕ) where
     written-raises {was} {now} {m} {p} w = record {
       answers =
           joined (before-13 f) (short-output (length was < length f) ∷ []) m p none
-          (rw long (unjoined (version-checks v M n (numbers g)) (short-output (length was < headerSize + rowSize v * n) ∷ []) m p raised-passes
+          (rw long (unjoined (version-checks v M n (numbers g)) (short-output (length was < headerSize + rowSize v * n) ∷ [])
+          m p raised-passes
           (w .answers)));
       done = λ e. w .done e ∙ ap (λ (xs : List ℕ). lent xs was) (bytes-alike v (memory-back g));
       refused = w .refused;
@@ -146,7 +158,8 @@ module _ (f : List ℕ) where
       pub numbers-are : (was : List ℕ)
           → take (rowNumbers * d .columns .rows)
           (lent
-          (numbers (columnLabelled 0 (d .columns .rows) (x .cost) (d .columns .period) (d .columns .first) (d .columns .second) (d .labels)))
+          (numbers (columnLabelled 0 (d .columns .rows) (x .cost) (d .columns .period) (d .columns .first)
+          (d .columns .second) (d .labels)))
           was)
           ≡ numbers g
       unfolding numbers

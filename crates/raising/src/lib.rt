@@ -95,7 +95,8 @@ pub fn raised_table(file: &[u8]) -> Raising
     }
 }
 
-// The raised table's file, written to the front of `out` in the version that it was given in; or a refusal of 1 to 9, 18, 10 and 11, then 17.
+// The raised table's file, written to the front of `out` in the version that it was given in; or a refusal of 1 to 9, 18, 10 and 11, then
+// 17.
 pub fn raise(file: &[u8], out: &mut [u8]) -> Answer
     ensures { λ r. ⌜ Raised (now (file .entry)) (now (out .entry)) (now (out .exit)) (r .number) (r .place) ⌝ }
 {

@@ -2,7 +2,8 @@
 --
 --   swapped p v g            g, but v where p holds
 --   ofParted of m e new, beginParted begin m new
---                            which stretch a slot lies in, and where a stretch begins, after one that ends at slot e is parted before slot m
+--                            which stretch a slot lies in, and where a stretch begins, after one that ends at slot e is parted before
+--                            slot m
 --   number-parted, cursor-parted
 --                            the second part has the new number; the walk is at the first part
 --   tiles-parted             the stretches tile the slots

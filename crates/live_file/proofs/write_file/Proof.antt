@@ -52,7 +52,8 @@ returns-2 c =
     let i = e .before in
     let z = i .before .before .args in
     file-written (z .version) (liveOf (z .t1)) (z .out .now) (p .put-present .result) _ _ _ _
-    (granted (i .is-in-order .ensures) (e .if1 .left)) (p .put-present .ensures .rows) (present-numbers (p .put-present .ensures)) (w .write .ensures)
+    (granted (i .is-in-order .ensures) (e .if1 .left)) (p .put-present .ensures .rows) (present-numbers (p .put-present .ensures))
+    (w .write .ensures)
 
 pub write-file-spec : {M : Type 1} → statement M
 write-file-spec =

@@ -46,19 +46,27 @@ slice-aggregate-put-all-numbers : tie.Need-slice-aggregate-put-all-numbers
 slice-aggregate-put-all-numbers c = search needs
 
 put-all-numbers-requires : tie.Need-put-all-numbers-requires
-put-all-numbers-requires c κs = let l = rows (c .before .before .before .before .before .before .before .before .before) in (l, omega (arith, l))
+put-all-numbers-requires c κs =
+    let l = rows (c .before .before .before .before .before .before .before .before .before) in (l, omega (arith, l))
 
 version-of-requires : tie.Need-version-of-requires
-version-of-requires c κs = let e = c .before .before .before .before .before .before .before .before .before .before .before in omega (arith, long-enough (bytes (found e)) (none e))
+version-of-requires c κs =
+    let e = c .before .before .before .before .before .before .before .before .before .before .before in
+    omega (arith, long-enough (bytes (found e)) (none e))
 
 mul-numbers : tie.Need-mul-numbers
 mul-numbers c = omega (arith, rows (c .before .before .before .before .before .before .before .before .before .before .before .before))
 
 -- the numbers of all rows fit the array
 fit : (c : tie.After-version-of)
-    → rowNumbers * found (c .before .before .before .before .before .before .before .before .before .before .before .before) .raised-table .result .given .columns .rows
+    → rowNumbers * found (c .before .before .before .before .before .before .before .before .before .before .before .before)
+    .raised-table .result .given .columns .rows
     ≤ length (c .before .before .put-all-numbers .last .1 .1 .1 .1 .1 .1 .0)
-fit c = omega (arith, rows (c .before .before .before .before .before .before .before .before .before .before .before .before), c .before .before .put-all-numbers .kept)
+fit c = omega (
+  arith,
+  rows (c .before .before .before .before .before .before .before .before .before .before .before .before),
+  c .before .before .put-all-numbers .kept,
+)
 
 array-share-prefix-numbers : tie.Need-array-share-prefix-numbers
 array-share-prefix-numbers c = fit c

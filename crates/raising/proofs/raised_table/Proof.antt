@@ -62,7 +62,8 @@ raised-costs-requires c κs =
     let o = placed l in
     let e = passed o in
     let g = taken e in
-    let I = raising-interval (bytes g) (g .given .result) (g .given .ensures) (e .if1 .left) (o .layout-of .result) (laid o) (l .if2 .left) in
+    let I = raising-interval (bytes g) (g .given .result) (g .given .ensures) (e .if1 .left)
+    (o .layout-of .result) (laid o) (l .if2 .left) in
     (raising-times (bytes g) (g .given .result) (g .given .ensures) (e .if1 .left), I .0, I .1)
 
 returns-3 : tie.Need-returns-3
