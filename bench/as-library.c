@@ -14,6 +14,11 @@ uint32_t ring_shared(const uint8_t *file, size_t file_bytes, size_t i, size_t j,
     return plain_shared(file, file_bytes, i, j, word);
 }
 
+uint64_t ring_element_list(const uint8_t *file, size_t file_bytes, const uint64_t *plan, size_t plan_words, uint32_t element,
+                           uint8_t *list, size_t room) {
+    return plain_element_list(file, file_bytes, plan, plan_words, element, list, room);
+}
+
 uint32_t ring_sets(const uint8_t *file, size_t file_bytes, uint64_t *sets, size_t room) {
     return plain_sets(file, file_bytes, sets, room);
 }

@@ -259,6 +259,50 @@ uint32_t plain_shared(const uint8_t *file, size_t length, size_t i, size_t j, ui
     return 0;
 }
 
+/* Whether a word of a plan has rows that overlap, or a bit past the last row. */
+static int bad_word(const struct analysis *a, const uint32_t *routes, uint64_t word) {
+    uint32_t used = 0;
+    for (; word; word &= word - 1) {
+        int i = __builtin_ctzll(word);
+        if (i >= a->rows || (used & routes[i])) return 1;
+        used |= routes[i];
+    }
+    return 0;
+}
+
+uint64_t plain_element_list(const uint8_t *file, size_t length, const uint64_t *plan, size_t words, uint32_t element, uint8_t *list,
+                            size_t room) {
+    struct analysis a;
+    uint32_t answer = analyse(file, length, &a), routes[ROWS];
+    if (answer) return (uint64_t)(answer / 256) << 32 | answer % 256;
+    if (element < 1 || element > (uint32_t)a.elements) return (uint64_t)29 << 32;
+    uint64_t into = 0, from = 0;
+    for (int i = 0; i < a.rows; i++) {
+        routes[i] = route(&a, (size_t)i);
+        into |= (uint64_t)((uint32_t)a.to[i] == element) << i;
+        from |= (uint64_t)((uint32_t)a.from[i] == element) << i;
+    }
+    size_t size = 8, hyper = (size_t)a.hyper;
+    for (size_t s = 0; s < hyper && s < words; s++) {
+        if (bad_word(&a, routes, plan[s])) return (uint64_t)19 << 32 | s;
+        size += 4 * (size_t)(((plan[s] & into) != 0) + ((plan[s] & from) != 0));
+    }
+    if (words < hyper || room < size) return (uint64_t)17 << 32;
+    const uint8_t head[] = {'R', 'B', 'E', 1, 0, (uint8_t)element, (uint8_t)hyper, (uint8_t)(hyper >> 8)};
+    memcpy(list, head, sizeof head);
+    uint8_t *at = list + sizeof head;
+    for (size_t s = 0; s < hyper; s++)
+        for (int way = 0; way < 2; way++) {
+            uint64_t moves = plan[s] & (way ? from : into);
+            if (!moves) continue;
+            *at++ = (uint8_t)s;
+            *at++ = (uint8_t)(s >> 8);
+            *at++ = (uint8_t)__builtin_ctzll(moves);
+            *at++ = (uint8_t)way;
+        }
+    return size;
+}
+
 uint32_t plain_sets(const uint8_t *file, size_t length, uint64_t *sets, size_t room) {
     struct analysis a;
     uint32_t answer = analyse(file, length, &a);

@@ -12,6 +12,8 @@
 uint32_t plain_verdict(const uint8_t *file, size_t length);
 uint32_t plain_values(const uint8_t *file, size_t length, uint32_t *values, size_t room);
 uint32_t plain_shared(const uint8_t *file, size_t length, size_t i, size_t j, uint32_t *word);
+uint64_t plain_element_list(const uint8_t *file, size_t length, const uint64_t *plan, size_t words, uint32_t element, uint8_t *list,
+                            size_t room);
 uint32_t plain_sets(const uint8_t *file, size_t length, uint64_t *sets, size_t room);
 uint32_t plain_plan(const uint8_t *file, size_t length, uint64_t *plan, size_t words);
 uint32_t plain_verdict_limited(const uint8_t *file, size_t length, uint32_t ours, uint32_t theirs);

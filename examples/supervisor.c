@@ -1,4 +1,5 @@
-/* How a supervisor uses Collarspoke: it reads a table, checks it, plans it, and walks the slots as the handler of one element would.
+/* How a supervisor uses Collarspoke: it reads a table, checks it, plans it, has the list of one element made, and walks that list as the
+ * slot handler of the element would.
  *
  *     supervisor TABLE ELEMENT
  *
@@ -8,29 +9,19 @@
 #include <stdio.h>
 #include <stdlib.h>
 
-/* Where the rows stand in a table file. */
-enum { HEADER_BYTES = 7, FIRST_AT = 4, SECOND_AT = 5, VERSION_AT = 3, ELEMENTS_AT = 5, ROWS_AT = 6 };
-
-/* Bytes a row: version 2 has a label of two bytes after the six that both have. */
-static unsigned row_bytes(const uint8_t *file) {
-    return file[VERSION_AT] == 2 ? 8 : 6;
-}
-
 /* Says so where an answer is a refusal; ringplan.h has the meaning of each number. */
-static int refused(uint32_t answer) {
-    if (RING_NUMBER(answer) == RING_DONE) return 0;
-    fprintf(stderr, "supervisor: refused with %u, place %u\n", RING_NUMBER(answer), RING_PLACE(answer));
+static int refused(unsigned number, unsigned place) {
+    if (number == RING_DONE) return 0;
+    fprintf(stderr, "supervisor: refused with %u, place %u\n", number, place);
     return 1;
 }
 
-/* What the slot handler of an element does in one slot. It moves data at most once each way: rows that share a slot share no segment. */
-static void handle(const uint8_t *file, unsigned element, unsigned slot, uint64_t word) {
-    for (unsigned i = 0; i < file[ROWS_AT]; i++) {
-        const uint8_t *row = file + HEADER_BYTES + row_bytes(file) * i;
-        if (!(word >> i & 1)) continue;
-        if (row[SECOND_AT] == element) printf("slot %u receive row %u\n", slot, i);
-        if (row[FIRST_AT] == element) printf("slot %u send row %u\n", slot, i);
-    }
+/* What the slot handler of an element does at a tick: `entry` is the first entry that it has not come to yet, and what stands in this
+ * slot, a receive, a send or both, it does. It never looks at another element's moves. */
+static const uint8_t *handle(const uint8_t *entry, const uint8_t *end, unsigned slot) {
+    for (; entry < end && entry[RING_ENTRY_SLOT] + 256u * entry[RING_ENTRY_SLOT + 1] == slot; entry += RING_ENTRY_BYTES)
+        printf("slot %u %s row %u\n", slot, entry[RING_ENTRY_WAY] == RING_SEND ? "send" : "receive", entry[RING_ENTRY_ROW]);
+    return entry;
 }
 
 int main(int argc, char **argv) {
@@ -41,6 +32,7 @@ int main(int argc, char **argv) {
     /* one byte more than the longest table, so that a longer file is refused and not cut short */
     static uint8_t file[RING_FILE_BYTES + 1];
     static uint64_t plan[RING_PLAN_SLOTS];
+    static uint8_t list[RING_LIST_BYTES];
     uint32_t values[RING_VALUES];
     FILE *in = fopen(argv[1], "rb");
     if (!in) {
@@ -50,15 +42,15 @@ int main(int argc, char **argv) {
     size_t bytes = fread(file, 1, sizeof file, in);
     fclose(in);
 
-    if (refused(ring_values(file, bytes, values, RING_VALUES))) return 1;
-    unsigned long element = strtoul(argv[2], NULL, 10);
-    if (element < 1 || element > file[ELEMENTS_AT]) {
-        fprintf(stderr, "supervisor: the ring has elements 1 to %u\n", file[ELEMENTS_AT]);
-        return 2;
-    }
-    if (refused(ring_plan(file, bytes, plan, RING_PLAN_SLOTS))) return 1;
+    uint32_t answer = ring_values(file, bytes, values, RING_VALUES);
+    if (refused(RING_NUMBER(answer), RING_PLACE(answer))) return 1;
+    answer = ring_plan(file, bytes, plan, RING_PLAN_SLOTS);
+    if (refused(RING_NUMBER(answer), RING_PLACE(answer))) return 1;
     unsigned slots = values[RING_HYPERPERIOD];
+    uint64_t size = ring_element_list(file, bytes, plan, slots, (uint32_t)strtoul(argv[2], NULL, 10), list, sizeof list);
+    if (refused(RING_LIST_NUMBER(size), RING_LIST_PLACE(size))) return 1;
     printf("the plan has %u slots and then repeats\n", slots);
-    for (unsigned slot = 0; slot < slots; slot++) handle(file, (unsigned)element, slot, plan[slot]);
+    const uint8_t *entry = list + RING_LIST_HEADER;
+    for (unsigned slot = 0; slot < slots; slot++) entry = handle(entry, list + size, slot);
     return 0;
 }

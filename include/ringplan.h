@@ -6,9 +6,9 @@
  * may be called from several threads at once as long as no two calls share lent memory. None calls itself; each takes at most
  * RING_STACK_BYTES bytes of stack.
  *
- * All answer 256 × number + place. Number 0 says admitted, or done. Any other is a refusal, numbered below; its place is the row or the
- * set concerned, counted from 0, or the segment, numbered from 1, or 0 where the refusal has no place of its own. A refusal leaves lent
- * memory as it was, and memory past the part that an answer fills is left alone too. */
+ * All but ring_element_list answer 256 × number + place. Number 0 says admitted, or done. Any other is a refusal, numbered below; its place
+ * is the row or the set concerned, counted from 0, or the segment, numbered from 1, or 0 where the refusal has no place of its own. A
+ * refusal leaves lent memory as it was, and memory past the part that an answer fills is left alone too. */
 #ifndef RINGPLAN_H
 #define RINGPLAN_H
 
@@ -17,7 +17,7 @@
 
 /* The version of these functions. The second number grows where something is added, the first where something changes. */
 #define RINGPLAN_VERSION_MAJOR 5
-#define RINGPLAN_VERSION_MINOR 3
+#define RINGPLAN_VERSION_MINOR 4
 
 #ifdef __cplusplus
 extern "C" {
@@ -43,12 +43,16 @@ enum {
     RING_HAS_FINISHED = 16,     /* not given by these functions */
     RING_SHORT_OUTPUT = 17,     /* the memory lent for the answer is too short */
     RING_PASTED_ROW = 18,       /* a row has the ends and the period of an earlier one; place: the later row */
+    RING_BAD_WORD = 19,         /* a word of the plan has rows that overlap, or a bit past the last row; place: the slot */
     RING_LOST_LABEL = 20,       /* a label that is to be written in version 1 (ringlive.h); place: the row */
     RING_OUR_LIMIT = 21,        /* our rows (labels below 32,768) are over our limit on a segment; place: the segment */
     RING_THEIR_LIMIT = 22,      /* the second maker's rows (labels from 32,768 on) are over their limit on a segment; place: the segment */
     RING_WRONG_LIMIT = 23,      /* a limit is above 1,000 thousandths */
     RING_NO_FREE_PLACE = 24,    /* all 64 places of a live table hold rows (ringlive.h) */
     RING_NO_ROW_THERE = 25,     /* a place of a live table is above 63 or holds no row (ringlive.h) */
+    RING_WRONG_ELEMENT = 29,    /* the ring has no such element */
+    RING_WRONG_LIST = 30,       /* not given by these functions: a list file's element is not 1 to 32, or its hyperperiod not 1 to 4096 */
+    RING_WRONG_ENTRY = 31,      /* not given by these functions: a list file's slot, row, way or order is wrong; place: the entry */
     RING_NO_ROW = 32            /* a row that is asked for is past the last; place: 0 for the first of the two, 1 for the second */
 };
 
@@ -56,8 +60,8 @@ enum {
 #define RING_NUMBER(answer) ((unsigned)((answer) / 256))
 #define RING_PLACE(answer) ((unsigned)((answer) % 256))
 
-/* the longest table file, the longest plan, the most sets, and the most stack in bytes */
-enum { RING_FILE_BYTES = 519, RING_PLAN_SLOTS = 4096, RING_MOST_SETS = 64, RING_STACK_BYTES = 12288 };
+/* the longest table file, the longest plan, the most sets, the longest list file, and the most stack in bytes */
+enum { RING_FILE_BYTES = 519, RING_PLAN_SLOTS = 4096, RING_MOST_SETS = 64, RING_LIST_BYTES = 32776, RING_STACK_BYTES = 12288 };
 
 /* Whether the bus can carry the table. Gives 0 to 14 and 18. */
 uint32_t ring_verdict(const uint8_t *file, size_t file_bytes);
@@ -113,6 +117,24 @@ uint32_t ring_plan_limited(const uint8_t *file, size_t file_bytes, uint32_t ours
  * or 14, never 13. In its plan the first slots of each job, as many as the row's old cost, carry the data, all of them before the deadline,
  * and the rest stay empty. Gives 0 to 11, 17 where `room` is under `file_bytes`, and 18. */
 uint32_t ring_raise(const uint8_t *file, size_t file_bytes, uint8_t *out, size_t room);
+
+/* Where the numbers of a list file stand, low bytes first: element (8 bits), hyperperiod (16), and then the entries, each with its slot
+ * (16 bits), its row (8) and its way (8): what the element does there. Slots ascend; a slot has at most one receive and then at most one
+ * send. */
+enum { RING_LIST_ELEMENT = 5, RING_LIST_HYPERPERIOD = 6, RING_LIST_HEADER = 8, RING_ENTRY_BYTES = 4 };
+enum { RING_ENTRY_SLOT = 0, RING_ENTRY_ROW = 2, RING_ENTRY_WAY = 3 };
+enum { RING_RECEIVE = 0, RING_SEND = 1 };
+
+/* number and place of what ring_element_list answers; the number is 0 where it answers how many bytes it wrote */
+#define RING_LIST_NUMBER(answer) ((unsigned)((answer) >> 32))
+#define RING_LIST_PLACE(answer) ((unsigned)((answer) & 0xffffffffu))
+
+/* The list file of one element: its moves in the first h words of `plan`, h the hyperperiod, for a handler that walks it slot by slot. It
+ * answers how many bytes it wrote to `list`; RING_LIST_BYTES are always enough. A refusal is answered as 2^32 × number + place, since a
+ * place may be a slot. Gives 0 to 14 and 18 as the verdict does, then 29, 19 for a word present among the first h, and 17 where the plan
+ * has under h words or `room` is too small. Words past the first h are not looked at. The plan may be any; ring_plan's is never refused. */
+uint64_t ring_element_list(const uint8_t *file, size_t file_bytes, const uint64_t *plan, size_t plan_words, uint32_t element,
+                           uint8_t *list, size_t room);
 
 #ifdef __cplusplus
 }

@@ -143,6 +143,11 @@ static void random_table(struct table *t) {
     give_costs(t);
 }
 
+/* Gives some row a long odd period: with the others' it makes a hyperperiod that is too long, more often than not. */
+static void lengthen(struct table *t) {
+    t->row[below(t->rows)].period = between(MAX_SLOTS / 2, MAX_SLOTS - 1) | 1;
+}
+
 /* Row i has the ends and the period of an earlier one. */
 static int pasted(const struct table *t, unsigned i) {
     for (unsigned j = 0; j < i; j++)
@@ -232,7 +237,7 @@ static void give_labels(struct table *t) {
 
 static void damage(struct file *f) {
     switch (below(9)) {
-    case 0: f->length = below((unsigned)f->length + 1); break;
+    case 0: f->length = below(below(2) ? (unsigned)f->length + 1 : 8); break;
     case 1: f->length += between(1, 8); break;
     case 2: f->byte[below(3)] ^= (uint8_t)between(1, 255); break;
     case 3:
@@ -497,6 +502,64 @@ static void compare_raise(const struct file *given, const uint8_t *file, const s
     if (light) compare_result(given, v, &wanted, &t);
 }
 
+/* The lists of an admitted table's plan, of every element: each byte for byte, and together each move twice, sent once, received once. */
+static void compare_lists(const struct file *given, const uint8_t *file, const struct verdict *v, const uint64_t *plan) {
+    static uint8_t list[RING_LIST_BYTES + 1], expected[RING_LIST_BYTES + 1];
+    static unsigned char moved[2][MAX_SLOTS][MAX_ROWS];
+    memset(moved, 0, sizeof moved);
+    size_t entries = 0, moves = 0;
+    for (unsigned e = 1; e <= v->table.elements; e++) {
+        size_t size = oracle_list(v, plan, e, expected), room = size + below(2);
+        memset(list, 0xee, sizeof list);
+        memset(expected + size, 0xee, sizeof expected - size);
+        if (ring_element_list(file, given->length, plan, v->hyper, e, list, room) != size) fail(given, "a list is answered wrongly");
+        if (memcmp(list, expected, sizeof list)) fail(given, "lists differ");
+        for (size_t at = RING_LIST_HEADER; at < size; at += RING_ENTRY_BYTES, entries++)
+            moved[list[at + RING_ENTRY_WAY]][list[at] + 256 * list[at + 1]][list[at + RING_ENTRY_ROW]]++;
+    }
+    for (unsigned s = 0; s < v->hyper; s++)
+        for (unsigned i = 0; i < v->table.rows; i++) {
+            unsigned set = plan[s] >> i & 1;
+            moves += set;
+            if (moved[0][s][i] != set || moved[1][s][i] != set) fail(given, "a move is not received once and sent once");
+        }
+    if (entries != 2 * moves) fail(given, "the lists have other moves than the plan");
+}
+
+/* What the maker of lists refuses, in its order: a bad element before a bad word, a bad word of a short plan before its length. */
+static void compare_bad_lists(const struct file *given, const uint8_t *file, const struct verdict *v, const uint64_t *plan) {
+    static uint8_t list[RING_LIST_BYTES], kept_list[RING_LIST_BYTES];
+    static uint64_t words[MAX_SLOTS + 2];
+    const unsigned elements[] = {0, 1, v->number ? 1 : v->table.elements, v->number ? 2 : v->table.elements + 1, 33, 0xffffffffu};
+    unsigned element = elements[below(6)], bad = MAX_SLOTS;
+    unsigned present = v->number ? below(9) : v->hyper - (below(3) == 0) * below(v->hyper + 1);
+    uint64_t wrong = v->number;
+    if (!v->number) {
+        memcpy(words, plan, v->hyper * sizeof *words);
+        words[v->hyper] = words[v->hyper + 1] = UINT64_MAX; /* past h: never looked at */
+        if (below(2)) words[below(v->hyper)] = below(2) ? UINT64_MAX >> below(64) : (uint64_t)1 << below(64);
+        for (unsigned s = v->hyper; s-- > 0;)
+            if (s < present && oracle_bad_word(&v->table, words[s])) bad = s;
+        if (present == v->hyper && below(2)) present += 1 + below(2);
+    }
+    size_t size = RING_LIST_BYTES, room = 0;
+    if (!v->number && element >= 1 && element <= v->table.elements && bad == MAX_SLOTS && present >= v->hyper)
+        size = oracle_list(v, words, element, kept_list);
+    room = below(2) ? RING_LIST_BYTES : below(2) ? size - 1 : below(8);
+    uint64_t refusal = wrong << 32 | v->place;
+    if (!wrong && (element < 1 || element > v->table.elements)) refusal = (uint64_t)RING_WRONG_ELEMENT << 32;
+    else if (!wrong && bad < MAX_SLOTS) refusal = (uint64_t)RING_BAD_WORD << 32 | bad;
+    else if (!wrong && (present < v->hyper || room < size)) refusal = (uint64_t)RING_SHORT_OUTPUT << 32;
+    memset(list, 0xee, sizeof list);
+    memset(kept_list, 0xee, sizeof kept_list);
+    uint64_t answer = ring_element_list(file, given->length, words, present, element, room ? list : NULL, room);
+    if (refusal) {
+        if (answer != refusal) fail(given, "a list is refused wrongly");
+        if (memcmp(list, kept_list, sizeof list)) fail(given, "a refused list changed lent memory");
+        seen[RING_LIST_NUMBER(refusal)] += RING_LIST_NUMBER(refusal) == RING_WRONG_ELEMENT || RING_LIST_NUMBER(refusal) == RING_BAD_WORD;
+    } else if (answer != size) fail(given, "a list is answered wrongly");
+}
+
 static void compare(const struct file *given) {
     static struct verdict v;
     uint8_t *file = file_end - given->length;
@@ -537,6 +600,7 @@ static void compare(const struct file *given) {
     answer = ring_plan(file, given->length, plan, room);
     if (answer != 256 * v.number + v.place) fail(given, "plan and verdict differ");
     if (memcmp(file, given->byte, given->length)) fail(given, "the file's own bytes changed");
+    if (below(2) == 0) compare_bad_lists(given, file, &v, plan);
     if (v.number) {
         if (!unchanged_from(0, plan, room)) fail(given, "a refusal changed lent memory");
         compare_limits(given, file, &v, NULL);
@@ -547,6 +611,7 @@ static void compare(const struct file *given) {
     if (memcmp(plain, plan, v.hyper * sizeof *plain)) fail(given, "the plain planner's words differ");
     const char *why = "";
     if (!oracle_keeps(&v, plan, &why)) fail(given, why);
+    if (below(8) == 0) compare_lists(given, file, &v, plan);
     admitted++;
     labelled += v.table.version == 2;
     slots += v.hyper;
@@ -571,9 +636,9 @@ static void compare(const struct file *given) {
     for (unsigned n = 0; n < 4; n++) compare_alone(given, &v);
 }
 
-/* 12 is retired, 15 and 16 are the planner's, and 19, 20 and 24 to 31 are given by none of the functions. */
+/* 12 is retired, 15 and 16 are the planner's, and 20, 24 to 28, 30 and 31 are given by none of the functions. */
 static int given_by_some(unsigned n) {
-    return (n <= 18 && n != 12 && n != 15 && n != 16) || (21 <= n && n <= 23) || n == 32;
+    return (n <= 19 && n != 12 && n != 15 && n != 16) || (21 <= n && n <= 23) || n == 29 || n == 32;
 }
 
 int main(int argc, char **argv) {
@@ -598,6 +663,7 @@ int main(int argc, char **argv) {
         if (routes) long_routes(&t);
         else if (below(5) == 0) uneven_table(&t);
         else random_table(&t);
+        if (!routes && below(40) == 0) lengthen(&t);
         if (!routes && below(30)) without_pasted(&t);
         if (!routes && below(3) == 0) to_the_bound(&t, (int)below(2));
         if (!routes && below(30) == 0) paste(&t);

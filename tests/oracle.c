@@ -21,6 +21,31 @@ int oracle_overlap(const struct table *t, unsigned i, unsigned j) {
     return (segments(t, i) & segments(t, j)) != 0;
 }
 
+int oracle_bad_word(const struct table *t, uint64_t word) {
+    for (unsigned i = 0; i < MAX_ROWS; i++) {
+        if (!(word >> i & 1)) continue;
+        if (i >= t->rows) return 1;
+        for (unsigned j = 0; j < i; j++)
+            if ((word >> j & 1) && oracle_overlap(t, i, j)) return 1;
+    }
+    return 0;
+}
+
+size_t oracle_list(const struct verdict *v, const uint64_t *plan, unsigned element, uint8_t *list) {
+    const uint8_t head[] = {0x52, 0x42, 0x45, 1, 0, (uint8_t)element, (uint8_t)(v->hyper % 256), (uint8_t)(v->hyper / 256)};
+    size_t at = sizeof head;
+    memcpy(list, head, sizeof head);
+    for (unsigned s = 0; s < v->hyper; s++)
+        for (unsigned way = 0; way < 2; way++)
+            for (unsigned i = 0; i < v->table.rows; i++) {
+                if (!(plan[s] >> i & 1) || (way ? v->table.row[i].first : v->table.row[i].second) != element) continue;
+                const uint8_t entry[] = {(uint8_t)(s % 256), (uint8_t)(s / 256), (uint8_t)i, (uint8_t)way};
+                memcpy(list + at, entry, sizeof entry);
+                at += sizeof entry;
+            }
+    return at;
+}
+
 static int goes_through(const struct table *t, unsigned i, unsigned element) {
     unsigned e = t->row[i].first;
     for (;;) {

@@ -48,6 +48,12 @@ uint32_t oracle_shared(const struct table *t, unsigned i, unsigned j);
 /* Whether rows i and j of a table share a ring segment. */
 int oracle_overlap(const struct table *t, unsigned i, unsigned j);
 
+/* What is wrong with a word of a plan: rows that overlap, or a bit past the last row. */
+int oracle_bad_word(const struct table *t, uint64_t word);
+
+/* The list file of an element's moves in the words of a plan, found by asking every row at every slot; how many bytes it has. */
+size_t oracle_list(const struct verdict *v, const uint64_t *plan, unsigned element, uint8_t *list);
+
 /* The loads of interval k that are greatest in row order, after `had` slots; 0 where none qualify. For few rows only. */
 int oracle_loads(const struct verdict *v, unsigned k, const uint64_t *had, uint64_t *load);
 

@@ -1,5 +1,6 @@
 // Runs the cases that stand on standard input, a line each: the call, a name, a colon, and the numbers that the call is given. A case with
 // a name only is a table for the verdict. The modules say what numbers a call's case has, and what is printed for it.
+mod lists_of;
 mod meetings;
 mod plans;
 mod tables;
@@ -33,6 +34,22 @@ fn call(heading: &[u8], given: &[u64]) {
     }
     if letter == b'w' {
         tables::write_case(heading, given);
+        return;
+    }
+    if letter == b'l' {
+        tables::read_case(heading, given);
+        return;
+    }
+    if letter == b'f' {
+        tables::write_case(heading, given);
+        return;
+    }
+    if letter == b'e' {
+        lists_of::make_case(heading, given);
+        return;
+    }
+    if letter == b'h' {
+        lists_of::full_case(heading, given);
         return;
     }
     if letter == b'm' {

@@ -3,13 +3,17 @@
 //     read NAME: room / bytes                                  the reader on a file of these bytes; it is lent `room` numbers
 //     version_1 NAME: room / bytes                             the reader of version 1 alone, likewise
 //     write NAME: version elements rows room / numbers         the writer on these; it is lent `room` bytes
+//     list NAME: room / bytes                                  the reader of lists of an element, likewise
+//     file NAME: 1 element hyperperiod room / numbers          the writer of such lists, likewise
 //
-// For each a line is printed: the call, the name, number and place, what the reader returned of the version, M and the row count, and then
-// all of the lent memory, which held 9s before.
+// For each a line is printed: the call, the name, number and place, what the reader returned of the version, M and the row count, or of the
+// element, the hyperperiod and the entry count, and then all of the lent memory, which held 9s before.
 use crate::byte_at;
+use crate::lists_of;
 use cases::number_at;
 use cases::print;
 use reader::Reading;
+use table::Answer;
 
 // as much as a call is given, and is lent, at most
 const MOST: usize = 540;
@@ -28,7 +32,7 @@ fn print_one(x: u64) {
     print(b"", &[x]);
 }
 
-fn print_numbers(numbers: &[u16]) {
+pub(crate) fn print_numbers(numbers: &[u16]) {
     let mut i: usize = 0;
     while i < numbers.len() {
         print_one(wide(numbers[i]));
@@ -53,7 +57,7 @@ fn read_by(heading: &[u8], file: &[u8], out: &mut [u16]) -> Reading {
     reader::read_version_1(file, out)
 }
 
-fn read(heading: &[u8], file: &[u8], out: &mut [u16]) {
+fn read_table(heading: &[u8], file: &[u8], out: &mut [u16]) {
     let r = read_by(heading, file, out);
     print(
         heading,
@@ -66,6 +70,14 @@ fn read(heading: &[u8], file: &[u8], out: &mut [u16]) {
         ],
     );
     print_numbers(out);
+}
+
+fn read(heading: &[u8], file: &[u8], out: &mut [u16]) {
+    if byte_at(heading, 0) == b'l' {
+        lists_of::read(heading, file, out);
+        return;
+    }
+    read_table(heading, file, out);
 }
 
 fn put_bytes(given: &[u64], out: &mut [u8]) {
@@ -104,14 +116,18 @@ pub(crate) fn read_case(heading: &[u8], given: &[u64]) {
 
 // ---- the writer
 
+fn write_by(heading: &[u8], given: &[u64], numbers: &[u16], out: &mut [u8]) -> Answer {
+    let version = number_at(given, 0);
+    let first = number_at(given, 1);
+    let second = number_at(given, 2);
+    if byte_at(heading, 0) == b'f' {
+        return lists::write(first, second, numbers, out);
+    }
+    writer::write(version, first, second, numbers, out)
+}
+
 fn write(heading: &[u8], given: &[u64], numbers: &[u16], out: &mut [u8]) {
-    let answer = writer::write(
-        number_at(given, 0),
-        number_at(given, 1),
-        number_at(given, 2),
-        numbers,
-        out,
-    );
+    let answer = write_by(heading, given, numbers, out);
     print(heading, &[answer.number as u64, answer.place as u64]);
     print_bytes(out);
 }

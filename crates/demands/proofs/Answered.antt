@@ -71,11 +71,11 @@ use Rattle.planner.specs.Proper.{Proper}
 use Rattle.demands.specs.Demands.{Answered}
 use Rattle.demands.proofs.States.{off-test}
 
-by-tests : {cs : List Check} → Tests cs → Answered cs
+pub by-tests : {cs : List Check} → Tests cs → Answered cs
 by-tests ts = (answer ts .0, answer ts .1, answer-is ts)
 
 -- the first list refuses, or the second decides where none of the first applies
-by-lists : (cs ds : List Check) → Numbered cs → Answered cs → (None cs → Answered ds) → Answered (cs ++ ds)
+pub by-lists : (cs ds : List Check) → Numbered cs → Answered cs → (None cs → Answered ds) → Answered (cs ++ ds)
 by-lists cs ds m (n, p, a) more = go (ℕ-discrete n 0)
   where
     go : Dec (n ≡ 0) → Answered (cs ++ ds)

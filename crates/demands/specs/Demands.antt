@@ -7,9 +7,10 @@
 --   Demand-3           every admitted table gets a plan that carries it
 --
 -- Each call's contract (`Read`, `Written`, `Met`, `Crowded`, `JudgedBy`, `Listed`, `PlanAnswer`, `StepAnswer`, `StandingsAnswer`,
--- `MovedInPlace`, `Raised`) relates what the call is given to what it answers. That the call returns, and that its answer stands in this relation, is
--- proved of its function; a clause below speaks of every answer that the contract allows. `was` and `now` are what a lent slice holds
--- before and after, `f` is the file. A clause about an ask `a` speaks of the calls on a file and of those with limits (#108) alike.
+-- `MovedInPlace`, `Raised`) relates what the call is given to what it answers. That the call returns, and that its answer stands in this
+-- relation, is proved of its function; a clause below speaks of every answer that the contract allows. `was` and `now` are what a lent
+-- slice holds before and after, `f` is the file. A clause about an ask `a` speaks of the calls on a file and of those with limits (#108)
+-- alike.
 use mathlib.Core.Path.{_≡_}
 use mathlib.Core.Logic.{_⊎_, _↔_, _≢_}
 use mathlib.Core.List.{List}

@@ -1,13 +1,13 @@
 -- Laws of calls: what a lent slice holds, and a call's answer from the answers to its checks.
-use mathlib.Core.Path.{_≡_, refl, sym, _∙_}
+use mathlib.Core.Path.{_≡_, refl, sym, ap, _∙_}
 use mathlib.Core.Logic.{_⊎_, inl, inr, _≢_}
 use mathlib.Core.List.{List, [], _∷_, _++_}
-use Prim.Native.Nat.{ℕ}
+use Prim.Native.Nat.{ℕ, _+_, _≤_}
 use native.Mathlib.Decide.{ℕ-discrete}
 use native.Mathlib.Omega.{arith}
-use lib.ListN.{length, take, drop}
-use lib.Seq.{take-at}
-use Rattle.numbers.proofs.Lists.{Filled}
+use lib.ListN.{length, take, drop, length-append}
+use lib.Seq.{sets, take-at, drop-drop}
+use Rattle.numbers.proofs.Lists.{Filled, filled-start, filled-take, filled-drop, filled-sets}
 use Rattle.rules.specs.Refusals.{Check, Answers, short-output}
 use Rattle.rules.specs.Calls.{Call, lent}
 use Rattle.rules.proofs.Answers.{None, Numbered, applied, passed, done, stopped, joined, answered, none-of, answers-only}
@@ -21,6 +21,19 @@ lent-take ws was k e = take-at ws (drop (length ws) was) k e
 pub filled-lent : {was out xs : List ℕ} {n : ℕ} → Filled was out n xs → out ≡ lent xs was
 unfolding lent
 filled-lent F = rw (F .count) (F .holds)
+
+-- a header of k places, and then the rest with the header kept
+pub lent-headed : (was mid out h rest : List ℕ) (k : ℕ) → length h ≡ k → k ≤ length was → mid ≡ sets was 0 h
+    → out ≡ lent (take k mid ++ rest) mid → out ≡ lent (h ++ rest) was
+unfolding lent
+lent-headed was mid out h rest k e l q r =
+    let F : Filled was (sets was 0 h) k h = filled-sets h k (filled-start was) (omega (arith, e)) l in
+    let front : take k mid ≡ h = ap (take k) q ∙ filled-take F in
+    let long : length (h ++ rest) ≡ k + length rest = length-append h rest ∙ ap (λ (j : ℕ). j + length rest) e in
+    let past : drop (length (h ++ rest)) mid ≡ drop (length (h ++ rest)) was =
+    ap (λ (j : ℕ). drop j mid) long ∙ sym (drop-drop (length rest) k mid) ∙ ap (drop (length rest)) (ap (drop k) q ∙ filled-drop F)
+    ∙ drop-drop (length rest) k was ∙ ap (λ (j : ℕ). drop j was) (sym long) in
+    r ∙ rw (front, past)
 
 -- ---- calls whose last check is that the output is long enough: A says that it is too short, cs are the checks before
 

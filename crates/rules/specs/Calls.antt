@@ -14,6 +14,8 @@
 --   Planned             the whole plan
 --   Stepped             a planner step
 --   Stood               the standings
+--   ListMade                the list of an element's moves in a plan
+--   ListRead, ListWritten    the reader and the writer of such a list
 --   c-answer n p        what verdict and whole plan answer to C
 --
 -- `was` and `now` are what a lent slice holds before and after. A refusal leaves lent output unchanged and hands back the planner it was
@@ -30,6 +32,7 @@ use Rattle.rules.specs.Bus.{Table, shared, common}
 use Rattle.rules.specs.TableFile.{version, fileTable, fileLabelled, memoryLabelled, numbers, bytes}
 use Rattle.rules.specs.Line.{cut, setAt, Sets}
 use Rattle.rules.specs.Loads.{hyperperiod, shortest, reported}
+use Rattle.rules.specs.ElementList.{ElementList, fileList, memoryList, listNumbers, listBytes, movesList}
 use Rattle.rules.specs.Planner.{Planner, standing, Step, WholePlan}
 use Rattle.rules.specs.Refusals.{
   Check,
@@ -45,6 +48,9 @@ use Rattle.rules.specs.Refusals.{
   plan-checks,
   step-checks,
   standings-checks,
+  maker-checks,
+  list-reader-checks,
+  list-writer-checks,
 }
 
 pub record Call (cs : List Check) (number place : ℕ) (Done Refused : Type 0) : Type 0 where
@@ -138,6 +144,29 @@ Stood a p standings number place =
     (((i : ℕ) → i < a .table .rows → standings i ≡ standing (a .table) p i)
     × ((i : ℕ) → a .table .rows ≤ i → i < max-rows → standings i ≡ pos 0))
     ((i : ℕ) → i < max-rows → standings i ≡ pos 0)
+
+-- Returns h and the number of entries, and fills a slice with the list in some form: numbers in memory, or the bytes of its file (#101).
+abbrev pub ListMade : (a : Ask) (plan : List ℕ) (element : ℕ) (form : ElementList → List ℕ) (was now : List ℕ)
+    (number place hyper entries : ℕ) → Type 0
+ListMade a plan element form was now number place hyper entries =
+    Call (maker-checks (a .checks) (a .table) plan element (length was) (length (form (movesList (a .table) element plan)))) number place
+    ((hyper ≡ movesList (a .table) element plan .hyper) × (entries ≡ movesList (a .table) element plan .entries)
+    × (now ≡ lent (form (movesList (a .table) element plan)) was))
+    ((hyper ≡ 0) × (entries ≡ 0) × (now ≡ was))
+
+-- Returns element, hyperperiod and number of entries of a list file, and fills a slice with three numbers an entry (#101).
+abbrev pub ListRead : (file was now : List ℕ) (number place element hyper entries : ℕ) → Type 0
+ListRead file was now number place element hyper entries =
+    Call (list-reader-checks file (length was)) number place
+    ((element ≡ fileList file .element) × (hyper ≡ fileList file .hyper) × (entries ≡ fileList file .entries)
+    × (now ≡ lent (listNumbers (fileList file)) was))
+    ((element ≡ 0) × (hyper ≡ 0) × (entries ≡ 0) × (now ≡ was))
+
+-- Takes an element, a hyperperiod and a slice of three numbers an entry (#101).
+abbrev pub ListWritten : (element hyper : ℕ) (xs was now : List ℕ) (number place : ℕ) → Type 0
+ListWritten element hyper xs was now number place =
+    Call (list-writer-checks element hyper xs (length was)) number place (now ≡ lent (listBytes (memoryList element hyper xs)) was)
+    (now ≡ was)
 
 abbrev pub c-answer : ℕ → ℕ → ℕ
 c-answer number place = 256 * number + place

@@ -1,4 +1,4 @@
--- Document 01, "The program and one whole output", and #102's program that says where rows meet.
+-- Document 01, "The program and one whole output", #102's program that says where rows meet, and #101's that shows a list of an element.
 --
 --   verdict, cut, interval, hyper, load, set, slot    the program's lines, each with its numbers
 --   values c l h x     the lines of cut, L, h and reported load
@@ -11,11 +11,15 @@
 --   segment-lines w    the lines of the segments whose word is w, ascending
 --   MeetingPrinted file i j ls   it prints the lines ls for rows i and j of the table on its standard input
 --   CrowdPrinted file k ls       it prints the lines ls for set number k
+--   list, element, receive, send    the lines of the program that shows a list of an element
+--   entry-lines l      the lines of a list's entries, in their order
+--   ListPrinted file ls          it prints the lines ls for the list file on its standard input
 use mathlib.Core.Path.{_≡_}
 use mathlib.Core.Logic.{_≢_}
 use mathlib.Core.Bool.{cond}
 use mathlib.Core.List.{List, [], _∷_, _++_}
 use Prim.Native.Nat.{ℕ, suc}
+use lib.Dec.{eqb}
 use lib.ListN.{length, take}
 use Rattle.numbers.specs.Lists.{at, each}
 use Rattle.numbers.specs.Word.{bit}
@@ -25,8 +29,9 @@ use Rattle.rules.specs.TableFile.{fileTable}
 use Rattle.rules.specs.Line.{Sets}
 use Rattle.rules.specs.Line as line
 use Rattle.rules.specs.Loads.{hyperperiod, shortest, reported}
+use Rattle.rules.specs.ElementList.{Entry, ElementList, fileList}
 use Rattle.rules.specs.Planner.{WholePlan}
-use Rattle.rules.specs.Refusals.{Answers, verdict-checks}
+use Rattle.rules.specs.Refusals.{Answers, verdict-checks, list-file-checks}
 use Rattle.rules.specs.Calls.{Met, Crowded}
 use Rattle.rules.specs.Text.{Line, says}
 
@@ -108,3 +113,29 @@ pub record CrowdPrinted (file : List ℕ) (k : ℕ) (ls : List Line) : Type 0 wh
   pub segments : ℕ
   pub crowded : Crowded file k number place rows segments
   pub lines : ls ≡ shared number place ∷ (row-lines rows ++ segment-lines segments)
+
+-- ---- a list of an element (#101): number and place, element, hyperperiod, and a line for each entry with its slot and its row
+
+abbrev pub list : ℕ → ℕ → Line
+list number place = says "list" (number ∷ place ∷ [])
+
+abbrev pub element : ℕ → Line
+element number = says "element" (number ∷ [])
+
+abbrev pub receive : ℕ → ℕ → Line
+receive slot row = says "receive" (slot ∷ row ∷ [])
+
+abbrev pub send : ℕ → ℕ → Line
+send slot row = says "send" (slot ∷ row ∷ [])
+
+abbrev pub entry : Entry → Line
+entry x = cond (eqb (x .way) 0) (receive (x .slot) (x .row)) (send (x .slot) (x .row))
+
+abbrev pub entry-lines : ElementList → List Line
+entry-lines l = each (l .entries) (λ k. entry (l .entry k) ∷ [])
+
+-- On a refusal it prints its first line only.
+pub data ListPrinted (file : List ℕ) : List Line → Type 0 where
+  refused : (number place : ℕ) → Answers (list-file-checks file) number place → number ≢ 0 → ListPrinted file (list number place ∷ [])
+  shown : Answers (list-file-checks file) 0 0
+      → ListPrinted file (list 0 0 ∷ element (fileList file .element) ∷ hyper (fileList file .hyper) ∷ entry-lines (fileList file))

@@ -8,10 +8,10 @@
 use mathlib.Core.Path.{_≡_}
 use mathlib.Core.Logic.{_⊎_, _≢_}
 use mathlib.Core.List.{List, [], _∷_, _++_}
-use Prim.Native.Nat.{ℕ, suc, _+_, _-_, _*_, _≤_, _<_}
+use Prim.Native.Nat.{ℕ, suc, _+_, _-_, _*_, _%_, _≤_, _<_}
 use lib.Dec.{T}
 use lib.ListN.{length}
-use Rattle.numbers.specs.Lists.{each}
+use Rattle.numbers.specs.Lists.{at, each}
 use Rattle.rules.specs.Bounds.{max-elements, max-rows, max-slots}
 use Rattle.rules.specs.Bus.{Table, Labelled, through, pasted}
 use Rattle.rules.specs.TableFile.{table-mark, version-1, version-2, headerSize, rowSize, rowNumbers, mark, version, fileTable}
@@ -19,6 +19,18 @@ use Rattle.rules.specs.TableFile.{fileLabelled, memoryTable, memoryLabel
 use Rattle.rules.specs.Line.{setAt, Sets}
 use Rattle.rules.specs.Loads.{hyperperiod, start, end, light, over}
 use Rattle.rules.specs.Parties.{max-limit, ours, theirs, own, overLimit}
+use Rattle.rules.specs.ElementList.{
+  ElementList,
+  list-mark,
+  list-version,
+  listHeader,
+  entrySize,
+  entryNumbers,
+  fileList,
+  memoryList,
+  Rises,
+  BadWord,
+}
 use Rattle.rules.specs.Planner.{Stage, due, finished, Planner, Off}
 
 pub record Check : Type 1 where
@@ -115,6 +127,11 @@ short-output A = refuse 17 0 A
 abbrev pub pasted-row : Table → ℕ → Check
 pasted-row t i = refuse 18 i (T (pasted t i))
 
+-- a word of a plan has overlapping rows, or a bit past the last row (#101); the place is the slot. A plan that is too short has words of 0
+-- past its end, which are neither.
+abbrev pub bad-word : Table → List ℕ → ℕ → Check
+bad-word t ws s = refuse 19 s (BadWord t (at ws s))
+
 -- a label that version 1 can't hold (#107)
 abbrev pub lost-label : ℕ → Labelled → ℕ → Check
 lost-label v t i = refuse 20 i ((v ≡ version-1) × (t .label i ≢ 0))
@@ -126,6 +143,19 @@ over-limit number t limit s = refuse number s (T (overLimit t limit s))
 -- a limit is above 1,000 thousandths (#108)
 abbrev pub wrong-limit : (our their : ℕ) → Check
 wrong-limit our their = refuse 23 0 ((max-limit < our) ⊎ (max-limit < their))
+
+-- an element not in 1..M (#101)
+abbrev pub wrong-element : Table → ℕ → Check
+wrong-element t e = refuse 29 0 (¬ In e 1 (t .elements))
+
+-- of a list of an element (#101): an element not in 1..32, or h not in 1..4096
+abbrev pub wrong-list : ElementList → Check
+wrong-list l = refuse 30 0 (¬ In (l .element) 1 max-elements ⊎ ¬ In (l .hyper) 1 max-slots)
+
+-- a slot of h or more, row above 63, last byte above 1, or wrong order; the place is the entry, of two in wrong order the later
+abbrev pub wrong-entry : ElementList → ℕ → Check
+wrong-entry l k =
+    refuse 31 k ((l .hyper ≤ l .entry k .slot) ⊎ (max-rows ≤ l .entry k .row) ⊎ (1 < l .entry k .way) ⊎ ¬ Rises l k)
 
 -- a row that is asked for is past the last (#102); the place is 0 for the first of the two rows, 1 for the second
 abbrev pub no-row : Table → (place i : ℕ) → Check
@@ -245,3 +275,32 @@ step-checks cs t p room = cs ++ (off-state t p ∷ has-finished p ∷ short-outp
 -- the standings the verdict's, here cs, then 15
 unfoldable pub standings-checks : List Check → Table → Planner → List Check
 standings-checks cs t p = cs ++ (off-state t p ∷ [])
+
+-- the list of an element's moves in a plan the verdict's, here cs, 29, 19, and 17 for a plan of under h words or too short an output
+unfoldable pub maker-checks : List Check → Table → (plan : List ℕ) (element room wants : ℕ) → List Check
+maker-checks cs t plan element room wants =
+    cs ++ (wrong-element t element ∷ []) ++ each (hyperperiod t) (λ s. bad-word t plan s ∷ [])
+    ++ (short-output ((length plan < hyperperiod t) ⊎ (room < wants)) ∷ [])
+
+-- 30, then 31 entry by entry
+unfoldable pub entry-checks : ElementList → List Check
+entry-checks l = wrong-list l ∷ each (l .entries) (λ k. wrong-entry l k ∷ [])
+
+-- of a list file 1, 2, 3 and 6 (the rest isn't whole entries), 30 and 31
+unfoldable pub list-file-checks : List ℕ → List Check
+list-file-checks f =
+    refuse 1 0 (length f < listHeader) ∷ refuse 2 0 (mark f ≢ list-mark) ∷ refuse 3 0 (version f ≢ list-version)
+    ∷ refuse 6 0 ((length f - listHeader) % entrySize ≢ 0) ∷ entry-checks (fileList f)
+
+-- its reader then 17
+unfoldable pub list-reader-checks : List ℕ → ℕ → List Check
+list-reader-checks f room = list-file-checks f ++ (short-output (room < entryNumbers * fileList f .entries) ∷ [])
+
+-- of a list in memory 6, 30 and 31
+unfoldable pub list-memory-checks : (element hyper : ℕ) → List ℕ → List Check
+list-memory-checks element hyper xs = refuse 6 0 (length xs % entryNumbers ≢ 0) ∷ entry-checks (memoryList element hyper xs)
+
+-- its writer then 17
+unfoldable pub list-writer-checks : (element hyper : ℕ) → List ℕ → ℕ → List Check
+list-writer-checks element hyper xs room =
+    list-memory-checks element hyper xs ++ (short-output (room < listHeader + entrySize * memoryList element hyper xs .entries) ∷ [])

@@ -22,6 +22,7 @@ use Rattle.limited_plan.proofs.Promises.{limited-proper, same-plan}
 use Rattle.supervisor.specs.ToC.{VerdictToC, Valued, ValuesToC, PlanToC}
 use Rattle.supervisor.specs.Boundary.{Carried-to-C, Limited-to-C, Values-are, Carried-by-value, Listed-by-value, Boundary}
 use Rattle.supervisor.proofs.Values.{values-none}
+use Rattle.supervisor.proofs.Lists.{told-apart, element-of-plan}
 
 -- an answer of 0 has number 0 and place 0
 number-zero : (r n p : ℕ) → r ≡ c-answer n p → r ≡ 0 → n ≡ 0
@@ -123,4 +124,6 @@ boundary = record {
   values-are = values-are;
   carried-by-value = carried-by-value;
   listed-by-value = listed-by-value;
+  told-apart = told-apart;
+  element-of-plan = element-of-plan;
 }

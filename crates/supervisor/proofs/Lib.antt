@@ -1,4 +1,5 @@
 pub mod Small
 pub mod Values
 pub mod Only
+pub mod Lists
 pub mod Boundary

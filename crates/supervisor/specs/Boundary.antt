@@ -6,17 +6,23 @@
 --   Values-are            where ring_values answers 0, so does ring_verdict, and the fourth value is h
 --   Carried-by-value      the first again, with the fourth value for h
 --   Listed-by-value       the list of sets, with room for as many as the sixth value says
+--   max-list              the bytes of the longest list file
+--   Told-apart            ring_element_list answers below 2^32 exactly if it doesn't refuse, and then with at most max-list
+--   Element-of-plan       it never refuses an element of the ring, a plan that ring_plan wrote, and room for max-list bytes
 use mathlib.Core.Path.{_≡_}
+use mathlib.Core.Logic.{_≢_}
 use mathlib.Core.List.{List}
-use Prim.Native.Nat.{ℕ, _≤_}
+use Prim.Native.Nat.{ℕ, _+_, _*_, _≤_}
 use lib.ListN.{length}
 use Rattle.numbers.specs.Lists.{at}
+use Rattle.rules.specs.Bounds.{max-slots}
 use Rattle.rules.specs.TableFile.{fileTable}
 use Rattle.rules.specs.Line.{Sets}
 use Rattle.rules.specs.Loads.{hyperperiod}
+use Rattle.rules.specs.ElementList.{listHeader, entrySize, listBytes, movesList}
 use Rattle.rules.specs.Calls.{lent, fileAsk, limitedAsk}
 use Rattle.promises.specs.Demands.{Carries}
-use Rattle.supervisor.specs.ToC.{VerdictToC, ValuesToC, SetsToC, PlanToC}
+use Rattle.supervisor.specs.ToC.{VerdictToC, ValuesToC, SetsToC, PlanToC, ListToC}
 
 -- A plan that held `was` and now holds `now` is answered with 0, and its front carries the table of file f.
 abbrev pub Carried : (f was now : List ℕ) (r : ℕ) → Type 0
@@ -49,9 +55,25 @@ abbrev pub Listed-by-value : Type 0
 Listed-by-value = (f was now list list′ : List ℕ) (r s : ℕ) → ValuesToC f was now r → SetsToC f list list′ s → r ≡ 0
     → at now 5 ≤ length list → (s ≡ 0) × ((ws : List ℕ) × Sets (fileTable f) ws × (length ws ≡ at now 5) × (list′ ≡ lent ws list))
 
+-- ---- the list of one element (#101)
+
+abbrev pub max-list : ℕ
+max-list = listHeader + entrySize * (2 * max-slots)
+
+abbrev pub Told-apart : Type 0
+Told-apart = (f ws : List ℕ) (e : ℕ) (was now : List ℕ) (r : ℕ) (L : ListToC f ws e was now r)
+    → (L .number ≡ 0 → r ≤ max-list) × (L .number ≢ 0 → 4294967296 ≤ r)
+
+abbrev pub Element-of-plan : Type 0
+Element-of-plan = (f plan plan′ : List ℕ) (e : ℕ) (was now : List ℕ) (s r : ℕ) → PlanToC (fileAsk f) plan plan′ s → s ≡ 0
+    → ListToC f plan′ e was now r → (1 ≤ e) × (e ≤ fileTable f .elements) → max-list ≤ length was
+    → (r ≡ length (listBytes (movesList (fileTable f) e plan′))) × (now ≡ lent (listBytes (movesList (fileTable f) e plan′)) was)
+
 pub record Boundary : Type 0 where
   pub carried : Carried-to-C
   pub limited : Limited-to-C
   pub values-are : Values-are
   pub carried-by-value : Carried-by-value
   pub listed-by-value : Listed-by-value
+  pub told-apart : Told-apart
+  pub element-of-plan : Element-of-plan

@@ -1,5 +1,5 @@
 -- What the functions for C answer: number and place of the verdict, its values, shared segments, the list of sets and the whole plan, as
--- one number.
+-- one number; and the list of one element.
 --
 --   VerdictToC a r            r is the verdict on ask a
 --   values c i h l s          the values of an admitted table in the order in which C gets them
@@ -9,16 +9,20 @@
 --   SetsToC f was now r       r answers for the list of its sets
 --   PlanToC a was now r       r answers for the whole plan of ask a
 --   RaiseToC f was now r      r answers for the raised file
+--   list-refusal n p          a refusal of the list of an element, whose place may be a slot
+--   ListToC f ws e was now r  r answers for the list of element e's moves in the plan ws: how many bytes it has, or a refusal
 --
 -- Verdict and whole plan have forms with limits (#108), so they are said of an ask.
 use mathlib.Core.Path.{_≡_}
+use mathlib.Core.Logic.{_≢_}
 use mathlib.Core.List.{List, [], _∷_, _++_}
-use Prim.Native.Nat.{ℕ, _<_}
+use Prim.Native.Nat.{ℕ, _+_, _*_, _<_}
 use lib.ListN.{length}
 use Rattle.rules.specs.TableFile.{fileTable}
 use Rattle.rules.specs.Bus.{shared}
 use Rattle.rules.specs.Refusals.{Check, Answers, short-output, shared-checks, verdict-checks}
-use Rattle.rules.specs.Calls.{Call, lent, Ask, Admitted, Listed, c-answer}
+use Rattle.rules.specs.ElementList.{listHeader, entrySize, listBytes}
+use Rattle.rules.specs.Calls.{Call, lent, Ask, Admitted, Listed, ListMade, fileAsk, c-answer}
 use Rattle.rules.specs.Raising.{Raised}
 use Rattle.table.specs.declared.Answer.{Answer}
 use Rattle.planner.specs.Answers.{PlanAnswer}
@@ -86,3 +90,17 @@ pub record RaiseToC (f was now : List ℕ) (r : ℕ) : Type 0 where
   pub place : ℕ
   pub raised : Raised f was now number place
   pub as-one : r ≡ c-answer number place
+
+-- ---- the list of one element (#101)
+
+abbrev pub list-refusal : ℕ → ℕ → ℕ
+list-refusal number place = 4294967296 * number + place
+
+pub record ListToC (f ws : List ℕ) (e : ℕ) (was now : List ℕ) (r : ℕ) : Type 0 where
+  pub number : ℕ
+  pub place : ℕ
+  pub hyper : ℕ
+  pub entries : ℕ
+  pub made : ListMade (fileAsk f) ws e listBytes was now number place hyper entries
+  pub size : number ≡ 0 → r ≡ listHeader + entrySize * entries
+  pub refused : number ≢ 0 → r ≡ list-refusal number place

@@ -1,6 +1,7 @@
-// The functions for the supervisor, a C program: verdict, its values, shared segments, list of sets, whole plan and raised file, and verdict
-// and whole plan with limits, each answering 256 × number + place (include/ringplan.h).
+// The functions for the supervisor, a C program: verdict, its values, shared segments, list of sets, whole plan and raised file, and
+// verdict and whole plan with limits, each answering 256 × number + place; and the list of one element (include/ringplan.h).
 use limits::Limits;
+use lists::Head;
 use table::Answer;
 use verdict::Verdict;
 ghost use mathlib.Core.Path.{_≡_};
@@ -9,6 +10,7 @@ ghost use lib.ListN.{length};
 ghost use Rattle.rules.specs.Refusals.{last-number};
 ghost use Rattle.rules.specs.Calls.{lent, fileAsk, limitedAsk, c-answer};
 ghost use Rattle.supervisor.specs.ToC.{VerdictToC, values, value-count, ValuesToC, SharedToC, SetsToC, PlanToC, RaiseToC};
+ghost use Rattle.supervisor.specs.ToC.{list-refusal, ListToC};
 
 // Number and place as one number.
 fn joined(number: u32, place: u32) -> u32
@@ -146,4 +148,25 @@ pub extern "C" fn ring_raise(file: &[u8], out: &mut [u8]) -> u32
 {
     let raised = raising::raise(file, out);
     joined(raised.number, raised.place)
+}
+
+// ---- the list of one element
+
+// A refusal as one number. A place may be a slot, and what isn't refused is how many bytes were written: both are below 2^32.
+fn refusal(number: u32, place: u32) -> u64
+    ensures { λ r. ⌜ r ≡ list-refusal number place ⌝ }
+{
+    4294967296 * number as u64 + place as u64
+}
+
+// Fills in the list file of one element's moves in a plan (#101).
+#[no_mangle]
+pub extern "C" fn ring_element_list(file: &[u8], plan: &[u64], element: u32, list: &mut [u8]) -> u64
+    ensures { λ r. ⌜ ListToC (now (file .entry)) (now (plan .entry)) element (now (list .entry)) (now (list .exit)) r ⌝ }
+{
+    let made = maker::make_file(file, plan, element as u64, list);
+    if made.answer.number != Answer::DONE {
+        return refusal(made.answer.number, made.answer.place);
+    }
+    (Head::BYTES + Head::ENTRY_BYTES * made.entries) as u64
 }

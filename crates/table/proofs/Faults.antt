@@ -137,23 +137,23 @@ unfolding None
 table-none t has wants s e =
     (λ h. h (s .elements-low, s .elements-high), (λ h. h (s .rows-low, s .rows-high), (λ n. n e, tt)))
 
--- ---- the mark
+-- ---- the mark of a file, whatever it is
 
-pub mark-of : (f : List ℕ) → 3 ≤ length f → at f 0 ≡ 0x52 → at f 1 ≡ 0x42 → at f 2 ≡ 0x54 → mark f ≡ table-mark
+pub mark-of : {x y z : ℕ} (f : List ℕ) → 3 ≤ length f → at f 0 ≡ x → at f 1 ≡ y → at f 2 ≡ z → mark f ≡ x ∷ y ∷ z ∷ []
 mark-of [] l a b c = absurd (let z : ⊥ = omega arith in z)
 mark-of (x ∷ []) l a b c = absurd (let z : ⊥ = omega arith in z)
 mark-of (x ∷ y ∷ []) l a b c = absurd (let z : ⊥ = omega arith in z)
 mark-of (x ∷ y ∷ z ∷ f) l a b c = rw (a, b, c)
 
-pub mark-at : (f : List ℕ) (k : ℕ) → k < 3 → mark f ≡ table-mark → at f k ≡ at table-mark k
+pub mark-at : {m : List ℕ} (f : List ℕ) (k : ℕ) → k < 3 → mark f ≡ m → at f k ≡ at m k
 mark-at f k l e = sym (getD-take 3 f k 0 l) ∙ ap (λ (g : List ℕ). at g k) e
 
-pub mark-right : (f : List ℕ) → 3 ≤ length f → (mark f ≢ table-mark → ⊥) → mark f ≡ table-mark
-mark-right f l h =
+pub mark-right : {x y z : ℕ} (f : List ℕ) → 3 ≤ length f → (mark f ≢ x ∷ y ∷ z ∷ [] → ⊥) → mark f ≡ x ∷ y ∷ z ∷ []
+mark-right {x} {y} {z} f l h =
     mark-of f l
-    (equals (at f 0) 0x52 (λ n. h (λ e. n (mark-at f 0 (omega arith) e))))
-    (equals (at f 1) 0x42 (λ n. h (λ e. n (mark-at f 1 (omega arith) e))))
-    (equals (at f 2) 0x54 (λ n. h (λ e. n (mark-at f 2 (omega arith) e))))
+    (equals (at f 0) x (λ n. h (λ e. n (mark-at f 0 (omega arith) e))))
+    (equals (at f 1) y (λ n. h (λ e. n (mark-at f 1 (omega arith) e))))
+    (equals (at f 2) z (λ n. h (λ e. n (mark-at f 2 (omega arith) e))))
 
 -- ---- the version
 

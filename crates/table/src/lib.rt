@@ -155,6 +155,8 @@ impl Answer {
 
     pub const PASTED_ROW: u32 = 18;
 
+    pub const BAD_WORD: u32 = 19;
+
     pub const LOST_LABEL: u32 = 20;
 
     pub const OUR_LIMIT: u32 = 21;
@@ -166,6 +168,12 @@ impl Answer {
     pub const NO_FREE_PLACE: u32 = 24;
 
     pub const NO_ROW_THERE: u32 = 25;
+
+    pub const WRONG_ELEMENT: u32 = 29;
+
+    pub const WRONG_LIST: u32 = 30;
+
+    pub const WRONG_ENTRY: u32 = 31;
 
     pub const NO_ROW: u32 = 32;
 

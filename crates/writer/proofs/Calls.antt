@@ -1,14 +1,13 @@
--- What the writer leaves in a lent slice and answers, from its checks; and that only one answer fits.
-use mathlib.Core.Path.{_≡_, refl, sym, ap, _∙_}
+-- What the writer puts and answers, from its checks; and that only one answer fits.
+use mathlib.Core.Path.{_≡_, refl, sym, _∙_}
 use mathlib.Core.Logic.{⊎-elim, _≢_}
 use mathlib.Core.List.{List, [], _∷_, _++_}
-use Prim.Native.Nat.{ℕ, suc, _+_, _*_, _≤_, _<_}
+use Prim.Native.Nat.{ℕ, suc, _+_, _*_, _<_}
 use native.Mathlib.Nat.{add-zero}
 use native.Mathlib.Omega.{arith}
-use lib.ListN.{length, take, drop, set, length-append}
-use lib.Seq.{sets, drop-drop}
+use lib.ListN.{length, set}
+use lib.Seq.{sets}
 use Rattle.numbers.specs.Codec.{writeLow}
-use Rattle.numbers.proofs.Lists.{Filled, filled-start, filled-take, filled-drop, filled-sets}
 use Rattle.rules.specs.Bus.{Labelled}
 use Rattle.rules.specs.TableFile.{headerSize, rowWith, rowSize, write16, memoryLabelled, fileRow, bytes}
 use Rattle.rules.specs.Refusals.{Answers, version-checks, writer-checks}
@@ -19,20 +18,7 @@ use Rattle.table.specs.declared.Row.{Row}
 use Rattle.table.specs.Rows.{IsRow, inFile}
 use Rattle.table.proofs.Faults.{version-numbered}
 
--- ---- the lent slice
-
--- a header of k places, and then the rest with the header kept
-pub lent-headed : (was mid out h rest : List ℕ) (k : ℕ) → length h ≡ k → k ≤ length was → mid ≡ sets was 0 h
-    → out ≡ lent (take k mid ++ rest) mid → out ≡ lent (h ++ rest) was
-unfolding lent
-lent-headed was mid out h rest k e l q r =
-    let F : Filled was (sets was 0 h) k h = filled-sets h k (filled-start was) (omega (arith, e)) l in
-    let front : take k mid ≡ h = ap (take k) q ∙ filled-take F in
-    let long : length (h ++ rest) ≡ k + length rest = length-append h rest ∙ ap (λ (j : ℕ). j + length rest) e in
-    let past : drop (length (h ++ rest)) mid ≡ drop (length (h ++ rest)) was =
-    ap (λ (j : ℕ). drop j mid) long ∙ sym (drop-drop (length rest) k mid) ∙ ap (drop (length rest)) (ap (drop k) q ∙ filled-drop F)
-    ∙ drop-drop (length rest) k was ∙ ap (λ (j : ℕ). drop j was) (sym long) in
-    r ∙ rw (front, past)
+-- ---- rows
 
 -- the places of a row
 pub file-row : (k : ℕ) {t : Labelled} {i : ℕ} {r : Row} → IsRow t i r → inFile k r ≡ fileRow k t i

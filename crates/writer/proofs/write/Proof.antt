@@ -8,9 +8,10 @@ use lib.Seq.{length-sets}
 use Rattle.rules.specs.TableFile.{headerSize, labelSize, rowNumbers, memoryTable, memoryLabelled, fileHeader, rowBytes, bytes}
 use Rattle.rules.specs.Refusals.{version-checks}
 use Rattle.rules.proofs.Answers.{None, none-of}
+use Rattle.rules.proofs.Calls.{lent-headed}
 use Rattle.table.specs.Sound.{Sound}
 use Rattle.table.proofs.Faults.{memory-sound, ends-fit, version-numbered, version-known}
-use Rattle.writer.proofs.Calls.{lent-headed, written-refused, written-short, written-done}
+use Rattle.writer.proofs.Calls.{written-refused, written-short, written-done}
 use borrow.Author.Needs.{needs}
 use Rattle.writer.proofs.write.Statement.{statement}
 use Rattle.writer.proofs.write.Tie as tie

@@ -1,0 +1,44 @@
+-- `lists::check_file` meets its contract.
+use mathlib.Core.List.{List}
+use Prim.Native.Nat.{ℕ}
+use native.Mathlib.Omega.{arith}
+use borrow.Author.Needs.{needs}
+use Rattle.rules.proofs.Answers.{None, none-of}
+use Rattle.lists.specs.Entries.{head-checks}
+use Rattle.lists.proofs.Heads.{head-numbered, head-passed, head-hyper, file-stopped, file-joined}
+use Rattle.lists.proofs.check_file.Statement.{statement}
+use Rattle.lists.proofs.check_file.Tie as tie
+
+abbrev bytes : tie.Else1 → List ℕ
+bytes z = z .before .before .before .args .file .now
+
+-- the head has passed
+none : (z : tie.Else1) → None (head-checks (bytes z))
+none z = none-of (head-checks (bytes z)) 0 (head-numbered (bytes z)) (rw (z .if1 .left) at (z .before .head-fault .ensures))
+
+head-fault-requires : tie.Need-head-fault-requires
+head-fault-requires c κs = search needs
+
+at-requires : tie.Need-at-requires
+at-requires c κs = search needs
+
+returns : tie.Need-returns
+returns c =
+    rw (c .at .ensures .0, c .at .ensures .1) (file-stopped _ _ 0 (c .before .if1 .taken) (c .before .before .head-fault .ensures))
+
+of-requires : tie.Need-of-requires
+of-requires c κs = head-passed (bytes c) (none c) .long
+
+check-entries-in-requires : tie.Need-check-entries-in-requires
+check-entries-in-requires c κs =
+    let o = c .of .ensures in
+    let z = c .before in
+    (omega (arith, o .entries, head-passed (bytes z) (none z) .size), omega (arith, o .hyper, head-hyper (bytes z) (none z)))
+
+returns-2 : tie.Need-returns-2
+returns-2 c =
+    let o = c .before .of .ensures in
+    file-joined _ _ _ (none (c .before .before)) (rw (o .entries, o .hyper) at (c .check-entries-in .ensures))
+
+pub check-file-spec : {M : Type 1} → statement M
+check-file-spec = tie.close (tie.spec head-fault-requires at-requires returns of-requires check-entries-in-requires returns-2)

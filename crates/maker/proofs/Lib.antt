@@ -1,0 +1,5 @@
+pub mod Finding
+pub mod Judged
+pub mod Answered
+pub mod Order
+pub mod Promises

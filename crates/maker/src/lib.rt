@@ -1,0 +1,167 @@
+// The list of one element's moves, made from a table file and a plan (#101): in memory, or as the bytes of a list file.
+use lists::Head;
+use table::Answer;
+use table::Columns;
+use verdict::Verdict;
+ghost use mathlib.Core.Path.{_≡_};
+ghost use mathlib.Core.List.{List, []};
+ghost use Prim.Native.Nat.{ℕ, _≤_};
+ghost use lib.ListN.{length};
+ghost use Rattle.rules.specs.Bounds.{max-slots};
+ghost use Rattle.rules.specs.Bus as bus;
+ghost use Rattle.rules.specs.TableFile.{fileTable};
+ghost use Rattle.rules.specs.Loads.{hyperperiod};
+ghost use Rattle.rules.specs.ElementList.{listNumbers, listBytes};
+ghost use Rattle.rules.specs.Refusals.{Answers, verdict-checks};
+ghost use Rattle.rules.specs.Calls.{fileAsk, ListMade};
+ghost use Rattle.table.specs.Sound.{Sound};
+ghost use Rattle.table.specs.Columns.{tableOf};
+ghost use Rattle.moves.specs.Words.{LowestBad};
+ghost use Rattle.maker.specs.Finding.{early-checks, Finds};
+
+// What a list is written from: the first refusal, or how many slots and entries there are, and the words of the rows that come to the
+// element and of those that leave it.
+struct Found {
+    answer: Answer,
+    hyper: usize,
+    entries: usize,
+    into: u64,
+    from: u64,
+}
+
+fn nothing(answer: Answer) -> Found
+    ensures { λ r. ⌜ r .answer ≡ answer ⌝ }
+{
+    Found {
+        answer: answer,
+        hyper: 0,
+        entries: 0,
+        into: 0,
+        from: 0,
+    }
+}
+
+// 29, 19, and 17 for a short plan. `slot` is the lowest of the first `hyper` whose word is bad, and `hyper` where none is.
+fn fault(elements: usize, element: u64, slot: usize, words: usize, hyper: usize) -> Answer
+    requires { ⌜ hyper ≤ max-slots ⌝ }
+    ensures { λ r. ⌜ ((t : bus.Table) (plan : List ℕ) → elements ≡ t .elements → words ≡ length plan → hyper ≡ hyperperiod t
+        → LowestBad t plan hyper slot → Answers (early-checks [] t plan element) (r .number) (r .place)) ⌝ }
+{
+    if element == 0 {
+        return Answer::at(Answer::WRONG_ELEMENT, 0);
+    }
+    if element > elements as u64 {
+        return Answer::at(Answer::WRONG_ELEMENT, 0);
+    }
+    if slot < hyper {
+        return Answer::at(Answer::BAD_WORD, slot);
+    }
+    if words < hyper {
+        return Answer::at(Answer::SHORT_OUTPUT, 0);
+    }
+    Answer::done()
+}
+
+// What is found of a sound table, whose hyperperiod is known, and a plan.
+fn find_on(table: Columns, hyper: usize, plan: &[u64], element: u64) -> Found
+    requires { ⌜ Sound (tableOf table) × (hyper ≡ hyperperiod (tableOf table)) × (hyper ≤ max-slots) ⌝ }
+    ensures { λ r. ⌜ Finds [] (tableOf table) (now (plan .entry)) element r ⌝ }
+{
+    let routes = ring::lay_segments(table.elements, table.rows, &table.first, &table.second);
+    let slot = moves::lowest_bad(table.rows, &routes, plan, hyper);
+    let answer = fault(table.elements, element, slot, plan.len(), hyper);
+    if answer.number != Answer::DONE {
+        return nothing(answer);
+    }
+    let into = moves::ending_at(table.rows, &table.second, element as usize);
+    let from = moves::ending_at(table.rows, &table.first, element as usize);
+    Found {
+        answer: answer,
+        hyper: hyper,
+        entries: moves::count(plan, hyper, into, from),
+        into: into,
+        from: from,
+    }
+}
+
+// The same of a file's table, after the verdict's.
+fn find_in(file: &[u8], plan: &[u64], element: u64) -> Found
+    ensures { λ r. ⌜ Finds (verdict-checks (now (file .entry))) (fileTable (now (file .entry))) (now (plan .entry)) element r ⌝ }
+{
+    let verdict = verdict::judge(file);
+    let Verdict::Admitted {
+        cut: _,
+        interval: _,
+        hyper,
+        load: _,
+        sets: _,
+    } = verdict
+    else {
+        return nothing(Answer {
+            number: verdict.number(),
+            place: verdict.place(),
+        });
+    };
+    let found = decoding::decode(file);
+    find_on(found.columns, hyper as usize, plan, element)
+}
+
+// What is made: how many slots the plan has, and how many entries the list; 0 beside a refusal.
+pub struct Making {
+    pub answer: Answer,
+    pub hyper: usize,
+    pub entries: usize,
+}
+
+fn refused(answer: Answer) -> Making
+    ensures { λ r. ⌜ (r .answer ≡ answer) × (r .hyper ≡ 0) × (r .entries ≡ 0) ⌝ }
+{
+    Making {
+        answer: answer,
+        hyper: 0,
+        entries: 0,
+    }
+}
+
+// The list in memory, at the front of `out`: three numbers an entry. The verdict's refusals, 29, 19, 17.
+pub fn make(file: &[u8], plan: &[u64], element: u64, out: &mut [u16]) -> Making
+    ensures { λ r. ⌜ ListMade (fileAsk (now (file .entry))) (now (plan .entry)) element listNumbers (now (out .entry)) (now (out .exit))
+        (r .answer .number) (r .answer .place) (r .hyper) (r .entries) ⌝ }
+{
+    let found = find_in(file, plan, element);
+    let answer = found.answer;
+    if answer.number != Answer::DONE {
+        return refused(answer);
+    }
+    if out.len() < Head::ENTRY_NUMBERS * found.entries {
+        return refused(Answer::at(Answer::SHORT_OUTPUT, 0));
+    }
+    moves::put_numbers(plan, found.hyper, found.into, found.from, out);
+    Making {
+        answer: answer,
+        hyper: found.hyper,
+        entries: found.entries,
+    }
+}
+
+// The list's file, at the front of `out`, likewise.
+pub fn make_file(file: &[u8], plan: &[u64], element: u64, out: &mut [u8]) -> Making
+    ensures { λ r. ⌜ ListMade (fileAsk (now (file .entry))) (now (plan .entry)) element listBytes (now (out .entry)) (now (out .exit))
+        (r .answer .number) (r .answer .place) (r .hyper) (r .entries) ⌝ }
+{
+    let found = find_in(file, plan, element);
+    let answer = found.answer;
+    if answer.number != Answer::DONE {
+        return refused(answer);
+    }
+    if out.len() < Head::BYTES + Head::ENTRY_BYTES * found.entries {
+        return refused(Answer::at(Answer::SHORT_OUTPUT, 0));
+    }
+    lists::put_head(element as u8, found.hyper as u16, out);
+    moves::put_bytes(plan, found.hyper, found.into, found.from, out);
+    Making {
+        answer: answer,
+        hyper: found.hyper,
+        entries: found.entries,
+    }
+}
