@@ -2,14 +2,15 @@
 
 #include <string.h>
 
-enum { ROWS = 64, SLOTS = 4096, LINE = 34, ARCS = 2 * ROWS, PLACES = ROWS + 1 };
+enum { ROWS = 64, SLOTS = 4096, LINE = 34, ARCS = 2 * ROWS, PLACES = ROWS + 1, RINGS = 2 };
 
 struct analysis {
-    int rows, elements, cut, sets;
+    int rings, rows, elements, cut[RINGS], sets; /* a cut is the ring's number; 0 where there is none */
     int64_t hyper, interval, largest;
     int periods, distinct[ROWS]; /* the different periods */
-    int cost[ROWS], period[ROWS], from[ROWS], to[ROWS], label[ROWS];
-    int first[ROWS], second[ROWS]; /* on the line */
+    int cost[ROWS], period[ROWS], from[ROWS], to[ROWS], label[ROWS]; /* ends in the numbers of the row's ring */
+    int way[ROWS]; /* 0 clockwise, 1 counterclockwise */
+    int first[ROWS], second[ROWS]; /* on the line; the second ring's follows the first's */
     uint64_t word[ROWS];
     int low[ROWS], high[ROWS]; /* the sets that a row belongs to */
     int64_t rate[ROWS];
@@ -32,10 +33,16 @@ static int steps(int elements, int from, int to) {
     return from <= to ? to - from : to + elements - from;
 }
 
-static int find_cut(const struct analysis *a) {
+/* A number of the board as the ring's own, or back: the second ring's are mirrored. */
+static int mirror(const struct analysis *a, int way, int e) {
+    return way ? a->elements + 1 - e : e;
+}
+
+static int find_cut(const struct analysis *a, int way) {
     for (int e = 1; e <= a->elements; e++) {
         int i = 0;
         for (; i < a->rows; i++) {
+            if (a->way[i] != way) continue;
             int on = steps(a->elements, a->from[i], e);
             if (0 < on && on < steps(a->elements, a->from[i], a->to[i])) break;
         }
@@ -47,7 +54,7 @@ static int find_cut(const struct analysis *a) {
 static void list_sets(struct analysis *a) {
     int started = 0;
     a->sets = 0;
-    for (int e = 1; e <= a->elements + 1; e++) {
+    for (int e = 1; e <= a->rings * (a->elements + 1); e++) {
         int starts = 0, ends = 0;
         uint64_t across = 0;
         for (int i = 0; i < a->rows; i++) {
@@ -88,9 +95,10 @@ static void cut_time(struct analysis *a) {
 
 static uint32_t analyse(const uint8_t *f, size_t length, struct analysis *a) {
     if (length < 7) return refuse(1, 0);
-    if (f[0] != 'R' || f[1] != 'B' || f[2] != 'T') return refuse(2, 0);
-    if ((f[3] != 1 && f[3] != 2) || f[4] != 0) return refuse(3, 0);
-    size_t size = f[3] == 2 ? 8 : 6;
+    if (f[0] != 'R' || f[1] != 'B' || (f[2] != 'T' && f[2] != '2')) return refuse(2, 0);
+    a->rings = f[2] == '2' ? 2 : 1;
+    if ((f[3] != 1 && (f[3] != 2 || a->rings == 2)) || f[4] != 0) return refuse(3, 0);
+    size_t size = a->rings == 2 ? 7 : f[3] == 2 ? 8 : 6;
     a->elements = f[5];
     a->rows = f[6];
     if (a->elements < 2 || a->elements > 32) return refuse(4, 0);
@@ -103,24 +111,32 @@ static uint32_t analyse(const uint8_t *f, size_t length, struct analysis *a) {
         a->from[i] = r[4];
         a->to[i] = r[5];
         a->label[i] = size == 8 ? r[6] + 256 * r[7] : 0;
+        a->way[i] = size == 7 ? r[6] : 0;
         if (a->from[i] < 1 || a->from[i] > a->elements || a->to[i] < 1 || a->to[i] > a->elements || a->from[i] == a->to[i])
             return refuse(7, (unsigned)i);
         if (a->period[i] < 1 || a->period[i] > SLOTS) return refuse(8, (unsigned)i);
         if (a->cost[i] < 1 || a->cost[i] > a->period[i]) return refuse(9, (unsigned)i);
+        if (a->way[i] > 1) return refuse(26, (unsigned)i);
+        a->from[i] = mirror(a, a->way[i], a->from[i]);
+        a->to[i] = mirror(a, a->way[i], a->to[i]);
     }
     for (int i = 1; i < a->rows; i++)
         for (int j = 0; j < i; j++)
-            if (a->from[i] == a->from[j] && a->to[i] == a->to[j] && a->period[i] == a->period[j]) return refuse(18, (unsigned)i);
-    int cut = a->cut = find_cut(a);
-    if (!cut) return refuse(10, 0);
+            if (a->from[i] == a->from[j] && a->to[i] == a->to[j] && a->period[i] == a->period[j] && a->way[i] == a->way[j])
+                return refuse(18, (unsigned)i);
+    for (int way = 0; way < a->rings; way++) {
+        a->cut[way] = find_cut(a, way);
+        if (!a->cut[way]) return refuse(10, (unsigned)way);
+    }
     a->hyper = 1;
     int equal = 1;
     for (int i = 0; i < a->rows; i++) {
         a->hyper = a->hyper / gcd(a->hyper, a->period[i]) * a->period[i];
         if (a->hyper > SLOTS) return refuse(11, 0);
         equal &= a->period[i] == a->period[0];
-        a->first[i] = steps(a->elements, cut, a->from[i]) + 1;
-        a->second[i] = a->to[i] == cut ? a->elements + 1 : steps(a->elements, cut, a->to[i]) + 1;
+        int cut = a->cut[a->way[i]], start = a->way[i] * (a->elements + 1);
+        a->first[i] = start + steps(a->elements, cut, a->from[i]) + 1;
+        a->second[i] = start + (a->to[i] == cut ? a->elements : steps(a->elements, cut, a->to[i])) + 1;
         a->low[i] = -1;
     }
     cut_time(a);
@@ -209,7 +225,7 @@ static void fill_slots(const struct analysis *a, int l, const int64_t *load, uin
     int last[SLOTS];
     memset(out, 0, (size_t)l * sizeof *out);
     memset(last, 0, (size_t)l * sizeof *last);
-    for (int e = 1; e <= a->elements; e++)
+    for (int e = 1; e <= a->rings * (a->elements + 1); e++)
         for (int i = 0; i < a->rows; i++) {
             if (a->first[i] != e) continue;
             int64_t left = load[i];
@@ -227,13 +243,21 @@ uint32_t plain_verdict(const uint8_t *file, size_t length) {
     return analyse(file, length, &a);
 }
 
+/* The cut as the board's own number: 1 where the ring has no rows, 0 where there is no such ring. */
+static uint32_t board_cut(const struct analysis *a, int way) {
+    if (way >= a->rings) return 0;
+    for (int i = 0; i < a->rows; i++)
+        if (a->way[i] == way) return (uint32_t)mirror(a, way, a->cut[way]);
+    return 1;
+}
+
 uint32_t plain_values(const uint8_t *file, size_t length, uint32_t *values, size_t room) {
     struct analysis a;
     uint32_t answer = analyse(file, length, &a);
     if (answer) return answer;
     if (room < 6) return refuse(17, 0);
-    values[0] = (uint32_t)a.cut;
-    values[1] = 0;
+    values[0] = board_cut(&a, 0);
+    values[1] = board_cut(&a, 1);
     values[2] = (uint32_t)a.interval;
     values[3] = (uint32_t)a.hyper;
     values[4] = (uint32_t)((1000 * a.largest + a.hyper - 1) / a.hyper);
@@ -241,10 +265,14 @@ uint32_t plain_values(const uint8_t *file, size_t length, uint32_t *values, size
     return 0;
 }
 
-/* the segments from element to element, bit s - 1 for segment s */
+/* The segments from element to element, bit s - 1 for the board's segment s. The ring's segment e of the second ring begins, clockwise, at
+ * the element where it ends. */
 static uint32_t route(const struct analysis *a, size_t i) {
     uint32_t word = 0;
-    for (int e = a->from[i]; e != a->to[i]; e = e % a->elements + 1) word |= (uint32_t)1 << (e - 1);
+    for (int e = a->from[i]; e != a->to[i]; e = e % a->elements + 1) {
+        int s = a->way[i] ? mirror(a, 1, e % a->elements + 1) : e;
+        word |= (uint32_t)1 << (s - 1);
+    }
     return word;
 }
 
@@ -252,10 +280,10 @@ uint32_t plain_shared(const uint8_t *file, size_t length, size_t i, size_t j, ui
     struct analysis a;
     uint32_t answer = analyse(file, length, &a);
     /* 10 and what comes after it, 18 too, say nothing of a row's route */
-    if (answer && answer / 256 < 10) return answer;
+    if (answer && (answer / 256 < 10 || answer / 256 == 26)) return answer;
     if (i >= (size_t)a.rows) return refuse(32, 0);
     if (j >= (size_t)a.rows) return refuse(32, 1);
-    *word = route(&a, i) & route(&a, j);
+    *word = a.way[i] == a.way[j] ? route(&a, i) & route(&a, j) : 0;
     return 0;
 }
 
@@ -270,10 +298,15 @@ static int bad_word(const struct analysis *a, const uint32_t *routes, uint64_t w
     return 0;
 }
 
+/* The verdict of calls that take tables of one ring alone: where there is a mark it is RBT. */
+static uint32_t analyse_one_ring(const uint8_t *f, size_t length, struct analysis *a) {
+    return length >= 7 && f[2] != 'T' ? refuse(2, 0) : analyse(f, length, a);
+}
+
 uint64_t plain_element_list(const uint8_t *file, size_t length, const uint64_t *plan, size_t words, uint32_t element, uint8_t *list,
                             size_t room) {
     struct analysis a;
-    uint32_t answer = analyse(file, length, &a), routes[ROWS];
+    uint32_t answer = analyse_one_ring(file, length, &a), routes[ROWS];
     if (answer) return (uint64_t)(answer / 256) << 32 | answer % 256;
     if (element < 1 || element > (uint32_t)a.elements) return (uint64_t)29 << 32;
     uint64_t into = 0, from = 0;
@@ -357,7 +390,7 @@ static unsigned over_limit(const struct analysis *a, int theirs, uint32_t limit)
 uint32_t plain_verdict_limited(const uint8_t *file, size_t length, uint32_t ours, uint32_t theirs) {
     struct analysis a;
     if (ours > 1000 || theirs > 1000) return refuse(23, 0);
-    uint32_t answer = analyse(file, length, &a);
+    uint32_t answer = analyse_one_ring(file, length, &a);
     /* 13 and 14 come after 21 and 22 */
     if (answer && answer / 256 != 13 && answer / 256 != 14) return answer;
     unsigned our = over_limit(&a, 0, ours), their = over_limit(&a, 1, theirs);
@@ -375,7 +408,7 @@ uint32_t plain_plan_limited(const uint8_t *file, size_t length, uint32_t ours, u
 
 uint32_t plain_raise(const uint8_t *file, size_t length, uint8_t *out, size_t room) {
     struct analysis a;
-    uint32_t answer = analyse(file, length, &a);
+    uint32_t answer = analyse_one_ring(file, length, &a);
     /* 13 and 14 come after all that raising asks of a table */
     if (answer && answer / 256 != 13 && answer / 256 != 14) return answer;
     if (room < length) return refuse(17, 0);

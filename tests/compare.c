@@ -1,6 +1,6 @@
 /* Compares the library over the C boundary with the oracle, and its words with those of the two plain C planners, on random tables: good,
- * at the bound, just past it and damaged; with limits of the two parties, and with other rows of one party; and what it makes of their
- * light rows.
+ * at the bound, just past it and damaged; with limits of the two parties, and with other rows of one party; what it makes of their light
+ * rows; and boards of two rings, mirrored, and with other rows on one of the rings.
  *
  *     compare TABLES SEED          all kinds of tables
  *     compare TABLES SEED routes   tables of many rows with long routes, well loaded: there the choice of loads is hardest
@@ -44,10 +44,10 @@ static void put16(uint8_t *at, unsigned x) {
     at[1] = (uint8_t)(x >> 8);
 }
 
-/* A table of version 2 is written so, with its labels; any other as version 1. */
+/* A board of two rings is written so, with its directions; a table of version 2 with its labels; any other as version 1. */
 static void encode(const struct table *t, struct file *f) {
-    size_t size = t->version == 2 ? 8 : 6;
-    memcpy(f->byte, t->version == 2 ? "RBT\2\0" : "RBT\1\0", 5);
+    size_t size = t->rings == 2 ? 7 : t->version == 2 ? 8 : 6;
+    memcpy(f->byte, size == 7 ? "RB2\1\0" : size == 8 ? "RBT\2\0" : "RBT\1\0", 5);
     f->byte[5] = (uint8_t)t->elements;
     f->byte[6] = (uint8_t)t->rows;
     for (unsigned i = 0; i < t->rows; i++) {
@@ -56,6 +56,7 @@ static void encode(const struct table *t, struct file *f) {
         put16(r + 2, t->row[i].period);
         r[4] = (uint8_t)t->row[i].first;
         r[5] = (uint8_t)t->row[i].second;
+        if (size == 7) r[6] = (uint8_t)t->row[i].way;
         if (size == 8) put16(r + 6, t->row[i].label);
     }
     f->length = 7 + size * t->rows;
@@ -97,6 +98,7 @@ static void uneven_table(struct table *t) {
         {10, 14, 35}};
     const unsigned *time = times[below(sizeof times / sizeof *times)];
     memset(t, 0, sizeof *t);
+    t->rings = 1;
     t->elements = between(3, 12);
     t->rows = between(2, 8);
     unsigned kinds = 2 + !!time[2] + !!time[3], base = between(1, below(4) ? 12 : 19);
@@ -113,6 +115,7 @@ static void uneven_table(struct table *t) {
 static void random_table(struct table *t) {
     static const unsigned small[] = {1, 2, 3, 4, 5, 6, 8, 10, 12, 30};
     memset(t, 0, sizeof *t);
+    t->rings = 1;
     t->elements = between(2, below(3) ? 8 : MAX_ELEMENTS);
     t->rows = between(1, below(4) ? 10 : MAX_ROWS);
     unsigned cut = between(1, t->elements), any_route = below(12) == 0;
@@ -143,15 +146,45 @@ static void random_table(struct table *t) {
     give_costs(t);
 }
 
+/* The row with its ends mirrored, running the other way: the same moves, seen from the other side of the board. */
+static void turn(const struct table *t, struct row *r) {
+    r->first = t->elements + 1 - r->first;
+    r->second = t->elements + 1 - r->second;
+    r->way = 1 - r->way;
+}
+
+/* The table on a board of two rings: some rows, or all, or none of them turned. On either ring rows keep clear of where it was cut. */
+static void on_board(struct table *t) {
+    unsigned turned = below(4) ? between(1, 7) : 8 * below(2);
+    t->rings = 2;
+    for (unsigned i = 0; i < t->rows; i++)
+        if (below(8) < turned) turn(t, &t->row[i]);
+}
+
+/* Three rows of a board go all the way round its second ring, so that each of that ring's elements has a row through it. */
+static void round_second(struct table *t) {
+    if (t->elements < 3 || t->rows < 3) return;
+    for (unsigned i = 0; i < 3; i++) {
+        struct row *r = &t->row[i];
+        r->first = i + 1;
+        r->second = i ? i : t->elements;
+        r->way = 0;
+        turn(t, r);
+    }
+}
+
 /* Gives some row a long odd period: with the others' it makes a hyperperiod that is too long, more often than not. */
 static void lengthen(struct table *t) {
     t->row[below(t->rows)].period = between(MAX_SLOTS / 2, MAX_SLOTS - 1) | 1;
 }
 
-/* Row i has the ends and the period of an earlier one. */
+/* Row i has the ends, the period and the direction of an earlier one. */
 static int pasted(const struct table *t, unsigned i) {
-    for (unsigned j = 0; j < i; j++)
-        if (t->row[i].first == t->row[j].first && t->row[i].second == t->row[j].second && t->row[i].period == t->row[j].period) return 1;
+    const struct row *r = &t->row[i];
+    for (unsigned j = 0; j < i; j++) {
+        const struct row *w = &t->row[j];
+        if (r->first == w->first && r->second == w->second && r->period == w->period && r->way == w->way) return 1;
+    }
     return 0;
 }
 
@@ -170,10 +203,11 @@ static void paste(struct table *t) {
     to->cost = between(1, to->period);
 }
 
-/* Many rows with long routes. So many share a segment that each row's load has to be small, and the interval long; then costs are raised as
- * long as the bus can carry it. */
+/* Many rows with long routes, on a board every third time. So many share a segment that each row's load has to be small, and the interval
+ * long; then costs are raised as long as the bus can carry it. */
 static void long_routes(struct table *t) {
     memset(t, 0, sizeof *t);
+    t->rings = 1;
     t->elements = between(16, MAX_ELEMENTS);
     t->rows = between(40, MAX_ROWS);
     unsigned cut = between(1, t->elements), interval = between(MAX_ROWS + 2, 200), most = between(2, MAX_SLOTS / interval);
@@ -187,6 +221,7 @@ static void long_routes(struct table *t) {
         r->second = (cut - 1 + b) % t->elements + 1;
         if (r->first == r->second) r->second = r->first % t->elements + 1;
     }
+    if (below(3) == 0) on_board(t);
     without_pasted(t);
     for (unsigned turn = 0; turn < 4 * t->rows; turn++) {
         struct file f;
@@ -226,8 +261,10 @@ static void to_the_bound(struct table *t, int past) {
     }
 }
 
-/* Version 2 for every second table, with labels of both parties: the first and the last of each, and any. */
+/* Version 2 for every second table of one ring, with labels of both parties: the first and the last of each, and any. */
 static void give_labels(struct table *t) {
+    t->version = 1;
+    if (t->rings == 2) return;
     t->version = between(1, 2);
     for (unsigned i = 0; i < t->rows; i++) {
         const unsigned some[] = {0, 1, LAST_OF_OURS, LAST_OF_OURS + 1, 65535, below(65536)};
@@ -236,10 +273,14 @@ static void give_labels(struct table *t) {
 }
 
 static void damage(struct file *f) {
-    switch (below(9)) {
+    static const uint8_t ways[] = {2, 3, 255};
+    switch (below(11)) {
     case 0: f->length = below(below(2) ? (unsigned)f->length + 1 : 8); break;
     case 1: f->length += between(1, 8); break;
-    case 2: f->byte[below(3)] ^= (uint8_t)between(1, 255); break;
+    case 2:
+        if (below(2)) f->byte[2] ^= 'T' ^ '2'; /* the other mark */
+        else f->byte[below(3)] ^= (uint8_t)between(1, 255);
+        break;
     case 3:
         if (below(2)) f->byte[3] ^= 3; /* the other version */
         else f->byte[3 + below(2)] ^= (uint8_t)between(1, 255);
@@ -248,6 +289,10 @@ static void damage(struct file *f) {
     case 5: f->byte[6] = (uint8_t)below(256); break;
     case 6: f->byte[7 + below((unsigned)f->length - 7)] = below(2) ? 255 : 0; break;
     case 7: f->byte[7 + below((unsigned)f->length - 7)] = (uint8_t)below(256); break;
+    case 8:
+    case 9: /* a direction of a board; of another table any byte of a row */
+        f->byte[f->byte[2] == '2' ? 13 + 7 * below(f->byte[6]) : 7 + below((unsigned)f->length - 7)] = ways[below(sizeof ways)];
+        break;
     default: memset(f->byte + 7, below(2) ? 255 : 0, f->length - 7); break;
     }
 }
@@ -258,6 +303,7 @@ enum { LAST_NUMBER = 32 };
 static unsigned seen[LAST_NUMBER + 1];
 static unsigned long admitted, labelled, slots, exact, uneven, newly, within, alone[2][2];
 static unsigned long raised, raised_labelled, raised_admitted;
+static unsigned long boards[3], mirrors, apart[MAX_RINGS], uncut[MAX_RINGS], second_over; /* boards by busy rings: first, second, both */
 
 static void fail(const struct file *f, const char *what) {
     printf("compare: %s; the table's bytes:\n", what);
@@ -302,8 +348,8 @@ static void compare_values(const struct file *given, const uint8_t *file, const 
     if (!v->number && room < RING_VALUES) wrong = 256 * RING_SHORT_OUTPUT;
     for (unsigned k = 0; k <= RING_VALUES; k++) values[k] = expected[k] = below(1u << 31);
     if (!wrong) {
-        expected[RING_CUT] = v->cut;
-        expected[RING_SECOND_CUT] = 0;
+        expected[RING_CUT] = v->cut[0];
+        expected[RING_SECOND_CUT] = v->cut[1];
         expected[RING_INTERVAL] = v->interval;
         expected[RING_HYPERPERIOD] = v->hyper;
         expected[RING_LOAD] = v->load;
@@ -326,7 +372,7 @@ static void compare_sets(const struct file *given, const uint8_t *file, const st
 
 /* The segments that two rows share: of every pair of rows where there are few, of some where there are many, and of rows past the last. */
 static void compare_shared(const struct file *given, const uint8_t *file, const struct verdict *v) {
-    int held = v->number == 0 || v->number >= 10;
+    int held = v->number == 0 || (v->number >= 10 && v->number != RING_WRONG_WAY);
     unsigned rows = held ? v->table.rows : 2;
     for (unsigned n = 0; n < rows * rows && n < 200; n++) {
         size_t i = rows <= FEW_ROWS ? n / rows : below(rows), j = rows <= FEW_ROWS ? n % rows : below(rows);
@@ -409,6 +455,7 @@ static void compare_alone(const struct file *given, const struct verdict *v) {
     int theirs = (int)below(2);
     struct table changed;
     struct file f;
+    if (v->table.rings == 2) return;
     other_rows(&v->table, theirs, &changed);
     if (!changed.rows) return;
     encode(&changed, &f);
@@ -483,16 +530,17 @@ static void compare_result(const struct file *given, const struct verdict *was, 
 static void compare_raise(const struct file *given, const uint8_t *file, const struct verdict *v) {
     struct file wanted = *given;
     struct table t = v->table;
-    unsigned held = v->number == 0 || v->number == 13 || v->number == 14, light = 0;
+    struct answer a = oracle_one_ring(v);
+    unsigned held = a.number == 0 || a.number == 13 || a.number == 14, light = 0;
     for (unsigned i = 0; held && i < t.rows; i++) {
         t.row[i].cost = oracle_raised(v, i);
         light += t.row[i].cost != v->table.row[i].cost;
     }
     if (held) encode(&t, &wanted);
-    if (wanted.length != given->length || (v->number == 13) != (light > 0)) fail(given, "the oracle raises the wrong rows");
+    if (wanted.length != given->length || (a.number == 13) != (light > 0)) fail(given, "the oracle raises the wrong rows");
     for (size_t room = given->length ? given->length - 1 : 0; room <= given->length + 1; room++) {
         uint8_t *out = lend_bytes(&wanted, room);
-        uint32_t answer = held ? 0 : 256 * v->number + v->place;
+        uint32_t answer = held ? 0 : 256 * a.number + a.place;
         if (held && room < given->length) answer = 256 * RING_SHORT_OUTPUT;
         if (ring_raise(file, given->length, room ? out : NULL, room) != answer) fail(given, "raising is answered wrongly");
         if (!answer && memcmp(out, wanted.byte, wanted.length)) fail(given, "raised tables differ");
@@ -530,11 +578,12 @@ static void compare_lists(const struct file *given, const uint8_t *file, const s
 static void compare_bad_lists(const struct file *given, const uint8_t *file, const struct verdict *v, const uint64_t *plan) {
     static uint8_t list[RING_LIST_BYTES], kept_list[RING_LIST_BYTES];
     static uint64_t words[MAX_SLOTS + 2];
-    const unsigned elements[] = {0, 1, v->number ? 1 : v->table.elements, v->number ? 2 : v->table.elements + 1, 33, 0xffffffffu};
+    struct answer a = oracle_one_ring(v);
+    const unsigned elements[] = {0, 1, a.number ? 1 : v->table.elements, a.number ? 2 : v->table.elements + 1, 33, 0xffffffffu};
     unsigned element = elements[below(6)], bad = MAX_SLOTS;
-    unsigned present = v->number ? below(9) : v->hyper - (below(3) == 0) * below(v->hyper + 1);
-    uint64_t wrong = v->number;
-    if (!v->number) {
+    unsigned present = a.number ? below(9) : v->hyper - (below(3) == 0) * below(v->hyper + 1);
+    uint64_t wrong = a.number;
+    if (!a.number) {
         memcpy(words, plan, v->hyper * sizeof *words);
         words[v->hyper] = words[v->hyper + 1] = UINT64_MAX; /* past h: never looked at */
         if (below(2)) words[below(v->hyper)] = below(2) ? UINT64_MAX >> below(64) : (uint64_t)1 << below(64);
@@ -543,10 +592,10 @@ static void compare_bad_lists(const struct file *given, const uint8_t *file, con
         if (present == v->hyper && below(2)) present += 1 + below(2);
     }
     size_t size = RING_LIST_BYTES, room = 0;
-    if (!v->number && element >= 1 && element <= v->table.elements && bad == MAX_SLOTS && present >= v->hyper)
+    if (!a.number && element >= 1 && element <= v->table.elements && bad == MAX_SLOTS && present >= v->hyper)
         size = oracle_list(v, words, element, kept_list);
     room = below(2) ? RING_LIST_BYTES : below(2) ? size - 1 : below(8);
-    uint64_t refusal = wrong << 32 | v->place;
+    uint64_t refusal = wrong << 32 | a.place;
     if (!wrong && (element < 1 || element > v->table.elements)) refusal = (uint64_t)RING_WRONG_ELEMENT << 32;
     else if (!wrong && bad < MAX_SLOTS) refusal = (uint64_t)RING_BAD_WORD << 32 | bad;
     else if (!wrong && (present < v->hyper || room < size)) refusal = (uint64_t)RING_SHORT_OUTPUT << 32;
@@ -560,6 +609,123 @@ static void compare_bad_lists(const struct file *given, const uint8_t *file, con
     } else if (answer != size) fail(given, "a list is answered wrongly");
 }
 
+/* ---- boards of two rings */
+
+static const char *const answered[] = {"verdict", "plan"};
+
+/* The library's verdict on a table, or its plan: an answer, and the words where there are some. */
+static uint32_t answer_of(const struct table *t, unsigned planned, uint64_t *words) {
+    struct file f;
+    encode(t, &f);
+    uint8_t *file = file_end - f.length;
+    memcpy(file, f.byte, f.length);
+    return planned ? ring_plan(file, f.length, words, MAX_SLOTS) : ring_verdict(file, f.length);
+}
+
+/* The values and the list of sets of a board that is admitted. */
+static void found_of(const struct table *t, uint32_t *values, uint64_t *sets) {
+    struct file f;
+    encode(t, &f);
+    uint8_t *file = file_end - f.length;
+    memcpy(file, f.byte, f.length);
+    if (ring_values(file, f.length, values, RING_VALUES) || ring_sets(file, f.length, sets, MAX_ROWS)) fail(&f, "a board has no values");
+}
+
+static int has_rows(const struct table *t, unsigned way) {
+    for (unsigned i = 0; i < t->rows; i++)
+        if (t->row[i].way == way) return 1;
+    return 0;
+}
+
+/* How many of the sets listed are of the first ring: they come first. */
+static unsigned of_first(const struct table *t, const uint64_t *sets, unsigned count) {
+    unsigned n = 0;
+    while (n < count && !t->row[__builtin_ctzll(sets[n])].way) n++;
+    return n;
+}
+
+/* A board seen from its other side: every row turned. It has the very same words; the rings change places in cuts and sets, and so do the
+ * places of 10 and 14. A table of one ring is taken as a board with its rows on one ring, which has the table's own answers and words. */
+static void compare_mirrored(const struct table *given) {
+    static uint64_t words[2][MAX_SLOTS], sets[2][MAX_ROWS];
+    struct table t = *given, other;
+    struct file f;
+    encode(given, &f);
+    t.rings = 2;
+    t.version = 1;
+    other = t;
+    for (unsigned i = 0; i < t.rows; i++) turn(&t, &other.row[i]);
+    for (unsigned planned = 0; planned < 2; planned++) {
+        uint32_t one = answer_of(&t, planned, words[0]), two = answer_of(&other, planned, words[1]);
+        unsigned moved = RING_NUMBER(one) == RING_NO_CUT || RING_NUMBER(one) == RING_OVER_BOUND;
+        if (moved ? RING_NUMBER(one) != RING_NUMBER(two) : one != two) fail(&f, answered[planned]);
+        if (given->rings == 1 && one != answer_of(given, planned, words[1])) fail(&f, "on one ring of a board the answer is another");
+        if (one) return;
+    }
+    uint32_t values[2][RING_VALUES];
+    found_of(&t, values[0], sets[0]);
+    found_of(&other, values[1], sets[1]);
+    unsigned hyper = values[0][RING_HYPERPERIOD], count = values[0][RING_SETS], first = of_first(&t, sets[0], count);
+    for (unsigned way = 0; way < 2; way++) {
+        uint32_t cut = values[0][way ? RING_SECOND_CUT : RING_CUT], mirrored = values[1][way ? RING_CUT : RING_SECOND_CUT];
+        if (mirrored != (has_rows(&t, way) ? t.elements + 1 - cut : 1)) fail(&f, "a cut is not mirrored");
+    }
+    if (memcmp(values[0] + RING_INTERVAL, values[1] + RING_INTERVAL, (RING_VALUES - RING_INTERVAL) * sizeof **values)
+        || memcmp(sets[0], sets[1] + count - first, first * sizeof **sets)
+        || memcmp(sets[0] + first, sets[1], (count - first) * sizeof **sets))
+        fail(&f, "what is found of a board is not what is found of it mirrored");
+    if (memcmp(words[0], words[1], hyper * sizeof **words)) fail(&f, "a mirrored board has other words");
+    mirrors++;
+}
+
+/* Keeps the rows of one ring and puts others on the other, one for each period that it had, so that all intervals end where they did. */
+static void other_ring(const struct table *t, unsigned way, struct table *changed, unsigned *place) {
+    unsigned l = shortest(t), periods = 0, period[MAX_ROWS];
+    *changed = *t;
+    changed->rows = 0;
+    for (unsigned i = 0; i < t->rows; i++) {
+        unsigned k = 0;
+        while (k < periods && period[k] != t->row[i].period) k++;
+        if (k == periods && t->row[i].way != way) period[periods++] = t->row[i].period;
+    }
+    for (unsigned i = 0; i <= t->rows; i++) {
+        for (; periods && (i == t->rows || below(3) == 0); periods--) {
+            struct row *r = &changed->row[changed->rows++];
+            r->way = 1 - way;
+            r->first = between(1, t->elements);
+            r->second = r->way ? (r->first + t->elements - 2) % t->elements + 1 : r->first % t->elements + 1;
+            r->period = period[periods - 1];
+            r->cost = (r->period + l - 1) / l;
+        }
+        if (i < t->rows && t->row[i].way == way) place[i] = changed->rows, changed->row[changed->rows++] = t->row[i];
+    }
+}
+
+/* The words of one ring's rows are the same with other rows on the other ring, as far as these pass and no interval ends elsewhere. */
+static void compare_apart(const struct table *t, const uint64_t *plan, unsigned hyper) {
+    static uint64_t words[MAX_SLOTS];
+    unsigned way = below(2), place[MAX_ROWS];
+    struct table changed;
+    struct file f;
+    if (!has_rows(t, 0) || !has_rows(t, 1)) return;
+    other_ring(t, way, &changed, place);
+    encode(t, &f);
+    uint32_t answer = answer_of(&changed, 1, words);
+    if (RING_NUMBER(answer) == RING_OVER_BOUND || RING_NUMBER(answer) == RING_PASTED_ROW) return; /* of the rows put there */
+    if (answer) fail(&f, "a ring's rows are refused with other rows on the other ring");
+    for (unsigned s = 0; s < hyper; s++)
+        for (unsigned i = 0; i < t->rows; i++)
+            if (t->row[i].way == way && (plan[s] >> i & 1) != (words[s] >> place[i] & 1))
+                fail(&f, "a ring's words depend on the other ring's rows");
+    apart[way]++;
+}
+
+/* What is counted of a board that is admitted, and its rings apart. */
+static void compare_board(const struct verdict *v, const uint64_t *plan) {
+    boards[has_rows(&v->table, 0) + 2 * has_rows(&v->table, 1) - 1]++;
+    for (unsigned n = 0; n < 4; n++) compare_apart(&v->table, plan, v->hyper);
+}
+
 static void compare(const struct file *given) {
     static struct verdict v;
     uint8_t *file = file_end - given->length;
@@ -571,6 +737,8 @@ static void compare(const struct file *given) {
         fail(given, "verdicts differ");
     }
     seen[v.number]++;
+    if (v.number == 10) uncut[v.place]++;
+    if (v.number == 14) second_over += v.table.row[__builtin_ctzll(v.set[v.place])].way;
     if ((v.number == 13 || v.number == 14) && oracle_before(&v)) fail(given, "a table that was admitted before #105 is refused");
     if (!v.number && v.interval != shortest(&v.table)) fail(given, "L is not the least greatest common divisor of two periods");
     compare_values(given, file, &v);
@@ -611,14 +779,16 @@ static void compare(const struct file *given) {
     if (memcmp(plain, plan, v.hyper * sizeof *plain)) fail(given, "the plain planner's words differ");
     const char *why = "";
     if (!oracle_keeps(&v, plan, &why)) fail(given, why);
-    if (below(8) == 0) compare_lists(given, file, &v, plan);
+    if (v.table.rings == 1 && below(8) == 0) compare_lists(given, file, &v, plan);
     admitted++;
     labelled += v.table.version == 2;
     slots += v.hyper;
     uneven += v.intervals * v.interval != v.hyper;
     newly += !oracle_before(&v);
     static uint64_t other[MAX_SLOTS];
-    if (words_plan(file, given->length, other, v.hyper) || memcmp(other, plan, v.hyper * sizeof *other)) fail(given, "words.c differs");
+    if (v.table.rings == 1
+        && (words_plan(file, given->length, other, v.hyper) || memcmp(other, plan, v.hyper * sizeof *other)))
+        fail(given, "words.c differs");
     if (plain_plan(file, given->length, other, v.hyper) || memcmp(other, plan, v.hyper * sizeof *other)) fail(given, "plain.c differs");
     if (v.table.rows <= FEW_ROWS) {
         uint64_t had[MAX_ROWS] = {0}, load[MAX_ROWS], word[MAX_SLOTS];
@@ -634,11 +804,12 @@ static void compare(const struct file *given) {
     }
     compare_limits(given, file, &v, plain);
     for (unsigned n = 0; n < 4; n++) compare_alone(given, &v);
+    if (v.table.rings == 2) compare_board(&v, plain);
 }
 
-/* 12 is retired, 15 and 16 are the planner's, and 20, 24 to 28, 30 and 31 are given by none of the functions. */
+/* 12 is retired, 15 and 16 are the planner's, and 20, 24, 25, 27, 28, 30 and 31 are given by none of the functions. */
 static int given_by_some(unsigned n) {
-    return (n <= 19 && n != 12 && n != 15 && n != 16) || (21 <= n && n <= 23) || n == 29 || n == 32;
+    return (n <= 19 && n != 12 && n != 15 && n != 16) || (21 <= n && n <= 23) || n == 26 || n == 29 || n == 32;
 }
 
 int main(int argc, char **argv) {
@@ -663,11 +834,14 @@ int main(int argc, char **argv) {
         if (routes) long_routes(&t);
         else if (below(5) == 0) uneven_table(&t);
         else random_table(&t);
+        if (!routes && below(3) == 0) on_board(&t);
+        if (!routes && t.rings == 2 && below(10) == 0) round_second(&t);
         if (!routes && below(40) == 0) lengthen(&t);
         if (!routes && below(30)) without_pasted(&t);
         if (!routes && below(3) == 0) to_the_bound(&t, (int)below(2));
         if (!routes && below(30) == 0) paste(&t);
         give_labels(&t);
+        if (below(4) == 0) compare_mirrored(&t);
         encode(&t, &f);
         if (!routes && below(4) == 0) damage(&f);
         compare(&f);
@@ -677,12 +851,16 @@ int main(int argc, char **argv) {
     printf("%lu planned with limits; with other rows of the other party, ours over %lu times and not %lu, theirs %lu and %lu\n", within,
         alone[0][1], alone[0][0], alone[1][1], alone[1][0]);
     printf("%lu with intervals of different length, %lu that the greatest common divisor of all periods refuses\n", uneven, newly);
+    printf("%lu boards with the first ring busy alone, %lu with the second, %lu with both; %lu mirrored; other rows on the other ring "
+           "%lu and %lu times\n", boards[0], boards[1], boards[2], mirrors, apart[0], apart[1]);
+    printf("10 of the first ring %lu times and of the second %lu, 14 of a set of the second %lu\n", uncut[0], uncut[1], second_over);
     printf("greedy was not enough in %lu of %lu intervals\n", words_settled, words_intervals);
     printf("%lu with light rows raised, %lu of them of version 2, %lu admitted then and %lu refused with 14\n", raised, raised_labelled,
         raised_admitted, raised - raised_admitted);
     if (routes) return 0;
     if (!labelled || !uneven || !newly || !within || !alone[0][0] || !alone[0][1] || !alone[1][0] || !alone[1][1] || !raised_labelled
-        || !raised_admitted || raised == raised_admitted) {
+        || !raised_admitted || raised == raised_admitted || !boards[0] || !boards[1] || !boards[2] || !mirrors || !apart[0] || !apart[1]
+        || !uncut[0] || !uncut[1] || !second_over) {
         printf("compare: no such table was seen\n");
         return 1;
     }

@@ -6,19 +6,27 @@
 
 /* ---- the bus */
 
-/* The segments that a row uses, bit s for segment s: from its first element on until its second is reached. */
+/* The element after e, the way that a row runs. */
+static unsigned after(const struct table *t, unsigned way, unsigned e) {
+    if (way) return e == 1 ? t->elements : e - 1;
+    return e == t->elements ? 1 : e + 1;
+}
+
+/* The segments that a row uses, bit s for segment s: from its first element on until its second is reached. A segment has the number of
+ * the element at which it begins clockwise. */
 static uint64_t segments(const struct table *t, unsigned i) {
+    const struct row *r = &t->row[i];
     uint64_t used = 0;
-    for (unsigned e = t->row[i].first; e != t->row[i].second; e = e == t->elements ? 1 : e + 1) used |= (uint64_t)1 << e;
+    for (unsigned e = r->first; e != r->second; e = after(t, r->way, e)) used |= (uint64_t)1 << (r->way ? after(t, r->way, e) : e);
     return used;
 }
 
 uint32_t oracle_shared(const struct table *t, unsigned i, unsigned j) {
-    return (uint32_t)((segments(t, i) & segments(t, j)) >> 1);
+    return t->row[i].way == t->row[j].way ? (uint32_t)((segments(t, i) & segments(t, j)) >> 1) : 0;
 }
 
 int oracle_overlap(const struct table *t, unsigned i, unsigned j) {
-    return (segments(t, i) & segments(t, j)) != 0;
+    return oracle_shared(t, i, j) != 0;
 }
 
 int oracle_bad_word(const struct table *t, uint64_t word) {
@@ -49,25 +57,41 @@ size_t oracle_list(const struct verdict *v, const uint64_t *plan, unsigned eleme
 static int goes_through(const struct table *t, unsigned i, unsigned element) {
     unsigned e = t->row[i].first;
     for (;;) {
-        e = e == t->elements ? 1 : e + 1;
+        e = after(t, t->row[i].way, e);
         if (e == t->row[i].second) return 0;
         if (e == element) return 1;
     }
 }
 
-static unsigned on_line(const struct table *t, unsigned cut, unsigned e) {
+/* The first element, in the order in which a ring runs, that none of its rows goes through: from 1 up clockwise, from M down
+ * counterclockwise; 0 where there is none. A ring with no rows is cut at 1. */
+static unsigned cut_of(const struct table *t, unsigned way) {
+    unsigned rows = 0;
+    for (unsigned i = 0; i < t->rows; i++) rows += t->row[i].way == way;
+    if (!rows) return 1;
+    for (unsigned n = 1; n <= t->elements; n++) {
+        unsigned e = way ? t->elements + 1 - n : n;
+        int clear = 1;
+        for (unsigned i = 0; i < t->rows; i++) clear &= t->row[i].way != way || !goes_through(t, i, e);
+        if (clear) return e;
+    }
+    return 0;
+}
+
+static unsigned on_line(const struct verdict *v, unsigned way, unsigned e) {
     unsigned place = 1;
-    for (unsigned at = cut; at != e; at = at == t->elements ? 1 : at + 1) place++;
+    for (unsigned at = v->cut[way]; at != e; at = after(&v->table, way, at)) place++;
     return place;
 }
 
+/* a row's ends on the line of its own ring */
 static unsigned line_first(const struct verdict *v, unsigned i) {
-    return on_line(&v->table, v->cut, v->table.row[i].first);
+    return on_line(v, v->table.row[i].way, v->table.row[i].first);
 }
 
 static unsigned line_second(const struct verdict *v, unsigned i) {
-    if (v->table.row[i].second == v->cut) return v->table.elements + 1;
-    return on_line(&v->table, v->cut, v->table.row[i].second);
+    const struct row *r = &v->table.row[i];
+    return r->second == v->cut[r->way] ? v->table.elements + 1 : on_line(v, r->way, r->second);
 }
 
 /* ---- whole numbers */
@@ -113,14 +137,17 @@ static void extend(struct search *s, uint64_t chosen, uint64_t open, uint64_t cl
     }
 }
 
+/* The least second end of a set's rows, those of the second ring past all of the first. */
 static unsigned least_second(const struct verdict *v, uint64_t set) {
     unsigned least = ~0u;
-    for (unsigned i = 0; i < v->table.rows; i++)
-        if (has(set, i) && line_second(v, i) < least) least = line_second(v, i);
+    for (unsigned i = 0; i < v->table.rows; i++) {
+        unsigned second = line_second(v, i) + 100 * v->table.row[i].way;
+        if (has(set, i) && second < least) least = second;
+    }
     return least;
 }
 
-/* Lists the sets by ascending least second end. Two of them can't tie; the run stops where they do. */
+/* Lists the sets by ascending least second end, clockwise first. Two of them can't tie; the run stops where they do. */
 static void list_sets(struct verdict *v) {
     struct search s = {.table = &v->table, .v = v};
     uint64_t all = 0;
@@ -147,7 +174,9 @@ static void list_sets(struct verdict *v) {
 /* ---- the verdict */
 
 static void refuse(struct verdict *v, unsigned number, unsigned place) {
+    unsigned rings = v->table.rings;
     memset(v, 0, sizeof *v);
+    v->table.rings = rings;
     v->number = number;
     v->place = place;
 }
@@ -212,14 +241,15 @@ void oracle_verdict(const uint8_t *f, size_t length, struct verdict *v) {
     memset(v, 0, sizeof *v);
     struct table *t = &v->table;
     if (length < 7) { refuse(v, 1, 0); return; }
-    if (f[0] != 0x52 || f[1] != 0x42 || f[2] != 0x54) { refuse(v, 2, 0); return; }
+    if (f[0] != 0x52 || f[1] != 0x42 || (f[2] != 0x54 && f[2] != 0x32)) { refuse(v, 2, 0); return; }
+    t->rings = f[2] == 0x54 ? 1 : 2;
     t->version = f[3] + 256u * f[4];
-    if (t->version != 1 && t->version != 2) { refuse(v, 3, 0); return; }
+    if (t->version != 1 && (t->version != 2 || t->rings == 2)) { refuse(v, 3, 0); return; }
     t->elements = f[5];
     t->rows = f[6];
     if (t->elements < 2 || t->elements > MAX_ELEMENTS) { refuse(v, 4, 0); return; }
     if (t->rows < 1 || t->rows > MAX_ROWS) { refuse(v, 5, 0); return; }
-    size_t size = t->version == 1 ? 6 : 8;
+    size_t size = t->rings == 2 ? 7 : t->version == 1 ? 6 : 8;
     if (length != 7 + size * t->rows) { refuse(v, 6, 0); return; }
     for (unsigned i = 0; i < t->rows; i++) {
         const uint8_t *r = f + 7 + size * i;
@@ -229,24 +259,24 @@ void oracle_verdict(const uint8_t *f, size_t length, struct verdict *v) {
         w->first = r[4];
         w->second = r[5];
         w->label = t->version == 1 ? 0 : r[6] + 256u * r[7];
+        w->way = t->rings == 2 ? r[6] : 0;
         if (w->first < 1 || w->first > t->elements || w->second < 1 || w->second > t->elements || w->first == w->second) {
             refuse(v, 7, i);
             return;
         }
         if (w->period < 1 || w->period > MAX_SLOTS) { refuse(v, 8, i); return; }
         if (w->cost < 1 || w->cost > w->period) { refuse(v, 9, i); return; }
+        if (w->way > 1) { refuse(v, 26, i); return; }
     }
     for (unsigned i = 1; i < t->rows; i++)
         for (unsigned j = 0; j < i; j++) {
             const struct row *a = &t->row[i], *b = &t->row[j];
-            if (a->first == b->first && a->second == b->second && a->period == b->period) { refuse(v, 18, i); return; }
+            if (a->first == b->first && a->second == b->second && a->period == b->period && a->way == b->way) { refuse(v, 18, i); return; }
         }
-    for (unsigned e = t->elements; e >= 1; e--) {
-        int clear = 1;
-        for (unsigned i = 0; i < t->rows; i++) clear &= !goes_through(t, i, e);
-        if (clear) v->cut = e;
+    for (unsigned way = 0; way < t->rings; way++) {
+        v->cut[way] = cut_of(t, way);
+        if (!v->cut[way]) { refuse(v, 10, way); return; }
     }
-    if (!v->cut) { refuse(v, 10, 0); return; }
     uint64_t h = 1;
     int equal = 1;
     for (unsigned i = 0; i < t->rows; i++) {
@@ -293,10 +323,14 @@ static unsigned lowest_over(const struct table *t, int theirs, uint32_t limit) {
     return 0;
 }
 
+struct answer oracle_one_ring(const struct verdict *v) {
+    return v->table.rings == 2 ? (struct answer){2, 0} : (struct answer){v->number, v->place};
+}
+
 struct answer oracle_limited(const struct verdict *v, uint32_t ours, uint32_t theirs) {
-    struct answer without = {v->number, v->place};
+    struct answer without = oracle_one_ring(v);
     if (ours > 1000 || theirs > 1000) return (struct answer){23, 0};
-    if (v->number && v->number != 13 && v->number != 14) return without;
+    if (without.number && without.number != 13 && without.number != 14) return without;
     unsigned our = lowest_over(&v->table, 0, ours), their = lowest_over(&v->table, 1, theirs);
     if (our) return (struct answer){21, our};
     if (their) return (struct answer){22, their};

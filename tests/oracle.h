@@ -1,19 +1,20 @@
 /* An independent implementation of the ring bus rules, by definition and without a thought for speed.
  * It shares no code and no algorithm with the library: overlap is by shared ring segments, overlap sets by a search for largest sets,
- * loads by trying both roundings of every row. */
+ * loads by trying both roundings of every row. The board's numbers are never mirrored: a counterclockwise row is walked the other way. */
 #ifndef ORACLE_H
 #define ORACLE_H
 
 #include <stddef.h>
 #include <stdint.h>
 
-enum { MAX_ELEMENTS = 32, MAX_ROWS = 64, MAX_SLOTS = 4096, MAX_SETS = 4096 };
+enum { MAX_ELEMENTS = 32, MAX_ROWS = 64, MAX_RINGS = 2, MAX_SLOTS = 4096, MAX_SETS = 4096 };
 
 struct row {
-    unsigned cost, period, first, second, label;
+    unsigned cost, period, first, second, label, way; /* way: 0 clockwise, 1 counterclockwise */
 };
 
 struct table {
+    unsigned rings; /* 1 where the mark is RBT, 2 where it is RB2, 0 where it is neither or none is there; kept by a refusal */
     unsigned version, elements, rows;
     struct row row[MAX_ROWS];
 };
@@ -21,7 +22,7 @@ struct table {
 struct verdict {
     unsigned number, place;
     /* when admitted; the sets also where refused with 13 or 14 */
-    unsigned cut, interval, hyper, load, sets;
+    unsigned cut[MAX_RINGS], interval, hyper, load, sets; /* the second cut of one ring is 0 */
     unsigned intervals, end[MAX_SLOTS]; /* how many intervals there are, and where each ends */
     uint64_t set[MAX_SETS];
     struct table table;
@@ -30,10 +31,14 @@ struct verdict {
 /* The verdict on a file, with all that it finds on the way. */
 void oracle_verdict(const uint8_t *file, size_t length, struct verdict *v);
 
-/* A verdict's number and place with limits, ours and the second maker's, in thousandths. */
 struct answer {
     unsigned number, place;
 };
+
+/* A verdict's number and place in a call that takes tables of one ring alone. */
+struct answer oracle_one_ring(const struct verdict *v);
+
+/* The same with limits, ours and the second maker's, in thousandths. */
 struct answer oracle_limited(const struct verdict *v, uint32_t ours, uint32_t theirs);
 
 /* What one party's rows ask for of a segment, over the least common multiple of that party's own periods (1 where it has no rows). */
@@ -45,7 +50,7 @@ struct fraction oracle_asked(const struct table *t, int theirs, unsigned segment
 /* The ring segments that rows i and j of a table share, bit s - 1 for segment s. */
 uint32_t oracle_shared(const struct table *t, unsigned i, unsigned j);
 
-/* Whether rows i and j of a table share a ring segment. */
+/* Whether rows i and j of a table run on one ring and share a segment of it. */
 int oracle_overlap(const struct table *t, unsigned i, unsigned j);
 
 /* What is wrong with a word of a plan: rows that overlap, or a bit past the last row. */

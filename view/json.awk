@@ -9,7 +9,9 @@ END {
     if (number) printf ", \"words\": \"%s\"", words
     printf "}"
     if (!number) {
-        printf ",\n  \"cut\": %d, \"interval\": %d, \"hyper\": %d, \"load\": %d,\n  \"sets\": [", cut, interval, hyper, load
+        printf ",\n  \"cut\": %d, ", cut[0]
+        if (rings > 1) printf "\"second_cut\": %d, ", cut[1]
+        printf "\"interval\": %d, \"hyper\": %d, \"load\": %d,\n  \"sets\": [", interval, hyper, load
         for (k = 0; k < sets; k++) printf "%s%s", k ? ", " : "", list(set[k])
         printf "],\n  \"slots\": ["
         for (k = 0; k < hyper; k++) printf "%s\n    %s", k ? "," : "", list(slot[k])

@@ -1,4 +1,4 @@
-# The plan as a picture (SVG): a lane for each segment, time to the right, a colour for each row. A dashed line stands where an interval
+# The plan as a picture (SVG): a lane for each segment of each ring, time to the right, a colour for each row. A dashed line stands where an interval
 # ends. Below, each row has a strip with the slots that it is given, and a tick at the end of each job, its deadline. A long plan goes on
 # in the next band.
 function hex(v) {
@@ -25,7 +25,7 @@ function colour(i,    hue, light, reach) {
 }
 
 function about(i) {
-    return "row " i ": " cost[i] " of " period[i] " slots, " first[i] " to " second[i]
+    return "row " i ": " cost[i] " of " period[i] " slots, " first[i] " to " second[i] direction(i)
 }
 
 function x_of(s) {
@@ -34,10 +34,10 @@ function x_of(s) {
 
 # Row i from slot a up to slot b, within one band.
 function move(i, a, b,    top, high) {
-    top = above + lane(first[i]) * tall
+    top = above + lane(i) * tall
     high = steps(i) * tall - 1
     printf "<rect class=\"move\" data-row=\"%d\" data-from=\"%d\" data-until=\"%d\" data-lane=\"%d\" data-lanes=\"%d\" ", \
-        i, a, b, lane(first[i]), steps(i)
+        i, a, b, lane(i), steps(i)
     printf "x=\"%g\" y=\"%g\" width=\"%g\" height=\"%g\" fill=\"%s\">", x_of(a) + 0.5, top, (b - a) * wide - 1, high, colour(i)
     printf "<title>%s; slots %d to %d</title></rect>\n", about(i), a, b - 1
     if ((b - a) * wide >= 14)
@@ -54,12 +54,11 @@ function band_end(s,    e) {
     return s + band
 }
 
-function lanes(    l, s, i) {
-    for (l = 0; l < elements; l++) {
-        s = segment(l)
+function lanes(    l, i) {
+    for (l = 0; l < lanes_of(); l++) {
         printf "<rect x=\"%g\" y=\"%g\" width=\"%g\" height=\"%g\" fill=\"%s\"/>\n", left, above + l * tall, (stop - start) * wide, tall - 1, \
             l % 2 ? "#f4f4f1" : "#ecece8"
-        printf "<text class=\"name\" x=\"%g\" y=\"%g\">%d → %d</text>\n", left - 8, above + l * tall + tall / 2 + 4, s, next_element(s)
+        printf "<text class=\"name\" x=\"%g\" y=\"%g\">%d → %d</text>\n", left - 8, above + l * tall + tall / 2 + 4, lane_from(l), lane_to(l)
     }
     for (i = 0; i < rows; i++)
         printf "<text class=\"small\" x=\"%g\" y=\"%g\">row %d</text>\n", left - 8, below + i * strip + strip - 2, i
@@ -102,7 +101,7 @@ END {
     wide = wide > 40 ? 40 : wide < 4 ? 4 : wide
     band = int(1120 / wide)
     gap = 34
-    high = elements * tall + 10 + rows * strip
+    high = lanes_of() * tall + 10 + rows * strip
     bands = 0
     for (start = 0; start < hyper; start = band_end(start)) bands++
     width = left + (hyper < band ? hyper : band) * wide + 20
@@ -115,11 +114,12 @@ END {
         ".end{stroke:#444;stroke-width:1;stroke-dasharray:4 3}.due{stroke:#222;stroke-width:2}</style>"
     printf "<rect width=\"%d\" height=\"%d\" fill=\"#ffffff\"/>\n", width, total
     printf "<text class=\"head\" x=\"16\" y=\"24\">%s</text>\n", name
-    printf "<text x=\"16\" y=\"42\">%d elements, %d rows; %d slots, repeated for ever</text>\n", elements, rows, hyper
+    printf "<text x=\"16\" y=\"42\">%d elements, %s%d rows; %d slots, repeated for ever</text>\n", elements, \
+        (rings > 1 ? "two rings, " : ""), rows, hyper
     above = head + gap / 2
     for (start = 0; start < hyper; start = stop) {
         stop = band_end(start)
-        below = above + elements * tall + 8
+        below = above + lanes_of() * tall + 8
         lanes()
         moves()
         marks()

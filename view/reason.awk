@@ -6,7 +6,12 @@ $1 == "raise" { least[$2] = $4 }
 $1 == "head" { head = $2 " " $3 " " $4; version = $5 + 256 * $6; said = $8 }
 
 function ends_of(i) {
-    return "row " i " goes from " first[i] " to " second[i]
+    return "row " i " goes from " first[i] " to " second[i] (rings > 1 ? (way[i] ? " counterclockwise" : " clockwise") : "")
+}
+
+# A board's file, by its mark: where one ring alone is taken it is refused with 2.
+function is_board() {
+    return head == "82 66 50"
 }
 
 function plural(n, one) {
@@ -27,29 +32,33 @@ function shortest(    i, j, d, l) {
 }
 
 function through(i, e,    d) {
-    d = (e - first[i] + elements) % elements
+    d = between(way[i], first[i], e)
     return 0 < d && d < steps(i)
 }
 
-function on_ends(i) {
-    if (first[i] == second[i]) return ends_of(i) ": both ends are the same element"
-    return ends_of(i) ", and this ring has the elements 1 to " elements
+function on_ends(i,    ends) {
+    ends = "row " i " goes from " first[i] " to " second[i]
+    if (first[i] == second[i]) return ends ": both ends are the same element"
+    return ends ", and this ring has the elements 1 to " elements
 }
 
 # The earlier row that row i repeats.
 function on_pasted(i,    j) {
     for (j = 0; j < i; j++)
-        if (first[j] == first[i] && second[j] == second[i] && period[j] == period[i])
+        if (first[j] == first[i] && second[j] == second[i] && period[j] == period[i] && way[j] == way[i])
             return ends_of(i) " with a period of " period[i] " slots, and so does row " j ": take one out, or give its cost to the other"
 }
 
-function on_cut(    e, i, line, lines) {
+# The rows of ring d that go through each element.
+function on_cut(d,    e, i, line, lines, ring) {
     for (e = 1; e <= elements; e++) {
         line = ""
-        for (i = 0; i < rows; i++) if (through(i, e)) line = line (line == "" ? "" : ", ") i
+        for (i = 0; i < rows; i++) if (way[i] == d && through(i, e)) line = line (line == "" ? "" : ", ") i
         lines = lines "\nthrough element " e ": row" (line ~ /,/ ? "s " : " ") line
     }
-    return "a table needs an element that no row goes through, between its ends" lines
+    if (rings < 2) return "a table needs an element that no row goes through, between its ends" lines
+    ring = d ? "counterclockwise" : "clockwise"
+    return "the " ring " ring needs an element that none of its rows goes through, between its ends" lines
 }
 
 # The first periods that are too many.
@@ -63,13 +72,15 @@ function on_hyper(    i, h, list) {
     return "the periods " list " have the least common multiple " h "; at most 4096 passes"
 }
 
-# Each light row, and the tool that raises them.
+# Each light row, and the tool that raises them; it takes one ring alone, so that of a board the least cost is worked out here.
 function on_light(    i, l, lines) {
     l = shortest()
+    for (i = 0; i < rows; i++) if (rings > 1 && cost[i] * l < period[i]) least[i] = int((period[i] + l - 1) / l)
     for (i = 0; i < rows; i++)
         if (i in least)
             lines = lines "row " i " costs " plural(cost[i], "slot") " of " period[i] "; with a shortest interval of " plural(l, "slot") \
                 " the least that passes is " least[i] "\n"
+    if (rings > 1) return substr(lines, 1, length(lines) - 1)
     return lines "./raise TABLE OUT writes the table with " (lines ~ /\n./ ? "these costs" : "this cost")
 }
 
@@ -91,20 +102,22 @@ function on_limit(whose, second_maker, limit, s,    i, under, over, list, d, par
 
 function reason(n, i) {
     if (n == 1) return "the file has " plural(bytes, "byte")
-    if (n == 2) return "its first bytes are " head "; a table's are 82 66 84"
-    if (n == 3) return "its version is " version "; a table's is 1 or 2"
+    if (n == 2 && is_board()) return "it is of a board with two rings, and one ring alone is taken here"
+    if (n == 2) return "its first bytes are " head "; a table's are 82 66 84, and a board's are 82 66 50"
+    if (n == 3) return "its version is " version "; " (is_board() ? "a board's is 1" : "a table's is 1 or 2")
     if (n == 4) return "it says " elements
     if (n == 5) return "it says " said
-    if (n == 6) return "it has " bytes " bytes; with " plural(said, "row") " that is " (7 + (version == 2 ? 8 : 6) * said)
+    if (n == 6) return "it has " bytes " bytes; with " plural(said, "row") " that is " (7 + (is_board() ? 7 : version == 2 ? 8 : 6) * said)
     if (n == 7) return on_ends(i)
     if (n == 8) return "row " i " has a period of " plural(period[i], "slot")
     if (n == 9) return "row " i " costs " plural(cost[i], "slot") " of " period[i]
-    if (n == 10) return on_cut()
+    if (n == 10) return on_cut(i)
     if (n == 11) return on_hyper()
     if (n == 13) return on_light()
     if (n == 18) return on_pasted(i)
     if (n == 21) return on_limit("our", 0, ours, i)
     if (n == 22) return on_limit("the second maker's", 1, theirs, i)
+    if (n == 26) return "row " i " has the direction " way[i] "; 0 is clockwise, 1 counterclockwise"
     if (n == 23) return "our limit is " ours ", the second maker's is " theirs
 }
 

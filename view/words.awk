@@ -1,6 +1,6 @@
 # Shared by the views. They read, on one stream, the lines of view/table.awk and those of the program:
-#   bytes, head, elements M, row I COST PERIOD FIRST SECOND LABEL ..
-#   verdict, and of an admitted table cut, interval, hyper, load, set .., slot ..
+#   bytes, head, elements M, rings R, row I COST PERIOD FIRST SECOND LABEL WAY ..
+#   verdict, and of an admitted table cut for each ring, interval, hyper, load, set .., slot ..
 
 # The rows of a word, ascending, as numbers with spaces between. A word has 64 bits and stands in decimal: awk's own numbers would round it,
 # so it is divided by 2^16 as decimal parts of six digits.
@@ -31,32 +31,54 @@ function rows_of(word,    part, n, k, digit, rest, bit, rows) {
 }
 
 $1 == "elements" { elements = $2 }
-$1 == "row" { rows = $2 + 1; cost[$2] = $3; period[$2] = $4; first[$2] = $5; second[$2] = $6; label[$2] = $7 }
+$1 == "rings" { rings = $2 }
+$1 == "row" { rows = $2 + 1; cost[$2] = $3; period[$2] = $4; first[$2] = $5; second[$2] = $6; label[$2] = $7; way[$2] = $8 }
 $1 == "verdict" { number = $2; place = $3 }
-$1 == "cut" { cut = $2 }
+$1 == "cut" { cut[cuts++] = $2 }
 $1 == "interval" { interval = $2 }
 $1 == "hyper" { hyper = $2 }
 $1 == "load" { load = $2 }
 $1 == "set" { set[sets++] = $2 }
 $1 == "slot" { slot[$2] = $3 }
 
+# How many segments lie from element a to element b on ring d.
+function between(d, a, b) {
+    return ((d ? a - b : b - a) + elements) % elements
+}
+
 # How many segments a row's route has.
 function steps(i) {
-    return first[i] < second[i] ? second[i] - first[i] : second[i] + elements - first[i]
+    return between(way[i], first[i], second[i])
 }
 
-# The lane of a segment: lanes stand in the ring's order from the cut on, so that no route is parted.
-function lane(s) {
-    return s >= cut ? s - cut : s + elements - cut
+# A lane for each segment of each ring. A ring's lanes stand in its order from its cut on, so that no route is parted.
+function lanes_of() {
+    return rings * elements
 }
 
-# The segment of a lane, and the element after it.
-function segment(l) {
-    return (cut + l - 1) % elements + 1
+# The first lane of a row's route.
+function lane(i) {
+    return way[i] * elements + between(way[i], cut[way[i]], first[i])
 }
 
-function next_element(s) {
-    return s % elements + 1
+# The element that is k segments on from element e on ring d.
+function further(d, e, k) {
+    return ((d ? e - k : e + k) - 1 + 2 * elements) % elements + 1
+}
+
+# The elements that a lane leads from and to.
+function lane_from(l,    d) {
+    d = int(l / elements)
+    return further(d, cut[d], l % elements)
+}
+
+function lane_to(l) {
+    return further(int(l / elements), lane_from(l), 1)
+}
+
+# The way that a row runs, where there are two.
+function direction(i) {
+    return rings < 2 ? "" : way[i] ? ", counterclockwise" : ", clockwise"
 }
 
 # Whether an interval ends at slot s: it is a multiple of some row's period.

@@ -6,6 +6,7 @@
 // The first calls the maker with a plan of so many words; it is lent `room` numbers. The second reads a list file of so many entries, two
 // a slot, of which the one at `place` has this row and all others row 0. For each a line is printed: the call, the name, number and place,
 // the hyperperiod and the entry count, and of the first all of the lent numbers, which were 9 before.
+use crate::is_board;
 use crate::tables::print_numbers;
 use cases::number_at;
 use cases::print;
@@ -18,7 +19,7 @@ use table::Table;
 ghost use Prim.Native.Nat.{_+_, _*_, _≤_, _<_};
 ghost use Rattle.rules.specs.Bounds.{max-slots};
 
-const SIZE: usize = Table::HEADER + Table::ROW_BYTES * Table::ROWS;
+const SIZE: usize = Table::HEADER + (Table::ROW_BYTES + Table::WAY_BYTES) * Table::ROWS;
 
 // as many numbers as the maker is lent at most, and what they hold before it
 const ROOM: usize = 64;
@@ -132,7 +133,7 @@ pub(crate) fn make_case(heading: &[u8], given: &[u64]) {
         return;
     }
     let mut file = [0u8; SIZE];
-    let size = table_file(&rest[words..], &mut file);
+    let size = table_file(is_board(heading), &rest[words..], &mut file);
     if size <= SIZE {
         make_front(
             heading,

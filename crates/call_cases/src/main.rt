@@ -1,5 +1,6 @@
 // Runs the cases that stand on standard input, a line each: the call, a name, a colon, and the numbers that the call is given. A case with
-// a name only is a table for the verdict. The modules say what numbers a call's case has, and what is printed for it.
+// a name only is a table for the verdict. The modules say what numbers a call's case has, and what is printed for it. Where rows stand as
+// (cost,period,first,second), a name with a + in it is of a board with two rings, whose rows are (cost,period,first,second,direction).
 mod lists_of;
 mod meetings;
 mod plans;
@@ -15,6 +16,10 @@ const MOST: usize = 540;
 
 pub(crate) fn byte_at(text: &[u8], k: usize) -> u8 {
     if k < text.len() { text[k] } else { 0 }
+}
+
+pub(crate) fn is_board(heading: &[u8]) -> bool {
+    find(heading, 0, b'+') < heading.len()
 }
 
 fn end_line() {
@@ -34,6 +39,10 @@ fn call(heading: &[u8], given: &[u64]) {
     }
     if letter == b'w' {
         tables::write_case(heading, given);
+        return;
+    }
+    if letter == b'o' {
+        tables::other_case(heading, given);
         return;
     }
     if letter == b'l' {

@@ -6,6 +6,7 @@
 // For each a line is printed: the call, the name, number and place, then what the call left: the stage, the first four totals, and all of
 // the lent words, which were 9 before; or the first four standings.
 use crate::byte_at;
+use crate::is_board;
 use cases::find;
 use cases::number_at;
 use cases::print;
@@ -147,7 +148,7 @@ pub(crate) fn run(heading: &[u8], given: &[u64]) {
         return;
     }
     let mut file = [0u8; 64];
-    let size = table_file(&given[6..], &mut file);
+    let size = table_file(is_board(heading), &given[6..], &mut file);
     let mut words = [KEPT; WORDS];
     let room = number_at(given, 0) as usize;
     let planner = planner_of(stage_of(heading, number_at(given, 1)), given);

@@ -2,12 +2,13 @@
 //
 //     read NAME: room / bytes                                  the reader on a file of these bytes; it is lent `room` numbers
 //     version_1 NAME: room / bytes                             the reader of version 1 alone, likewise
-//     write NAME: version elements rows room / numbers         the writer on these; it is lent `room` bytes
+//     write NAME: version elements rows room / numbers         the writer on these, with the mark RBT; it is lent `room` bytes
+//     other NAME: mark version elements rows room / numbers    the same with the mark that has this byte for the T
 //     list NAME: room / bytes                                  the reader of lists of an element, likewise
 //     file NAME: 1 element hyperperiod room / numbers          the writer of such lists, likewise
 //
-// For each a line is printed: the call, the name, number and place, what the reader returned of the version, M and the row count, or of the
-// element, the hyperperiod and the entry count, and then all of the lent memory, which held 9s before.
+// For each a line is printed: the call, the name, number and place, what the reader returned of the mark, the version, M and the row count,
+// or of the element, the hyperperiod and the entry count, and then all of the lent memory, which held 9s before.
 use crate::byte_at;
 use crate::lists_of;
 use cases::number_at;
@@ -59,15 +60,12 @@ fn read_by(heading: &[u8], file: &[u8], out: &mut [u16]) -> Reading {
 
 fn read_table(heading: &[u8], file: &[u8], out: &mut [u16]) {
     let r = read_by(heading, file, out);
+    print(heading, &[r.answer.number as u64, r.answer.place as u64]);
+    let mark = r.mark;
+    print_bytes(&mark);
     print(
-        heading,
-        &[
-            r.answer.number as u64,
-            r.answer.place as u64,
-            r.version,
-            r.table.elements as u64,
-            r.table.rows as u64,
-        ],
+        b"",
+        &[r.version, r.table.elements as u64, r.table.rows as u64],
     );
     print_numbers(out);
 }
@@ -116,18 +114,19 @@ pub(crate) fn read_case(heading: &[u8], given: &[u64]) {
 
 // ---- the writer
 
-fn write_by(heading: &[u8], given: &[u64], numbers: &[u16], out: &mut [u8]) -> Answer {
+fn write_by(heading: &[u8], mark: u8, given: &[u64], numbers: &[u16], out: &mut [u8]) -> Answer {
     let version = number_at(given, 0);
     let first = number_at(given, 1);
     let second = number_at(given, 2);
     if byte_at(heading, 0) == b'f' {
         return lists::write(first, second, numbers, out);
     }
-    writer::write(version, first, second, numbers, out)
+    let bytes = [b'R', b'B', mark];
+    writer::write(&bytes, version, first, second, numbers, out)
 }
 
-fn write(heading: &[u8], given: &[u64], numbers: &[u16], out: &mut [u8]) {
-    let answer = write_by(heading, given, numbers, out);
+fn write(heading: &[u8], mark: u8, given: &[u64], numbers: &[u16], out: &mut [u8]) {
+    let answer = write_by(heading, mark, given, numbers, out);
     print(heading, &[answer.number as u64, answer.place as u64]);
     print_bytes(out);
 }
@@ -142,6 +141,7 @@ fn put_numbers(given: &[u64], out: &mut [u16]) {
 
 fn write_front(
     heading: &[u8],
+    mark: u8,
     given: &[u64],
     numbers: &[u16],
     size: usize,
@@ -154,10 +154,10 @@ fn write_front(
     if room > out.len() {
         return;
     }
-    write(heading, given, &numbers[..size], &mut out[..room]);
+    write(heading, mark, given, &numbers[..size], &mut out[..room]);
 }
 
-pub(crate) fn write_case(heading: &[u8], given: &[u64]) {
+fn write_marked(heading: &[u8], mark: u8, given: &[u64]) {
     if given.len() < 4 {
         return;
     }
@@ -166,10 +166,22 @@ pub(crate) fn write_case(heading: &[u8], given: &[u64]) {
     let mut out = [KEPT; MOST];
     write_front(
         heading,
+        mark,
         given,
         &numbers,
         given.len() - 4,
         &mut out,
         number_at(given, 3) as usize,
     );
+}
+
+pub(crate) fn write_case(heading: &[u8], given: &[u64]) {
+    write_marked(heading, b'T', given);
+}
+
+pub(crate) fn other_case(heading: &[u8], given: &[u64]) {
+    if given.len() < 1 {
+        return;
+    }
+    write_marked(heading, (number_at(given, 0) % 256) as u8, &given[1..]);
 }

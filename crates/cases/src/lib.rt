@@ -3,12 +3,12 @@ use decimal::put_bytes;
 use libc::STDOUT_FILENO;
 use table::Table;
 ghost use mathlib.Core.Path.{_≡_};
-ghost use mathlib.Core.Bool.{not, _&&_};
+ghost use mathlib.Core.Bool.{not, _&&_, cond};
 ghost use mathlib.Core.List.{[], _∷_};
 ghost use Prim.Native.Nat.{_+_, _*_, _/_, _%_, _≤_, _<_, min};
 ghost use Rattle.numbers.specs.Lists.{at as item, each};
 ghost use Rattle.decimal.specs.Puts.{limit, Puts};
-ghost use Rattle.cases.specs.Tables.{low, high, rowBytes, fileBytes};
+ghost use Rattle.cases.specs.Tables.{low, high, rowNumbers, rowBytes, wayBytes, rowAt, fileBytes};
 ghost use Rattle.cases.specs.Reading.{FoundAt, largest, isDigit, grown, ended, numbersIn};
 
 fn least(a: usize, b: usize) -> usize
@@ -148,28 +148,64 @@ fn put_row(xs: &[u64], k: usize, out: &mut [u8], next: usize) -> usize
     )
 }
 
-fn put_rows(xs: &[u64], rows: usize, out: &mut [u8], at: usize) -> usize
-    requires { ⌜ (4 * rows + 4 ≤ limit) × (at + 6 * rows ≤ limit) ⌝ }
-    ensures { λ r. ⌜ Puts (each rows (λ i. rowBytes (now (xs .entry)) (1 + 4 * i))) (now (out .entry)) at (now (out .exit)) r ⌝ }
+fn put_way(board: bool, x: u64, out: &mut [u8], next: usize) -> usize
+    requires { ⌜ next + 1 ≤ limit ⌝ }
+    ensures { λ r. ⌜ Puts (wayBytes board x) (now (out .entry)) next (now (out .exit)) r ⌝ }
 {
+    if board {
+        return put_bytes(&[low_byte(x)], out, next);
+    }
+    next
+}
+
+// How many numbers a row is.
+fn row_numbers(board: bool) -> usize
+    ensures { λ r. ⌜ (r ≡ rowNumbers board) × (4 ≤ r) × (r ≤ 5) ⌝ }
+{
+    if board { 5 } else { 4 }
+}
+
+fn put_rows(board: bool, xs: &[u64], rows: usize, out: &mut [u8], at: usize) -> usize
+    requires { ⌜ (5 * rows + 5 ≤ limit) × (at + 7 * rows ≤ limit) ⌝ }
+    ensures { λ r. ⌜ Puts (each rows (λ i. rowAt board (now (xs .entry)) (1 + rowNumbers board * i))) (now (out .entry)) at
+        (now (out .exit)) r ⌝ }
+{
+    let size = row_numbers(board);
     let mut next = at;
     let mut i: usize = 0;
     while i < rows {
-        next = put_row(xs, 1 + 4 * i, out, next);
+        let k = 1 + size * i;
+        next = put_row(xs, k, out, next);
+        next = put_way(board, number_at(xs, k + 4), out, next);
         i += 1;
     }
     next
 }
 
-// The table file of the elements and rows that `xs` has, with no check of them; how many bytes it is.
-pub fn table_file(xs: &[u64], out: &mut [u8]) -> usize
-    ensures { λ r. ⌜ Puts (fileBytes (now (xs .entry))) (now (out .entry)) 0 (now (out .exit)) r ⌝ }
+// The last byte of the mark.
+fn mark_end(board: bool) -> u8
+    ensures { λ r. ⌜ r ≡ cond board 0x32 0x54 ⌝ }
 {
-    let rows = least(xs.len() / 4, Table::ROWS + 1);
+    if board { b'2' } else { b'T' }
+}
+
+// The table file of the elements and rows that `xs` has, with no check of them, or that of a board; how many bytes it is.
+pub fn table_file(board: bool, xs: &[u64], out: &mut [u8]) -> usize
+    ensures { λ r. ⌜ Puts (fileBytes board (now (xs .entry))) (now (out .entry)) 0 (now (out .exit)) r ⌝ }
+{
+    let rows = least(xs.len() / row_numbers(board), Table::ROWS + 1);
     let elements = low_byte(number_at(xs, 0));
-    let head = [b'R', b'B', b'T', 1, 0, elements, low_byte(rows as u64)];
+    let head = [
+        b'R',
+        b'B',
+        mark_end(board),
+        1,
+        0,
+        elements,
+        low_byte(rows as u64),
+    ];
     let next = put_bytes(&head, out, 0);
-    put_rows(xs, rows, out, next)
+    put_rows(board, xs, rows, out, next)
 }
 
 // ---- what is printed

@@ -2,7 +2,7 @@
 use mathlib.Core.Path.{_≡_}
 use Prim.Native.Nat.{_≤_}
 use native.Mathlib.Omega.{arith}
-use Rattle.rules.specs.Bounds.{max-elements, max-rows, max-slots}
+use Rattle.rules.specs.Bounds.{max-rows, max-slots}
 use Rattle.rules.specs.Bus.{Table}
 use Rattle.rules.specs.Loads.{hyperperiod}
 use Rattle.time.specs.Time.{Timed}
@@ -21,9 +21,6 @@ module _ {t : Table} {a : Analysis} (A : Accepted t a) where
 
   pub few-sets : a .outline .sets ≤ max-rows
   few-sets = let s = A .admissible .sound in omega (arith, A .outline .few)
-
-  pub few-elements : a .outline .elements ≤ max-elements
-  few-elements = let s = A .admissible .sound in omega (arith, A .outline .elements)
 
   pub hyper-short : a .outline .time .hyper ≤ max-slots
   hyper-short = omega (arith, hyper-is, A .admissible .short)

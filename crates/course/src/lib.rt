@@ -24,13 +24,20 @@ pub fn plan_intervals(
         → Coursed t k m totals r (now (plan .entry)) (now (plan .exit))) ⌝ }
 {
     let rows = table.outline.rows;
-    let sets = table.outline.sets;
-    let top = table.outline.elements + 1;
+    let top = table.outline.top;
     let time = table.outline.time;
-    let places = places::lay(rows, sets, &table.outline.words, &table.outline.first);
+    let mut words = table.outline.words;
+    let folded = fold::fold_sets(
+        rows,
+        table.outline.sets,
+        &table.outline.first,
+        table.outline.elements,
+        &mut words,
+    );
+    let places = places::lay(rows, folded.sets, &words, &table.outline.first);
     let size = Size {
         rows,
-        sets,
+        sets: folded.sets,
         hyper: time.hyper,
     };
     let mut load = [0u64; Table::ROWS];
@@ -49,7 +56,8 @@ pub fn plan_intervals(
             &table.outline.first,
             &table.outline.second,
             &table.rate,
-            &table.outline.words,
+            folded.upper,
+            &words,
             &places.tail,
             &places.head,
             &places.out,

@@ -21,7 +21,7 @@ use Rattle.table.specs.Sound.{Sound}
 use Rattle.table.specs.Columns.{tableOf, ByRow}
 use Rattle.decoding.specs.Decoded.{Decodes}
 use Rattle.decoding.specs.declared.Decoded.{Decoded}
-use Rattle.ring.specs.Route.{segments}
+use Rattle.ring.specs.Route.{rowSegments}
 use Rattle.ring.specs.Rows.{Routes}
 use Rattle.ring.proofs.Rows.{sound-routes}
 use Rattle.outline.specs.declared.Outline.{Outline}
@@ -57,6 +57,7 @@ module _ (f : List ℕ) (k : ℕ) (r : Decoded) (D : Decodes (given-checks f) (f
     crowd-sound = rw held (given-passed f none .sound)
 
     pub crowd-routes : Routes (r .columns .elements) (r .columns .rows) (at (r .columns .first)) (at (r .columns .second))
+        (at (r .columns .way))
     crowd-routes = sound-routes {t = tableOf (r .columns)} crowd-sound
 
     module _ (o : Outline) (O : Outlined (line-checks (tableOf (r .columns))) (tableOf (r .columns)) o) where
@@ -107,7 +108,8 @@ module _ (f : List ℕ) (k : ℕ) (r : Decoded) (D : Decodes (given-checks f) (f
 
           -- nothing does
           pub crowd-done : (n p x s : ℕ) (ws : List ℕ) → (n ≡ 0) × (p ≡ 0) → x ≡ at (o .words) k
-              → ByRow (r .columns .rows) (λ i. segments (r .columns .elements) (at (r .columns .first) i) (at (r .columns .second) i)) ws
+              → ByRow (r .columns .rows)
+              (λ i. rowSegments (r .columns .elements) (at (r .columns .way) i) (at (r .columns .first) i) (at (r .columns .second) i)) ws
               → s ≡ left (r .columns .elements) (r .columns .rows) (λ i s. not (bit x i) || bit (at ws i) s) → Crowded f k n p x s
           unfolding set-checks
           crowd-done n p x s ws e q B h =

@@ -16,7 +16,7 @@ use Rattle.numbers.proofs.Finite.{every-of, every-at}
 use Rattle.numbers.proofs.Word.{bit-and, bit-word, bit-ext, word-eq, lt-of-bits, inside}
 use Rattle.rules.specs.Bus.{Table, uses, common}
 use Rattle.table.specs.Columns.{ByRow}
-use Rattle.ring.specs.Route.{segments}
+use Rattle.ring.specs.Route.{rowSegments}
 
 -- ---- one row more
 
@@ -78,9 +78,9 @@ every-eq n p q h =
     (λ a. every-of n p (λ i l. along (sym (h i l)) (every-at n q a i l)))
 
 pub common-is : (t : Table) (D : ℕ → Bool) (ws : List ℕ)
-    → ByRow (t .rows) (λ i. segments (t .elements) (t .first i) (t .second i)) ws
+    → ByRow (t .rows) (λ i. rowSegments (t .elements) (t .way i) (t .first i) (t .second i)) ws
     → left (t .elements) (t .rows) (λ i s. not (D i) || bit (at ws i) s) ≡ common t D
-unfolding common segments uses
+unfolding common rowSegments uses
 common-is t D ws B =
     word-eq (t .elements) _ _
     (λ s l.

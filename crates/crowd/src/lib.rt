@@ -27,7 +27,7 @@ fn refused(answer: Answer) -> Crowd
     }
 }
 
-// The word of all segments of a ring.
+// The word of all segments of a board.
 fn all_segments(elements: usize) -> u32
     requires { ⌜ elements ≤ max-elements ⌝ }
     ensures { λ r. ⌜ Stretch 0 elements r ⌝ }
@@ -64,9 +64,11 @@ pub fn of_set(file: &[u8], k: usize) -> Crowd
     let outline = outline::outline_of(
         found.columns.elements,
         found.columns.rows,
+        found.columns.rings,
         &found.columns.period,
         &found.columns.first,
         &found.columns.second,
+        &found.columns.way,
     );
     let placed = outline.answer;
     if placed.number != Answer::DONE {
@@ -82,6 +84,7 @@ pub fn of_set(file: &[u8], k: usize) -> Crowd
         found.columns.rows,
         &found.columns.first,
         &found.columns.second,
+        &found.columns.way,
     );
     Crowd {
         answer: Answer::done(),

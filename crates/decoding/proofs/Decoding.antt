@@ -5,28 +5,32 @@
 use mathlib.Core.Path.{_≡_, refl, sym, ap, _∙_, fun-ext}
 use mathlib.Core.Logic.{_≢_}
 use mathlib.Core.List.{List}
+use mathlib.Core.Bool.{Bool, true, false, cond}
 use Prim.Native.Nat.{ℕ, _+_, _*_, _≤_, _<_}
 use native.Mathlib.Nat.{mul-le-mul-left}
 use native.Mathlib.Decide.{ℕ-discrete}
 use native.Mathlib.Omega.{arith}
+use lib.Dec.{eqb}
 use lib.ListN.{set, replicate, length-replicate}
 use lib.Seq.{ext-getD}
+use borrow.Author.Tests.{eq-eqb, ne-eqb}
 use Rattle.numbers.specs.Lists.{at}
 use Rattle.numbers.specs.Codec.{readLow}
 use Rattle.numbers.proofs.Lists.{zeros-at}
 use Rattle.numbers.proofs.Codec.{low-past, low-two}
-use Rattle.rules.specs.Bounds.{max-rows}
+use Rattle.rules.specs.Bounds.{max-rows, max-rings}
 use Rattle.rules.specs.Bus.{Table, Labelled}
-use Rattle.rules.specs.TableFile.{version-2, headerSize, labelSize, rowSize, read16, version, fileTable, fileLabelled}
+use Rattle.rules.specs.TableFile.{version-2, headerSize, lastSize, rowSize, wayIn, labelIn, read16, version}
+use Rattle.rules.specs.TableFile.{fileRings, fileTable, fileLabelled}
 use Rattle.rules.specs.Refusals.{Check, Answers, header-checks, row-checks, file-checks}
 use Rattle.rules.proofs.Answers.{None, stopped, joined, answers-only}
-use Rattle.table.specs.Columns.{ByRow, Whole, tableOf, Holds, HoldsLabels, noLabels}
+use Rattle.table.specs.Columns.{ByRow, Whole, tableOf, Holds, HoldsLabels, OneWay, noLabels}
 use Rattle.decoding.specs.Decoded.{refusal, Decodes}
 use Rattle.table.specs.declared.Answer.{Answer}
 use Rattle.table.specs.declared.columns.Columns.{Columns}
 use Rattle.decoding.specs.declared.Decoded.{Decoded}
 use Rattle.table.proofs.ByRow.{by-row-start, by-row-put, by-row-all, past-end}
-use Rattle.table.proofs.RowSizes.{label-two, label-none}
+use Rattle.table.proofs.RowSizes.{label-two, label-none, last-way, last-label}
 
 pub record Decoding (t : Table) (i : ℕ) (cost period first second : List ℕ) : Type 0 where
   pub costs : ByRow i (t .cost) cost
@@ -53,31 +57,79 @@ decoding-next {c = c} {p = p} {f = f} {s = s} D l x y z w = record {
   seconds = by-row-put s (D .seconds) l w;
 }
 
--- a file ends with its last row, so its table has 0 past it too
-past-row : {f : List ℕ} {i k : ℕ} → Whole f → fileTable f .rows ≤ i → headerSize + rowSize (version f) * i ≤ k → at f k ≡ 0
-past-row {f} {i} {k} w l h = past-end f k (omega (arith, w .size, mul-le-mul-left (rowSize (version f)) l))
+-- with one ring no direction is read
+pub file-one-way : (f : List ℕ) → OneWay (fileRings f) (fileTable f .rows) (fileTable f .way)
+unfolding wayIn
+file-one-way f r i l = rw (ne-eqb (fileRings f) max-rings (λ q. omega arith)) refl
 
+-- a file ends with its last row, so its table has 0 past it too
+past-row : {f : List ℕ} {i k : ℕ} → Whole f → fileTable f .rows ≤ i → headerSize + rowSize (fileRings f) (version f) * i ≤ k
+    → at f k ≡ 0
+past-row {f} {i} {k} w l h = past-end f k (omega (arith, w .size, mul-le-mul-left (rowSize (fileRings f) (version f)) l))
+
+-- ---- what stands after a row's six bytes: its direction, or its label
+
+low-one : (f : List ℕ) (p : ℕ) → readLow 1 f p ≡ at f p
+unfolding readLow
+low-one f p = omega arith
+
+-- 0 is no direction and no label
+none-if : (b : Bool) → _≡_ {A = ℕ} (cond b 0 0) 0
+none-if true = refl
+none-if false = refl
+
+pub wayless : (r : ℕ) → wayIn r 0 ≡ 0
+unfolding wayIn
+wayless r = none-if (eqb r max-rings)
+
+pub labelless : (r : ℕ) → labelIn r 0 ≡ 0
+unfolding labelIn
+labelless r = none-if (eqb r max-rings)
+
+module _ (f : List ℕ) where
+  abbrev last : ℕ → ℕ
+  last i = readLow (lastSize (fileRings f) (version f)) f (headerSize + rowSize (fileRings f) (version f) * i + 6)
+
+  module _ (w : Whole f) where
+    -- past the last row it is 0, as there is none
+    last-past : (i : ℕ) → fileTable f .rows ≤ i → last i ≡ 0
+    last-past i l = low-past (lastSize (fileRings f) (version f)) f _ (λ j. past-row w l (omega arith))
+
+    -- so are the numbers that are made of it
+    pub last-end : (g : ℕ → ℕ) → g 0 ≡ 0 → {xs : List ℕ} {n : ℕ} → n ≡ fileTable f .rows → ByRow n (λ i. g (last i)) xs
+        → HoldsLabels (λ i. g (last i)) xs
+    last-end g z e B = record { labels = by-row-all B (λ i l. ap g (last-past i (rw e at l)) ∙ z); size = B .size }
+
+-- so is all that the table has of such a row
 pub record Blank (t : Table) (i : ℕ) : Type 0 where
   pub cost : t .cost i ≡ 0
   pub period : t .period i ≡ 0
   pub first : t .first i ≡ 0
   pub second : t .second i ≡ 0
+  pub way : t .way i ≡ 0
 
 pub blank-past : {f : List ℕ} {i : ℕ} → Whole f → fileTable f .rows ≤ i → Blank (fileTable f) i
 blank-past {f} {i} w l =
-    let byte : (k : ℕ) → headerSize + rowSize (version f) * i ≤ k → at f k ≡ 0 = λ k h. past-row w l h in
-    let pair : (k : ℕ) → headerSize + rowSize (version f) * i ≤ k → read16 f k ≡ 0 =
-    λ k h. omega (arith, byte k h, byte (k + 1) (omega arith)) in
+    let start : ℕ = headerSize + rowSize (fileRings f) (version f) * i in
+    let byte : (k : ℕ) → start ≤ k → at f k ≡ 0 = λ k h. past-row w l h in
+    let pair : (k : ℕ) → start ≤ k → read16 f k ≡ 0 = λ k h. omega (arith, byte k h, byte (k + 1) (omega arith)) in
     record {
       cost = pair _ (omega arith);
       period = pair _ (omega arith);
       first = byte _ (omega arith);
       second = byte _ (omega arith);
+      way = ap (wayIn (fileRings f)) (last-past f w i l) ∙ wayless (fileRings f);
     }
 
+pub label-past : {f : List ℕ} {i : ℕ} → Whole f → fileTable f .rows ≤ i → fileLabelled f .label i ≡ 0
+label-past {f} {i} w l = ap (labelIn (fileRings f)) (last-past f w i l) ∙ labelless (fileRings f)
+
+-- ---- a whole file's columns
+
 pub decoding-end : {f : List ℕ} (c : Columns) → Whole f → c .elements ≡ fileTable f .elements → c .rows ≡ fileTable f .rows
-    → Decoding (fileTable f) (c .rows) (c .cost) (c .period) (c .first) (c .second) → Holds (fileTable f) c
-decoding-end {f} c w m n D =
+    → c .rings ≡ fileRings f → Decoding (fileTable f) (c .rows) (c .cost) (c .period) (c .first) (c .second)
+    → HoldsLabels (fileTable f .way) (c .way) → Holds (fileTable f) c
+decoding-end {f} c w m n r D W =
     let past : (i : ℕ) → c .rows ≤ i → Blank (fileTable f) i = λ i l. blank-past w (rw n at l) in
     let cost : at (c .cost) ≡ fileTable f .cost = by-row-all (D .costs) (λ i l. past i l .cost) in
     let period : at (c .period) ≡ fileTable f .period = by-row-all (D .periods) (λ i l. past i l .period) in
@@ -87,44 +139,60 @@ decoding-end {f} c w m n D =
       table = λ k. record {
         elements = m k;
         rows = n k;
+        rings = r k;
         cost = cost k;
         period = period k;
         first = first k;
         second = second k;
+        way = W .labels k;
       };
       costs = D .costs .size;
       periods = D .periods .size;
       firsts = D .firsts .size;
       seconds = D .seconds .size;
+      ways = W .size;
     }
 
--- ---- labels
+-- ---- directions and labels
 
-module _ {f : List ℕ} (w : Whole f) where
-  abbrev label : ℕ → ℕ
-  label = fileLabelled f .label
+-- where all are 0
+none-held : (g : ℕ → ℕ) → ((i : ℕ) → g i ≡ 0) → HoldsLabels g noLabels
+none-held g z = record { labels = fun-ext (λ i. zeros-at max-rows i ∙ sym (z i)); size = length-replicate {A = ℕ} max-rows 0 }
 
-  -- past the last row they are 0, as there are none
-  pub label-past : (i : ℕ) → fileTable f .rows ≤ i → label i ≡ 0
-  label-past i l =
-      low-past (labelSize (version f)) f _ (λ j. past-row w l (omega arith))
+module _ (f : List ℕ) where
+  -- ---- directions: with two rings, one byte each
 
-  pub labels-end : {xs : List ℕ} {n : ℕ} → n ≡ fileTable f .rows → ByRow n label xs → HoldsLabels label xs
-  labels-end e B = record { labels = by-row-all B (λ i l. label-past i (rw e at l)); size = B .size }
+  pub way-at : (i : ℕ) → fileRings f ≡ max-rings → fileTable f .way i ≡ at f (headerSize + rowSize (fileRings f) (version f) * i + 6)
+  unfolding wayIn
+  way-at i e =
+      rw e (ap (λ (k : ℕ). readLow k f (headerSize + rowSize max-rings (version f) * i + 6)) (last-way (version f) refl) ∙ low-one f _)
 
-  -- in version 2 each is 16 bits
-  pub label-at : (i : ℕ) → version f ≡ version-2 → label i ≡ read16 f (headerSize + rowSize (version f) * i + 6)
-  label-at i e =
-      ap (λ (k : ℕ). readLow k f (headerSize + rowSize (version f) * i + 6)) (label-two e) ∙ low-two f _
+  pub ways-none : fileRings f ≢ max-rings → HoldsLabels (fileTable f .way) noLabels
+  unfolding wayIn
+  ways-none n = none-held (fileTable f .way) (λ i. rw (ne-eqb (fileRings f) max-rings n))
 
--- in any other it has no bytes
-pub labels-none : (f : List ℕ) → version f ≢ version-2 → HoldsLabels (fileLabelled f .label) noLabels
-unfolding readLow
-labels-none f h = record {
-  labels = fun-ext (λ i. zeros-at max-rows i
-      ∙ sym (ap (λ (k : ℕ). readLow k f (headerSize + rowSize (version f) * i + 6)) (label-none h)));
-  size = length-replicate {A = ℕ} max-rows 0;
-}
+  -- ---- labels: with one ring, 16 bits each in version 2
+
+  pub label-at : (i : ℕ) → fileRings f ≢ max-rings → version f ≡ version-2
+      → fileLabelled f .label i ≡ read16 f (headerSize + rowSize (fileRings f) (version f) * i + 6)
+  unfolding labelIn
+  label-at i n e =
+      rw (ne-eqb (fileRings f) max-rings n)
+      (ap (λ (k : ℕ). readLow k f (headerSize + rowSize (fileRings f) (version f) * i + 6)) (last-label (version f) n ∙ label-two e)
+      ∙ low-two f _)
+
+  -- with two rings there are none
+  pub labels-none-way : fileRings f ≡ max-rings → HoldsLabels (fileLabelled f .label) noLabels
+  unfolding labelIn
+  labels-none-way e = none-held (fileLabelled f .label) (λ i. rw (eq-eqb (fileRings f) max-rings e))
+
+  -- in any other version they have no bytes
+  pub labels-none : fileRings f ≢ max-rings → version f ≢ version-2 → HoldsLabels (fileLabelled f .label) noLabels
+  unfolding labelIn readLow
+  labels-none n h =
+      none-held (fileLabelled f .label)
+      (λ i. rw (ne-eqb (fileRings f) max-rings n)
+      (ap (λ (k : ℕ). readLow k f (headerSize + rowSize (fileRings f) (version f) * i + 6)) (last-label (version f) n ∙ label-none h)))
 
 -- ---- the answer beside the columns
 
@@ -171,13 +239,16 @@ holds-only {t} {c} {d} H K =
     ext-getD 0 (c .first) (d .first) (H .firsts ∙ sym (K .firsts)) (λ i l. ap (λ (t : Table). t .first i) e) in
     let second : c .second ≡ d .second =
     ext-getD 0 (c .second) (d .second) (H .seconds ∙ sym (K .seconds)) (λ i l. ap (λ (t : Table). t .second i) e) in
+    let way : c .way ≡ d .way = ext-getD 0 (c .way) (d .way) (H .ways ∙ sym (K .ways)) (λ i l. ap (λ (t : Table). t .way i) e) in
     λ k. record {
       elements = e k .elements;
       rows = e k .rows;
+      rings = e k .rings;
       cost = cost k;
       period = period k;
       first = first k;
       second = second k;
+      way = way k;
     }
 
 pub labels-only : {g : ℕ → ℕ} {xs ys : List ℕ} → HoldsLabels g xs → HoldsLabels g ys → xs ≡ ys

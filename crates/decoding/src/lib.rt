@@ -2,39 +2,33 @@
 use table::Answer;
 use table::Columns;
 use table::Table;
+use table::is_plain;
+use table::is_strange;
 use table::is_unknown;
 use table::no_columns;
 use table::read16;
+use table::rings_of;
 use table::row_at;
 use table::row_bytes;
 use table::row_fault;
 use table::row_place;
 use table::size_fault;
 use table::version_of;
+use table::way_at;
 ghost use mathlib.Core.Path.{_≡_};
+ghost use mathlib.Core.Logic.{_≢_};
 ghost use Prim.Native.Nat.{_+_, _*_, _≤_, _<_};
 ghost use lib.ListN.{length};
+ghost use Rattle.numbers.specs.Lists.{at};
 ghost use Rattle.rules.specs.Bounds.{max-rows};
-ghost use Rattle.rules.specs.TableFile.{table-mark, version-2, headerSize, rowSize, mark, version, fileTable, fileLabelled};
+ghost use Rattle.rules.specs.TableFile.{table-mark, version-2, headerSize, rowSize, mark, version};
+ghost use Rattle.rules.specs.TableFile.{fileRings, fileTable, fileLabelled};
 ghost use Rattle.rules.specs.Refusals.{Answers, header-checks, row-checks, file-checks};
-ghost use Rattle.table.specs.Columns.{Whole, columnTable, Holds, HoldsLabels};
+ghost use Rattle.table.specs.Columns.{Whole, columnTable, Holds, HoldsLabels, OneWay};
 ghost use Rattle.decoding.specs.Decoded.{refusal, Decodes};
 ghost use Rattle.numbers.specs.Decides.{Decides};
 
-fn is_marked(file: &[u8]) -> bool
-    requires { ⌜ 3 ≤ length (now file) ⌝ }
-    ensures { λ r. ⌜ Decides (mark (now (file .entry)) ≡ table-mark) r ⌝ }
-{
-    if file[0] != Table::MARK[0] {
-        return false;
-    }
-    if file[1] != Table::MARK[1] {
-        return false;
-    }
-    file[2] == Table::MARK[2]
-}
-
-// Whether a file has a header with the mark and version 2.
+// Whether a file has a header with the mark of one ring and version 2.
 pub fn is_labelled(file: &[u8]) -> bool
     ensures { λ r. ⌜ Decides ((headerSize ≤ length (now (file .entry))) × (mark (now (file .entry)) ≡ table-mark)
         × (version (now (file .entry)) ≡ version-2)) r ⌝ }
@@ -42,13 +36,26 @@ pub fn is_labelled(file: &[u8]) -> bool
     if file.len() < Table::HEADER {
         return false;
     }
-    if !is_marked(file) {
+    if !is_plain(file) {
         return false;
     }
     if version_of(file) == Table::VERSION_2 {
         return true;
     }
     false
+}
+
+// Whether a file has a header with another mark than that of one ring: where one ring alone is taken, it gets 2.
+pub fn has_other_mark(file: &[u8]) -> bool
+    ensures { λ r. ⌜ Decides ((headerSize ≤ length (now (file .entry))) × (mark (now (file .entry)) ≢ table-mark)) r ⌝ }
+{
+    if file.len() < Table::HEADER {
+        return false;
+    }
+    if is_plain(file) {
+        return false;
+    }
+    true
 }
 
 // Checks 1 to 6.
@@ -58,11 +65,12 @@ fn header_fault(file: &[u8]) -> u32
     if file.len() < Table::HEADER {
         return Answer::SHORT_FILE;
     }
-    if !is_marked(file) {
+    if is_strange(file) {
         return Answer::WRONG_MARK;
     }
+    let rings = rings_of(file);
     let version = version_of(file);
-    if is_unknown(version) {
+    if is_unknown(rings, version) {
         return Answer::WRONG_VERSION;
     }
     let table = Table::of(file);
@@ -71,17 +79,35 @@ fn header_fault(file: &[u8]) -> u32
         table.rows,
         file.len(),
         Table::HEADER,
-        row_bytes(version),
+        row_bytes(rings, version),
     )
 }
 
 // The first byte of row `i`, in a file that is as long as it says.
 fn row_in(file: &[u8], i: usize) -> usize
     requires { ⌜ Whole (now file) × (i < fileTable (now file) .rows) ⌝ }
-    ensures { λ r. ⌜ (r ≡ headerSize + rowSize (version (now (file .entry))) * i)
-        × (r + rowSize (version (now (file .entry))) ≤ length (now (file .entry))) ⌝ }
+    ensures { λ r. ⌜ (r ≡ headerSize + rowSize (fileRings (now (file .entry))) (version (now (file .entry))) * i)
+        × (r + rowSize (fileRings (now (file .entry))) (version (now (file .entry))) ≤ length (now (file .entry))) ⌝ }
 {
-    row_place(version_of(file), i)
+    row_place(rings_of(file), version_of(file), i)
+}
+
+// The directions of the table in that file: with two rings they stand after the six bytes that all rows have, with one all are 0.
+fn ways_of(file: &[u8]) -> [u8; Table::ROWS]
+    requires { ⌜ Whole (now file) ⌝ }
+    ensures { λ r. ⌜ HoldsLabels (fileTable (now (file .entry)) .way) r ⌝ }
+{
+    let mut ways = [0u8; Table::ROWS];
+    if rings_of(file) != Table::RINGS {
+        return ways;
+    }
+    let rows = Table::of(file).rows;
+    let mut i: usize = 0;
+    while i < rows {
+        ways[i] = file[row_in(file, i) + Table::ROW_BYTES];
+        i += 1;
+    }
+    ways
 }
 
 // The columns of the table in a file that is as long as it says.
@@ -106,19 +132,24 @@ fn columns_of(file: &[u8]) -> Columns
     Columns {
         elements: table.elements,
         rows: table.rows,
+        rings: rings_of(file),
         cost: cost,
         period: period,
         first: first,
         second: second,
+        way: ways_of(file),
     }
 }
 
-// The labels of that table: version 2 has them after the six bytes that both have, and in version 1 all are 0.
+// Its labels: with one ring, version 2 has them after those six bytes; else all are 0.
 fn labels_of(file: &[u8]) -> [u16; Table::ROWS]
     requires { ⌜ Whole (now file) ⌝ }
     ensures { λ r. ⌜ HoldsLabels (fileLabelled (now (file .entry)) .label) r ⌝ }
 {
     let mut labels = [0u16; Table::ROWS];
+    if rings_of(file) == Table::RINGS {
+        return labels;
+    }
     if version_of(file) != Table::VERSION_2 {
         return labels;
     }
@@ -131,24 +162,27 @@ fn labels_of(file: &[u8]) -> [u16; Table::ROWS]
     labels
 }
 
-// Checks 7 to 9 of a table in columns.
+// Checks 7 to 9 and 26 of a table in columns.
 fn check_rows<'a>(
     elements: usize,
     rows: usize,
+    rings: usize,
     cost: &'a [u16; Table::ROWS],
     period: &'a [u16; Table::ROWS],
     first: &'a [u8; Table::ROWS],
     second: &'a [u8; Table::ROWS],
-    labels: &'a [u16; Table::ROWS],
+    way: &'a [u8; Table::ROWS],
 ) -> Answer
-    requires { ⌜ rows ≤ max-rows ⌝ }
+    requires { ⌜ (rows ≤ max-rows) × OneWay rings rows (at (now way)) ⌝ }
     ensures { λ r. ⌜ Answers
-        (row-checks (columnTable elements rows (now (cost .entry)) (now (period .entry)) (now (first .entry)) (now (second .entry))))
+        (row-checks (columnTable elements rows rings (now (cost .entry)) (now (period .entry)) (now (first .entry)) (now (second .entry))
+        (now (way .entry))))
         (r .number) (r .place) ⌝ }
 {
     let mut i: usize = 0;
     while i < rows {
-        let number = row_fault(elements, row_at(cost, period, first, second, labels, i));
+        let row = row_at(cost, period, first, second, i, way_at(way, rings, i), 0);
+        let number = row_fault(elements, rings, row);
         if number != Answer::DONE {
             return Answer::at(number, i);
         }
@@ -176,7 +210,7 @@ impl Decoded {
     }
 }
 
-// Checks 1 to 9. Columns and labels are a passed file's; all 0 beside a refusal.
+// Checks 1 to 9 and 26. Columns and labels are a passed file's; all 0 beside a refusal.
 pub fn decode(file: &[u8]) -> Decoded
     ensures { λ r. ⌜ Decodes (file-checks (now (file .entry))) (fileLabelled (now (file .entry))) r ⌝ }
 {
@@ -189,11 +223,12 @@ pub fn decode(file: &[u8]) -> Decoded
     let answer = check_rows(
         columns.elements,
         columns.rows,
+        columns.rings,
         &columns.cost,
         &columns.period,
         &columns.first,
         &columns.second,
-        &labels,
+        &columns.way,
     );
     if answer.number != Answer::DONE {
         return Decoded::refused(answer);

@@ -1,26 +1,26 @@
 -- Every input of every call has a number and a place: each check of its list is decided, the later ones for tables that pass those before.
 use mathlib.Core.Path.{_≡_, refl, subst}
-use mathlib.Core.Logic.{_≢_, ⊎-elim}
 use mathlib.Core.Bool.{true, false}
 use mathlib.Core.List.{List, [], _∷_, _++_, append-assoc}
 use Prim.Native.Nat.{ℕ, _+_, _*_, _≤_, _<_}
 use native.Mathlib.Decide.{ℕ-discrete}
 use native.Mathlib.Omega.{arith}
 use lib.ListN.{length}
-use Rattle.numbers.proofs.Truth.{decide}
 use Rattle.numbers.proofs.Tests.{Test, lt-test, le-test, eq-test, list-test, as-test, not-test, and-test, or-test}
 use Rattle.rules.specs.Bounds.{max-elements, max-rows}
 use Rattle.rules.specs.Bus.{Table}
 use Rattle.rules.specs.TableFile.{table-mark, version-1, headerSize, rowSize, rowNumbers, mark, version, fileTable, fileLabelled}
-use Rattle.rules.specs.TableFile.{memoryTable, memoryLabelled}
-use Rattle.rules.specs.Line.{cut, Sets}
+use Rattle.rules.specs.TableFile.{ringsOf, memoryWith, memoryLabelledWith}
+use Rattle.rules.specs.Line.{Sets}
 use Rattle.rules.specs.Loads.{hyperperiod}
 use Rattle.rules.specs.Parties.{max-limit}
 use Rattle.rules.specs.Planner.{Stage, due, finished, Planner, Off}
 use Rattle.rules.specs.Refusals.{
   Check,
-  no-cut,
   wrong-limit,
+  short-file,
+  wrong-mark,
+  one-ring-checks,
   given-checks,
   line-checks,
   bound-checks,
@@ -43,7 +43,7 @@ use Rattle.rules.specs.Refusals.{
 }
 use Rattle.rules.specs.Calls.{Ask}
 use Rattle.rules.specs.Raising.{raise-checks}
-use Rattle.rules.proofs.Answers.{None, Numbered, applied, stopped, joined, none-of}
+use Rattle.rules.proofs.Answers.{None, Numbered, stopped, joined, none-of}
 use Rattle.rules.proofs.Sets.{sets-only}
 use Rattle.rules.proofs.Verdict.{
   Tests,
@@ -54,18 +54,18 @@ use Rattle.rules.proofs.Verdict.{
   tests-join,
   tests-each,
   in-test,
+  mark-test,
   version-test,
   row-tests,
   file-tests,
   given-tests,
-  no-cut-test,
   line-tests,
   bound-tests,
   limit-tests,
 }
 use Rattle.table.specs.Sound.{Sound}
 use Rattle.pasted.proofs.AsGiven.{given-numbered, given-passed}
-use Rattle.ring.proofs.Cut.{cut-high, cut-none}
+use Rattle.outline.proofs.Outlined.{line-numbered, none-line}
 use Rattle.verdict.proofs.Bound.{verdict-split, sets-exist}
 use Rattle.planner.specs.Proper.{Proper}
 use Rattle.demands.specs.Demands.{Answered}
@@ -103,16 +103,17 @@ version-1-answered f room =
     then not-test (eq-test (version f) version-1)
     then reader-tests f room)
 
-pub written-answered : (v M n : ℕ) (xs : List ℕ) (room : ℕ) → Answered (writer-checks v M n xs room)
+pub written-answered : (m : List ℕ) (v M n : ℕ) (xs : List ℕ) (room : ℕ) → Answered (writer-checks m v M n xs room)
 unfolding writer-checks version-checks memory-checks label-checks
-written-answered v M n xs room =
-    by-tests (tests-join (version-test v then tests-join (tests-join (
+written-answered m v M n xs room =
+    let r : ℕ = ringsOf m in
+    by-tests (mark-test m then tests-join (version-test r v then tests-join (tests-join (
     not-test (in-test M 2 max-elements)
     then not-test (in-test n 1 max-rows)
     then not-test (eq-test (length xs) (rowNumbers * n))
-    then none) (row-tests (memoryTable M n xs)))
-    (tests-each n (λ i. and-test (eq-test v version-1) (not-test (eq-test (memoryLabelled M n xs .label i) 0)) then none)))
-    (lt-test room (headerSize + rowSize v * n) then none))
+    then none) (row-tests (memoryWith r M n xs)))
+    (tests-each n (λ i. and-test (eq-test v version-1) (not-test (eq-test (memoryLabelledWith r M n xs .label i) 0)) then none)))
+    (lt-test room (headerSize + rowSize r v * n) then none))
 
 pub met-answered : (f : List ℕ) (i j : ℕ) → Answered (shared-checks f i j)
 unfolding shared-checks
@@ -123,15 +124,16 @@ met-answered f i j =
 -- ---- 10 and 11, and what is decided by the list of sets
 
 line-answered : (t : Table) → Sound t → (ds : List Check) → ((ws : List ℕ) → Sets t ws → Tests ds) → Answered (line-checks t ++ ds)
-unfolding line-checks
 line-answered t S ds more =
-    ⊎-elim
-    (λ h. (10, 0, stopped (line-checks t) ds 10 0 (λ e. omega arith) (applied (no-cut t) _ 10 0 (no-cut-test t .is h) refl refl)))
-    (λ h.
-    let clear : cut t ≢ t .elements + 1 = λ e. h (no-cut-test t .of (cut-none t .1 e)) in
-    let e = sets-exist t S (omega (arith, cut-high t, clear)) in
-    by-tests (tests-join (line-tests t) (more (e .0) (e .1))))
-    (decide (no-cut-test t .test))
+    by-lists (line-checks t) ds (line-numbered t) (by-tests (line-tests t))
+    (λ N. let e = sets-exist t S (none-line t N .0) in by-tests (more (e .0) (e .1)))
+
+-- where one ring alone is taken
+pub one-ring-answered : (f : List ℕ) (cs : List Check) → Answered cs → Answered (one-ring-checks f cs)
+unfolding Numbered
+one-ring-answered f cs A =
+    by-lists (short-file f ∷ wrong-mark f ∷ []) cs (omega arith)
+    (by-tests (lt-test (length f) headerSize then not-test (list-test (mark f) table-mark) then none)) (λ N. A)
 
 module _ (f : List ℕ) where
   past-given : (ds : List Check) → (Sound (fileTable f) → Answered ds) → Answered (given-checks f ++ ds)
@@ -172,22 +174,24 @@ module _ (f : List ℕ) where
   pub raised-answered : (room : ℕ) → Answered (raise-checks f room)
   unfolding raise-checks
   raised-answered room =
-      rw append-assoc
+      one-ring-answered f _
+      (rw append-assoc
       (past-given (line-checks (fileTable f) ++ _)
-      (λ S. line-answered (fileTable f) S _ (λ ws A. lt-test room (length f) then none)))
+      (λ S. line-answered (fileTable f) S _ (λ ws A. lt-test room (length f) then none))))
 
   pub limited-answered : (our their : ℕ) → Answered (limited-checks f our their)
   unfolding limited-checks Numbered
   limited-answered our their =
       let t = fileTable f in
       let ds = limit-checks (fileLabelled f) our their ++ bound-checks t in
-      by-lists (wrong-limit our their ∷ []) (given-checks f ++ (line-checks t ++ ds)) (omega arith)
+      by-lists (wrong-limit our their ∷ []) (one-ring-checks f (given-checks f ++ (line-checks t ++ ds))) (omega arith)
       (by-tests (or-test (lt-test max-limit our) (lt-test max-limit their) then none))
       (λ N.
-      past-given (line-checks t ++ ds)
+      one-ring-answered f _
+      (past-given (line-checks t ++ ds)
       (λ S.
       line-answered t S ds
-      (λ ws A. tests-join (limit-tests (fileLabelled f) our their) (bound-tests t (S .rows-low) ws A))))
+      (λ ws A. tests-join (limit-tests (fileLabelled f) our their) (bound-tests t (S .rows-low) ws A)))))
 
 -- ---- the planner's calls, at an ask whose own checks are answered
 

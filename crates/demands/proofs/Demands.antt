@@ -5,7 +5,7 @@ use mathlib.Core.List.{List}
 use Prim.Native.Nat.{ℕ, _+_, _-_, _*_}
 use native.Mathlib.Omega.{arith}
 use lib.ListN.{length, take}
-use Rattle.rules.specs.TableFile.{headerSize, rowSize, rowNumbers, version, fileTable}
+use Rattle.rules.specs.TableFile.{headerSize, rowSize, rowNumbers, mark, version, ringsOf, fileRings, fileTable}
 use Rattle.rules.specs.Loads.{start, end}
 use Rattle.rules.specs.Planner as rules
 use Rattle.rules.specs.Planner.{Off}
@@ -15,7 +15,8 @@ use Rattle.rules.proofs.Answers.{None, Numbered, answers-only, position-none, n
 use Rattle.rules.proofs.Calls.{lent-take, call-must}
 use Rattle.rules.proofs.Lags.{qualify-by-lags}
 use Rattle.table.proofs.Faults.{passed-none}
-use Rattle.round_trip.proofs.RoundTrip.{read-none, written-none, written-sound, read-then-written, written-then-read}
+use Rattle.round_trip.proofs.RoundTrip.{rings-front, marked-own, read-none, written-none, written-sound}
+use Rattle.round_trip.proofs.RoundTrip.{read-then-written, written-then-read}
 use Rattle.rules.proofs.Parties.{own-rows-only}
 use Rattle.verdict.proofs.Judging.{admits-by, demand-2}
 use Rattle.limited.proofs.Checked.{limited-numbered}
@@ -66,8 +67,8 @@ first = record {
       stepped-answered (limitedAsk f our their) (limited-proper f our their) (limited-answered f our their);
   raised = raised-answered;
   one = answers-only;
-  read-refused = λ f was now number place version′ elements rows c h. ⊎-elim (λ r. r .refused h) (λ r. r .refused h) c;
-  write-refused = λ version′ elements rows xs was now number place c h. c .refused h;
+  read-refused = λ f was now number place mark′ version′ elements rows c h. ⊎-elim (λ r. r .refused h) (λ r. r .refused h) c;
+  write-refused = λ mark′ version′ elements rows xs was now number place c h. c .refused h;
   met-refused = λ f i j number place word c h. c .refused h;
   crowd-refused = λ f k number place rows segments c h. c .refused h;
   verdict-refused = λ a r c h. c .refused h;
@@ -93,19 +94,22 @@ second = record {
   lags = qualify-by-lags;
   standings = λ f p r c h. c .stood .done h;
   between = standings-between;
-  read-back = λ f was now was′ now′ number place v M n number′ place′ b u l R W.
+  read-back = λ f was now was′ now′ number place m v M n number′ place′ b u l R W.
       let N = position-none (reader-checks f (length was)) u in
       let z = call-must N R in
-      let long : length f ≡ headerSize + rowSize (version f) * fileTable f .rows = passed-none f (read-none f (length was) N) .size in
-      let size : length f ≡ headerSize + rowSize v * n = rw (z .2 .0, z .2 .2) long in
-      let w = read-then-written f was now place v M n was′ now′ number′ place′ b (rw (z .0) at R) (rw size at l) W in
+      let long : length f ≡ headerSize + rowSize (fileRings f) (version f) * fileTable f .rows =
+      passed-none f (read-none f (length was) N) .size in
+      let size : length f ≡ headerSize + rowSize (ringsOf m) v * n =
+      rw (ap ringsOf (z .2 .0) ∙ rings-front f, z .2 .1, z .2 .3) long in
+      let w = read-then-written f was now place m v M n was′ now′ number′ place′ b (rw (z .0) at R) (rw size at l) W in
       (z .0, w .0, ap (λ (k : ℕ). take k now′) size ∙ w .2);
-  write-back = λ v M n xs was now was′ now′ number place number′ place′ v′ M′ n′ u l W R.
-      let N = position-none (writer-checks v M n xs (length was)) u in
+  write-back = λ m v M n xs was now was′ now′ number place number′ place′ m′ v′ M′ n′ u l W R.
+      let N = position-none (writer-checks m v M n xs (length was)) u in
       let z = call-must N W in
-      let w = written-then-read v M n xs was now place was′ now′ number′ place′ v′ M′ n′ (rw (z .0) at W) l R in
-      let size : length xs ≡ rowNumbers * n = written-sound v M n xs (written-none v M n xs (length was) N) .1 in
-      (z .0, w .0, w .2, w .3, w .4, ap (λ (k : ℕ). take k now′) size ∙ w .5);
+      let w = written-then-read m v M n xs was now place was′ now′ number′ place′ m′ v′ M′ n′ (rw (z .0) at W) l R in
+      let k = written-none m v M n xs (length was) N in
+      let size : length xs ≡ rowNumbers * n = written-sound (ringsOf m) v M n xs (marked-own (k .0) .0) (k .1) .1 in
+      (z .0, w .0, w .2, w .3, w .4, w .5, ap (λ (k : ℕ). take k now′) size ∙ w .6);
   raises = raise-raises;
   raised = λ f was now number place c h. c .done h;
   raised-verdict = raised-verdict;

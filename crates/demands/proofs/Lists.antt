@@ -27,12 +27,14 @@ use Rattle.rules.specs.ElementList.{
 use Rattle.rules.specs.Refusals.{wrong-entry, verdict-checks, maker-checks, entry-checks}
 use Rattle.rules.specs.Refusals.{list-file-checks, list-reader-checks, list-memory-checks, list-writer-checks}
 use Rattle.rules.proofs.Verdict.{Tests, none, _then_, tests-join, tests-each, in-test}
+use Rattle.rules.specs.Calls.{oneRingAsk}
+use Rattle.decoding.proofs.OneRing.{one-numbered}
 use Rattle.verdict.proofs.Bound.{verdict-numbered}
 use Rattle.lists.proofs.RoundTrip.{read-then-written, written-then-read}
 use Rattle.maker.proofs.Promises.{made-exactly, made-few, first-words, all-twice, made-passes}
 use Rattle.demands.specs.Demands.{Answered}
 use Rattle.demands.specs.Lists.{Element-lists}
-use Rattle.demands.proofs.Answered.{by-tests, by-lists, judged-answered}
+use Rattle.demands.proofs.Answered.{by-tests, by-lists, one-ring-answered, judged-answered}
 
 -- ---- bad words
 
@@ -58,12 +60,13 @@ module _ (t : Table) (w : ℕ) where
   bad-test : Test (BadWord t w)
   bad-test = or-test past-test pair-test
 
-made-answered : (f plan : List ℕ) (e room wants : ℕ) → Answered (maker-checks (verdict-checks f) (fileTable f) plan e room wants)
+made-answered : (f plan : List ℕ) (e room wants : ℕ) → Answered (maker-checks (oneRingAsk f .checks) (fileTable f) plan e room wants)
 unfolding maker-checks
 made-answered f plan e room wants =
     let t = fileTable f in
     rw (append-assoc, append-assoc)
-    (by-lists (verdict-checks f) _ (verdict-numbered f) (judged-answered f)
+    (by-lists (oneRingAsk f .checks) _ (one-numbered f (verdict-checks f) (verdict-numbered f))
+    (one-ring-answered f (verdict-checks f) (judged-answered f))
     (λ N.
     by-tests (not-test (in-test e 1 (t .elements))
     then tests-join (tests-each (hyperperiod t) (λ s. bad-test t (at plan s) then none))

@@ -20,7 +20,7 @@ use lib.ListN.{length, take, getD}
 use Rattle.numbers.specs.Lists.{at}
 use Rattle.rules.specs.Bounds.{max-rows}
 use Rattle.rules.specs.Bus.{shared, common}
-use Rattle.rules.specs.TableFile.{headerSize, rowSize, rowNumbers, fileTable}
+use Rattle.rules.specs.TableFile.{headerSize, rowSize, rowNumbers, ringsOf, fileTable}
 use Rattle.rules.specs.Line.{Sets, setAt}
 use Rattle.rules.specs.Loads.{start, end}
 use Rattle.rules.specs.Interval.{Qualify-by-lags}
@@ -41,11 +41,11 @@ use Rattle.rules.specs.Refusals.{
   step-checks,
   standings-checks,
 }
-use Rattle.rules.specs.Calls.{lent, Read, ReadVersion1, Written, Met, Crowded, Admitted, Listed, Ask, fileAsk}
+use Rattle.rules.specs.Calls.{lent, no-mark, Read, ReadVersion1, Written, Met, Crowded, Admitted, Listed, Ask, fileAsk}
 use Rattle.rules.specs.Raising.{raisedFile, raise-checks, Raised}
 use Rattle.table.specs.declared.Answer.{Answer}
 use Rattle.verdict.specs.declared.Verdict.{Verdict}
-use Rattle.verdict.specs.Verdict.{numberOf, cutOf, intervalOf, hyperOf, loadOf, setsOf, JudgedBy, IsVerdict}
+use Rattle.verdict.specs.Verdict.{numberOf, cutOf, otherOf, intervalOf, hyperOf, loadOf, setsOf, JudgedBy, IsVerdict}
 use Rattle.verdict.specs.Demand.{Unrefused}
 use Rattle.promises.specs.Steps.{Serves, Served}
 use Rattle.planner.specs.declared.Stage.the-variants.{Due}
@@ -68,7 +68,8 @@ pub record Demand-1 : Type 1 where
   -- its list that applies, or 0 and 0 where none does.
   pub read : (f : List ℕ) (room : ℕ) → Answered (reader-checks f room)
   pub read-version-1 : (f : List ℕ) (room : ℕ) → Answered (version-1-checks f room)
-  pub written : (version′ elements rows : ℕ) (xs : List ℕ) (room : ℕ) → Answered (writer-checks version′ elements rows xs room)
+  pub written : (mark′ : List ℕ) (version′ elements rows : ℕ) (xs : List ℕ) (room : ℕ)
+      → Answered (writer-checks mark′ version′ elements rows xs room)
   pub met : (f : List ℕ) (i j : ℕ) → Answered (shared-checks f i j)
   pub crowded : (f : List ℕ) (k : ℕ) → Answered (set-checks f k)
   pub judged : (f : List ℕ) → Answered (verdict-checks f)
@@ -86,16 +87,16 @@ pub record Demand-1 : Type 1 where
   -- Only one number and place do.
   pub one : (cs : List Check) (m n p q : ℕ) → Answers cs m p → Answers cs n q → (m ≡ n) × (p ≡ q)
   -- A refusal leaves lent output unchanged and hands back the planner it was given; any other returned number is then 0.
-  pub read-refused : (f was now : List ℕ) (number place version′ elements rows : ℕ)
-      → Read f was now number place version′ elements rows ⊎ ReadVersion1 f was now number place version′ elements rows → number ≢ 0
-      → (version′ ≡ 0) × (elements ≡ 0) × (rows ≡ 0) × (now ≡ was)
-  pub write-refused : (version′ elements rows : ℕ) (xs was now : List ℕ) (number place : ℕ)
-      → Written version′ elements rows xs was now number place → number ≢ 0 → now ≡ was
+  pub read-refused : (f was now : List ℕ) (number place : ℕ) (mark′ : List ℕ) (version′ elements rows : ℕ)
+      → Read f was now number place mark′ version′ elements rows ⊎ ReadVersion1 f was now number place mark′ version′ elements rows
+      → number ≢ 0 → (mark′ ≡ no-mark) × (version′ ≡ 0) × (elements ≡ 0) × (rows ≡ 0) × (now ≡ was)
+  pub write-refused : (mark′ : List ℕ) (version′ elements rows : ℕ) (xs was now : List ℕ) (number place : ℕ)
+      → Written mark′ version′ elements rows xs was now number place → number ≢ 0 → now ≡ was
   pub met-refused : (f : List ℕ) (i j number place word : ℕ) → Met f i j number place word → number ≢ 0 → word ≡ 0
   pub crowd-refused : (f : List ℕ) (k number place rows segments : ℕ) → Crowded f k number place rows segments → number ≢ 0
       → (rows ≡ 0) × (segments ≡ 0)
   pub verdict-refused : (a : Ask) (r : Verdict) → JudgedBy (a .checks) (a .table) r → numberOf r ≢ 0
-      → (cutOf r ≡ 0) × (intervalOf r ≡ 0) × (hyperOf r ≡ 0) × (loadOf r ≡ 0) × (setsOf r ≡ 0)
+      → (cutOf r ≡ 0) × (otherOf r ≡ 0) × (intervalOf r ≡ 0) × (hyperOf r ≡ 0) × (loadOf r ≡ 0) × (setsOf r ≡ 0)
   pub list-refused : (f was now : List ℕ) (number place sets : ℕ) → Listed f was now number place sets → number ≢ 0
       → (sets ≡ 0) × (now ≡ was)
   pub plan-refused : (a : Ask) (r : Answer) (was now : List ℕ) → PlanAnswer a r was now → r .number ≢ 0 → now ≡ was
@@ -110,9 +111,9 @@ pub record Demand-2 : Type 1 where
   pub admits : (f : List ℕ) (r : Verdict) → IsVerdict f r → (numberOf r ≡ 0) ↔ Unrefused (verdict-checks f)
   pub admits-limited : (f : List ℕ) (our their : ℕ) (r : Verdict) → JudgedBy (limited-checks f our their) (fileTable f) r
       → (numberOf r ≡ 0) ↔ Unrefused (limited-checks f our their)
-  -- then cut, L, h, reported load and number of sets are the document's.
+  -- then the cut of each ring, L, h, reported load and number of sets are the documents'.
   pub values : (a : Ask) (r : Verdict) → JudgedBy (a .checks) (a .table) r → numberOf r ≡ 0
-      → Admitted (a .table) (cutOf r) (intervalOf r) (hyperOf r) (loadOf r) (setsOf r)
+      → Admitted (a .table) (cutOf r) (otherOf r) (intervalOf r) (hyperOf r) (loadOf r) (setsOf r)
   -- What is said of a party depends on its own rows, the element count and its limit alone (#108).
   pub own-rows-only : Own-rows-only
   -- The list of sets is the document's list of the overlap sets.
@@ -132,19 +133,21 @@ pub record Demand-2 : Type 1 where
       → ((i : ℕ) → i < fileTable f .rows → getD (r .values) i (pos 0) ≡ rules.standing (fileTable f) (plannerOf p) i)
       × ((i : ℕ) → fileTable f .rows ≤ i → i < max-rows → getD (r .values) i (pos 0) ≡ pos 0)
   pub between : Standings-between
-  -- A file of either version that passes the reader's checks, with room, is read; what was read is written in its version, with room, as it
-  -- stood in the file.
-  pub read-back : (f was now was′ now′ : List ℕ) (number place version′ elements rows number′ place′ : ℕ)
+  -- A file of either mark and version that passes the reader's checks, with room, is read; what was read is written with its mark in its
+  -- version, with room, as it stood in the file.
+  pub read-back : (f was now was′ now′ : List ℕ) (number place : ℕ) (mark′ : List ℕ) (version′ elements rows number′ place′ : ℕ)
       → ((i : ℕ) → at f i < 256) → Unrefused (reader-checks f (length was)) → length f ≤ length was′
-      → Read f was now number place version′ elements rows
-      → Written version′ elements rows (take (rowNumbers * rows) now) was′ now′ number′ place′
+      → Read f was now number place mark′ version′ elements rows
+      → Written mark′ version′ elements rows (take (rowNumbers * rows) now) was′ now′ number′ place′
       → (number ≡ 0) × (number′ ≡ 0) × (take (length f) now′ ≡ f)
   -- Rows that pass the writer's checks, with room, are written; what was written is read, with room, as it stood in the slice.
-  pub write-back : (version′ elements rows : ℕ) (xs was now was′ now′ : List ℕ) (number place number′ place′ version″ elements′ rows′ : ℕ)
-      → Unrefused (writer-checks version′ elements rows xs (length was)) → rowNumbers * rows ≤ length was′
-      → Written version′ elements rows xs was now number place
-      → Read (take (headerSize + rowSize version′ * rows) now) was′ now′ number′ place′ version″ elements′ rows′
-      → (number ≡ 0) × (number′ ≡ 0) × (version″ ≡ version′) × (elements′ ≡ elements) × (rows′ ≡ rows) × (take (length xs) now′ ≡ xs)
+  pub write-back : (mark′ : List ℕ) (version′ elements rows : ℕ) (xs was now was′ now′ : List ℕ) (number place number′ place′ : ℕ)
+      (mark″ : List ℕ) (version″ elements′ rows′ : ℕ)
+      → Unrefused (writer-checks mark′ version′ elements rows xs (length was)) → rowNumbers * rows ≤ length was′
+      → Written mark′ version′ elements rows xs was now number place
+      → Read (take (headerSize + rowSize (ringsOf mark′) version′ * rows) now) was′ now′ number′ place′ mark″ version″ elements′ rows′
+      → (number ≡ 0) × (number′ ≡ 0) × (mark″ ≡ mark′) × (version″ ≡ version′) × (elements′ ≡ elements) × (rows′ ≡ rows)
+      × (take (length xs) now′ ≡ xs)
   -- Raising makes each light row's cost the least that passes and changes nothing else (#111), and writes the file of that table;
   pub raises : Raise-raises
   pub raised : (f was now : List ℕ) (number place : ℕ) → Raised f was now number place → number ≡ 0 → now ≡ lent (raisedFile f) was

@@ -12,20 +12,21 @@ use lib.ListN.{length, take}
 use Rattle.numbers.specs.Lists.{at}
 use Rattle.rules.specs.TableFile.{fileTable}
 use Rattle.rules.specs.ElementList.{ElementList, listHeader, entrySize, entryNumbers, memoryList}
-use Rattle.rules.specs.Refusals.{verdict-checks, maker-checks, list-reader-checks, list-writer-checks}
-use Rattle.rules.specs.Calls.{fileAsk, ListMade, ListRead, ListWritten}
+use Rattle.rules.specs.Refusals.{maker-checks, list-reader-checks, list-writer-checks}
+use Rattle.rules.specs.Calls.{oneRingAsk, ListMade, ListRead, ListWritten}
 use Rattle.maker.specs.Promises.{Made-exactly, All-twice, Made-few, Made-passes, First-words}
 use Rattle.demands.specs.Demands.{Answered}
 
 pub record Element-lists : Type 1 where
   -- Whatever is handed in, each call has a number and a place to answer with.
   pub made : (f plan : List ℕ) (element room wants : ℕ)
-      → Answered (maker-checks (verdict-checks f) (fileTable f) plan element room wants)
+      → Answered (maker-checks (oneRingAsk f .checks) (fileTable f) plan element room wants)
   pub read : (f : List ℕ) (room : ℕ) → Answered (list-reader-checks f room)
   pub written : (element hyper : ℕ) (xs : List ℕ) (room : ℕ) → Answered (list-writer-checks element hyper xs room)
   -- A refusal leaves lent output unchanged; any other returned number is then 0.
   pub make-refused : (f plan : List ℕ) (element : ℕ) (form : ElementList → List ℕ) (was now : List ℕ) (number place hyper entries : ℕ)
-      → ListMade (fileAsk f) plan element form was now number place hyper entries → number ≢ 0 → (hyper ≡ 0) × (entries ≡ 0) × (now ≡ was)
+      → ListMade (oneRingAsk f) plan element form was now number place hyper entries
+      → number ≢ 0 → (hyper ≡ 0) × (entries ≡ 0) × (now ≡ was)
   pub read-refused : (f was now : List ℕ) (number place element hyper entries : ℕ)
       → ListRead f was now number place element hyper entries → number ≢ 0
       → (element ≡ 0) × (hyper ≡ 0) × (entries ≡ 0) × (now ≡ was)

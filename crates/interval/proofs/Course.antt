@@ -1,8 +1,8 @@
 -- One interval as the code does it: shares, loads, slots and totals, each from what the one before it gives.
-use mathlib.Core.Path.{_≡_, sym, ap, ap₂, _∙_}
+use mathlib.Core.Path.{_≡_, sym, ap, ap₂, _∙_, subst}
 use mathlib.Core.List.{List}
-use Prim.Native.Nat.{ℕ, _-_, _*_, _/_, _%_, _≤_, _<_}
-use native.Mathlib.Nat.{mod-lt, mod-add-div'}
+use Prim.Native.Nat.{ℕ, _+_, _-_, _*_, _/_, _%_, _≤_, _<_}
+use native.Mathlib.Nat.{mod-add-div'}
 use native.Mathlib.Omega.{arith}
 use lib.ListN.{length, take}
 use Rattle.numbers.specs.Lists.{at}
@@ -13,22 +13,35 @@ use Rattle.rules.specs.Loads.{hyperperiod, start, end, share}
 use Rattle.rules.specs.Interval.{Greatest, SlotWords}
 use Rattle.lags.specs.Lags.{Steady}
 use Rattle.lags.proofs.Intervals.{hyperperiod-positive, end-far, end-le}
-use Rattle.loads.specs.Loads.{last, digit, none, share-most, Spans, Parts, Qualified}
+use Rattle.loads.specs.Loads.{last, digit, none, share-most, Spans, Qualified}
 use Rattle.loads.specs.State.{Laid}
 use Rattle.loads.specs.declared.Size.{Size}
 use Rattle.loads.proofs.Choice.{greatest-shift}
+use Rattle.fold.specs.Folded.{lowSets}
+use Rattle.fold.specs.Rings.{OnEach}
+use Rattle.fold.proofs.Unfolding.{unfolded-greatest}
 use Rattle.chains.specs.Chained.{ChainedRows}
 use Rattle.placing.specs.Filled.{FilledSlots}
 use Rattle.places.specs.declared.Places.{Places}
 use Rattle.interval.specs.Interval.{Given}
 use Rattle.interval.specs.Ready.{Ready, Due, Advanced}
 use Rattle.interval.proofs.Choice.{share-small, had-le, whole-small, moved-of}
-use Rattle.interval.proofs.RowSets.{list-length, ranged-low, ranged-high, ranged-spans, ranged-listed}
-use Rattle.interval.proofs.Ready.{ready-ends, ready-words, ready-share}
+use Rattle.interval.proofs.RowSets.{low-some, ring-few, ranged-low, ranged-high, ranged-ends, ranged-spans, ranged-listed}
+use Rattle.interval.proofs.Ready.{line-narrow, ready-ends, ready-words, ready-share}
 
-module _ {t : Table} {size : Size} {top : ℕ} {first second rate words : List ℕ} {L : Places}
-    (R : Ready t size top first second rate words L) where
+module _ {t : Table} {size : Size} {top upper : ℕ} {first second rate words : List ℕ} {L : Places}
+    (R : Ready t size top first second rate upper words L) where
   -- ---- what is laid, for the code's counts
+
+  -- the table's sets, and each row's first and last of them
+  abbrev sets : List ℕ
+  sets = take (R .count) (R .listed)
+
+  abbrev from : ℕ → ℕ
+  from i = digit upper i * lowSets upper sets + at (L .tail) i
+
+  abbrev to : ℕ → ℕ
+  to i = digit upper i * lowSets upper sets + last (L .head) i
 
   pub few-rows : size .rows ≤ max-rows
   few-rows = omega (arith, R .row-count, R .admissible .sound .rows-high)
@@ -36,8 +49,11 @@ module _ {t : Table} {size : Size} {top : ℕ} {first second rate words : List �
   pub hyper-some : 0 < size .hyper
   hyper-some = omega (arith, hyperperiod-positive (R .admissible .sound), R .hyper-is)
 
+  pub hyper-short : size .hyper ≤ max-slots
+  hyper-short = omega (arith, R .hyper-is, R .admissible .short)
+
   spans-laid : Spans (t .rows) (size .sets) (at (L .tail)) (last (L .head))
-  spans-laid = ranged-spans (R .admissible) (R .list) (R .room) (R .laid .ranged)
+  spans-laid = ranged-spans (R .admissible) (R .list) (R .firsts) (R .folded) (R .laid .ranged)
 
   heads-laid : (i : ℕ) → i < t .rows → 0 < at (L .head) i
   heads-laid i l = omega (arith, R .laid .ranged .highest .row i l)
@@ -55,7 +71,7 @@ module _ {t : Table} {size : Size} {top : ℕ} {first second rate words : List �
         ending = λ v i l. R .laid .ending v i (omega (arith, spans-laid .few-sets));
       };
     };
-    listed = ranged-listed (R .admissible) (R .list) (R .room) (R .laid .ranged);
+    listed = ranged-listed (R .admissible) (R .list) (R .firsts) (R .folded) (R .laid .ranged);
   }
 
   pub all-laid : Laid (size .rows) (size .sets) (L .tail) (L .head) (L .out) (L .into) words
@@ -64,7 +80,7 @@ module _ {t : Table} {size : Size} {top : ℕ} {first second rate words : List �
   pub rows-chained : ChainedRows (size .rows) (at first) (at second) top (L .heads) (L .next)
   rows-chained = record {
     few = few-rows;
-    low = omega (arith, R .top-end, R .admissible .sound .elements-high);
+    low = omega (arith, R .top-end, line-narrow (R .admissible .sound));
     line = ready-ends R;
     chained = rw (R .row-count) (R .laid .chained);
   }
@@ -91,43 +107,45 @@ module _ {t : Table} {size : Size} {top : ℕ} {first second rate words : List �
 
     -- ---- the loads, from the shares' whole slots and the parts above them
 
-    module _ (whole part : List ℕ) (parted : (i : ℕ) → i < size .rows
-        → (at whole i ≡ at rate i * e / size .hyper) × (at part i ≡ at rate i * e % size .hyper)) where
-      pub parts-fit : Parts (size .rows) (size .hyper) (at part)
-      parts-fit = record {
-        some = hyper-some;
-        fits = omega (arith, R .hyper-is, R .admissible .short);
-        row = λ i l. omega (arith, parted i l .1, mod-lt (at rate i * e) hyper-some);
-      }
-
+    module _ (whole : List ℕ) (wholes : (i : ℕ) → i < size .rows → at whole i ≡ at rate i * e / size .hyper) where
       pub whole-fit : (i : ℕ) → i < size .rows → (at totals i ≤ at whole i) × (at whole i ≤ max-slots)
       whole-fit i l =
           let m : i < t .rows = omega (arith, R .row-count) in
-          let w : at whole i ≡ at rate i * e / hyperperiod t = rw (R .hyper-is) at (parted i l .0) in (
+          let w : at whole i ≡ at rate i * e / hyperperiod t = rw (R .hyper-is) at (wholes i l) in (
             omega (arith, w, had-le (R .admissible) (D .in-range) steady (λ i. at rate i * e) row-share i m),
             omega (arith, w, whole-small (R .admissible) (D .in-range) steady (λ i. at rate i * e) row-share i m),
           )
 
       module _ (rounded : ℕ) (x now : ℕ → ℕ)
           (C : Greatest (size .rows)
-          (Qualified (size .rows) (size .sets) (at (L .tail)) (last (L .head)) (size .hyper) (at part) none) (digit rounded))
+          (OnEach (size .rows) (size .sets) (at (L .tail)) (last (L .head)) (size .hyper) upper (λ i. at rate i * e % size .hyper))
+          (digit rounded))
           (B : Given (size .rows) rounded (at whole) (at totals) x now) where
-        shifted : Greatest (size .rows)
-            (Qualified (size .rows) (size .sets) (at (L .tail)) (last (L .head)) (size .hyper) (λ i. at rate i * e) (at totals)) x
-        shifted =
-            greatest-shift (size .rows) (size .sets) (at (L .tail)) (last (L .head)) (size .hyper) (λ i. at rate i * e) (at totals) (at part)
-            (at whole) x (digit rounded) hyper-some
+        -- the parts of the shares above whole slots
+        abbrev part : ℕ → ℕ
+        part i = at rate i * e % size .hyper
+
+        -- on the line that is not folded
+        unfolded : Greatest (t .rows) (Qualified (t .rows) (length sets) from to (size .hyper) part none) (digit rounded)
+        unfolded =
+            unfolded-greatest (t .rows) (length sets) (size .sets) (lowSets upper sets) (at (L .tail)) (last (L .head)) (size .hyper) upper
+            hyper-some (low-some (R .admissible) (R .list) (R .firsts) (R .folded))
+            (ring-few (R .admissible) (R .list) (R .firsts) (R .folded))
+            (ranged-ends (R .admissible) (R .list) (R .firsts) (R .folded) (R .laid .ranged))
+            part (digit rounded) (rw (R .row-count) at C)
+
+        chosen : Greatest (t .rows) (Qualified (t .rows) (length sets) from to (hyperperiod t) (λ i. at rate i * e) (at totals)) x
+        chosen =
+            subst (λ (h : ℕ). Greatest (t .rows) (Qualified (t .rows) (length sets) from to h (λ i. at rate i * e) (at totals)) x)
+            (R .hyper-is)
+            (greatest-shift (t .rows) (length sets) from to (size .hyper) (λ i. at rate i * e) (at totals) part (at whole) x
+            (digit rounded) hyper-some
             (λ i l. omega (
               arith,
               mod-add-div' (at rate i * e) (size .hyper),
-              parted i l .1,
-              ap (λ (w : ℕ). w * size .hyper) (parted i l .0),
+              ap (λ (w : ℕ). w * size .hyper) (wholes i (omega (arith, R .row-count))),
             ))
-            (B .loads) C
-
-        chosen : Greatest (t .rows) (Qualified (t .rows) (length (take (size .sets) words)) (at (L .tail)) (last (L .head)) (hyperperiod t)
-            (λ i. at rate i * e) (at totals)) x
-        chosen = rw (list-length (R .room) (R .laid .ranged)) (rw (R .row-count, R .hyper-is) at shifted)
+            (λ i l. B .loads i (omega (arith, R .row-count))) unfolded)
 
         -- ---- the slots and the totals
 
@@ -141,8 +159,9 @@ module _ {t : Table} {size : Size} {top : ℕ} {first second rate words : List �
             record {
               size = n;
               moved =
-                  moved-of (R .admissible) (D .in-range) steady (λ i. at rate i * e) row-share (R .list) (at (L .tail)) (last (L .head))
-                  (ranged-low (R .room) (R .laid .ranged)) (ranged-high (R .room) (R .laid .ranged)) chosen
+                  moved-of (R .admissible) (D .in-range) steady (λ i. at rate i * e) row-share (R .list) from to
+                  (ranged-low (R .admissible) (R .list) (R .firsts) (R .folded) (R .laid .ranged))
+                  (ranged-high (R .admissible) (R .list) (R .firsts) (R .folded) (R .laid .ranged)) chosen
                   (at after) (take (end t k - start t k) out) (ready-words R W)
                   (λ i l.
                   let m : i < size .rows = omega (arith, R .row-count) in

@@ -1,12 +1,8 @@
 -- The totals with each row's load, as a loop over the rows gives it. What the loop keeps is what it gives, for the rows passed.
-use mathlib.Core.Path.{_≡_, refl, sym, ap, _∙_}
-use Prim.Native.Nat.{ℕ, zero, suc, _+_, _-_, _/_, _%_, _^_, _≤_, _<_}
+use mathlib.Core.Path.{_≡_, refl, ap, _∙_}
+use Prim.Native.Nat.{ℕ, _+_, _-_, _≤_, _<_}
 use native.Mathlib.Decide.{ℕ-discrete}
 use native.Mathlib.Omega.{arith}
-use lib.Dec.{eqb}
-use Rattle.numbers.specs.Word.{bit}
-use Rattle.numbers.proofs.Finite.{only-true, only-false}
-use Rattle.numbers.proofs.Word.{bit-shr}
 use Rattle.flow.specs.Network.{Put}
 use Rattle.loads.specs.Loads.{digit}
 use Rattle.interval.specs.Interval.{Given}
@@ -40,12 +36,3 @@ giving-next m top whole had x now x' now' G le p q = record {
     load : (i : ℕ) → i < m + 1 → Dec (i ≡ m) → had i + x' i ≡ whole i + digit top i
     load i l (yes e) = rw e (omega (arith, p .0))
     load i l (no e) = ap (λ (u : ℕ). had i + u) (p .1 i e) ∙ G .given .loads i (omega arith)
-
--- `(w >> i) % 2`
-pub digit-is : (w i : ℕ) → digit w i ≡ w / 2 ^ i % 2
-digit-is w i = go (w / 2 ^ i % 2) (omega arith) (sym (bit-shr w i))
-  where
-    go : (r : ℕ) → r < 2 → bit w i ≡ eqb r 1 → digit w i ≡ r
-    go zero l e = only-false (bit w i) 1 e
-    go (suc zero) l e = only-true (bit w i) 1 e
-    go (suc (suc r)) l e = absurd (omega arith)

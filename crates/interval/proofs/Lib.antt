@@ -1,4 +1,5 @@
 pub mod Moved
+pub mod Rings
 pub mod RowSets
 pub mod Choice
 pub mod Fill

@@ -2,24 +2,32 @@
 use mathlib.Core.Path.{_≡_, refl, sym}
 use mathlib.Core.List.{List}
 use Prim.Native.Nat.{ℕ, _+_, _*_, _≤_, _<_}
+use native.Mathlib.Nat.{mul-le-mul-right}
 use native.Mathlib.Omega.{arith}
 use Rattle.numbers.specs.Lists.{at}
+use Rattle.rules.specs.Bounds.{max-elements, max-rings}
 use Rattle.rules.specs.Bus.{Table, overlap}
-use Rattle.rules.specs.Line.{lineFirst, lineSecond, meet}
+use Rattle.rules.specs.Line.{lineTop, lineFirst, lineSecond, meet}
 use Rattle.rules.specs.Loads.{share}
 use Rattle.rules.specs.Interval.{SlotWords}
 use Rattle.rules.proofs.Interval.{words-as}
 use Rattle.ring.proofs.OnLine.{line-low, line-ordered, line-high, overlap-meet}
 use Rattle.table.specs.Columns.{ByRow}
+use Rattle.table.specs.Sound.{Sound}
 use Rattle.lags.specs.Lags.{Admissible}
 use Rattle.loads.specs.declared.Size.{Size}
 use Rattle.places.specs.declared.Places.{Places}
 use Rattle.interval.specs.Ready.{Ready}
 
+-- the line of two rings
+pub line-narrow : {t : Table} → Sound t → lineTop t ≤ max-rings * (max-elements + 1)
+line-narrow {t} s =
+    omega (arith, mul-le-mul-right (t .elements + 1) (s .rings-few), s .elements-high)
+
 -- the ends of a row on the line
 pub ends-on-line : {t : Table} {first second : List ℕ} → Admissible t → ByRow (t .rows) (lineFirst t) first
     → ByRow (t .rows) (lineSecond t) second → (i : ℕ) → i < t .rows
-    → (1 ≤ at first i) × (at first i < at second i) × (at second i ≤ t .elements + 1)
+    → (1 ≤ at first i) × (at first i < at second i) × (at second i ≤ lineTop t)
 ends-on-line {t} A F S i m =
     let f = F .row i m in
     let s = S .row i m in (
@@ -28,8 +36,8 @@ ends-on-line {t} A F S i m =
       omega (arith, line-high t (A .sound) (A .clear) i m),
     )
 
-module _ {t : Table} {size : Size} {top : ℕ} {first second rate words : List ℕ} {L : Places}
-    (R : Ready t size top first second rate words L) where
+module _ {t : Table} {size : Size} {top upper : ℕ} {first second rate words : List ℕ} {L : Places}
+    (R : Ready t size top first second rate upper words L) where
   -- ---- the ends
 
   pub ready-ends : (i : ℕ) → i < size .rows → (1 ≤ at first i) × (at first i < at second i) × (at second i ≤ top)

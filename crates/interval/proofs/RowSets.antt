@@ -1,29 +1,40 @@
 -- Rows and the listed overlap sets of an admitted table: a row is in exactly the sets from its lowest to its highest.
 use mathlib.Core.Path.{_≡_, refl, sym, ap, _∙_}
 use mathlib.Core.List.{List}
-use mathlib.Core.Bool.{Bool, _&&_}
-use Prim.Native.Nat.{ℕ, zero, suc, _+_, _-_, _≤_, _<_}
+use mathlib.Core.Bool.{Bool, not, _&&_}
+use Prim.Native.Nat.{ℕ, zero, suc, _+_, _*_, _≤_, _<_}
 use native.Mathlib.Decide.{decLt}
 use native.Mathlib.Omega.{arith}
-use lib.Dec.{T, leb, ltb}
-use lib.ListN.{length, take, length-take}
-use lib.Seq.{getD-take}
+use lib.Bits.{bitAnd}
+use lib.Dec.{T, leb, ltb, eqb}
+use lib.ListN.{length, take}
 use borrow.Author.Tests.{le-leb, leb-true, lt-ltb, le-ltb}
 use Rattle.numbers.specs.Finite.{lowest, highest}
 use Rattle.numbers.specs.Word.{bit}
 use Rattle.numbers.specs.Lists.{at}
-use Rattle.numbers.proofs.Truth.{both, fst, snd, same, is-true, is-false, of-true}
-use Rattle.numbers.proofs.Finite.{lowest-has, lowest-under, lowest-eq, highest-lt, highest-has, highest-above, highest-none, highest-eq}
+use Rattle.numbers.proofs.Truth.{both, fst, snd, same, is-true, is-false, of-true, of-false, along}
+use Rattle.numbers.proofs.Finite.{lowest-is, lowest-has, lowest-under, lowest-le, highest-is, highest-lt, highest-has, highest-above}
+use Rattle.numbers.proofs.Word.{bit-zero, bit-word}
+use Rattle.rules.specs.Bounds.{max-rings}
 use Rattle.rules.specs.Bus.{Table}
-use Rattle.rules.specs.Line.{lineFirst, lineSecond, meet, Least, SetList, Sets}
-use Rattle.ring.proofs.OnLine.{line-low, line-ordered, line-high}
-use Rattle.sets.proofs.Overlap.{closed}
-use Rattle.sets.proofs.List.{sets-few, listed, consecutive}
+use Rattle.rules.specs.Line.{onLine, lineFirst, lineSecond, meet, SetList, Sets}
+use Rattle.table.specs.Columns.{ByRow}
+use Rattle.table.proofs.ByRow.{past-end}
+use Rattle.ring.specs.Route.{lineElement, lineEnd}
+use Rattle.ring.proofs.Routes.{route-high}
+use Rattle.ring.proofs.OnLine.{row-route, line-ordered}
+use Rattle.sets.proofs.List.{listed, consecutive}
 use Rattle.sets.proofs.Transfer.{list-agree}
 use Rattle.lags.specs.Lags.{Admissible}
-use Rattle.loads.specs.Loads.{covers, inSet, last, Spans}
+use Rattle.loads.specs.Loads.{covers, inSet, last, digit, Spans}
+use Rattle.loads.proofs.Line.{covers-after}
+use Rattle.loads.proofs.Settling.{digit-on, digit-off}
+use Rattle.fold.specs.declared.Folded.{Folded}
+use Rattle.fold.specs.Folded.{upperRows, lowSets, FoldedSets}
+use Rattle.fold.proofs.Unfolding.{ringSets, covers-shift}
 use Rattle.promises.proofs.Words.{overlap-agrees}
 use Rattle.places.specs.Ranges.{lowestSet, highestSet, Ranged}
+use Rattle.interval.proofs.Rings.{in-ring, few-folded}
 
 -- ---- a row's sets
 
@@ -36,39 +47,6 @@ covers-of a b k l m = both (leb a k) (leb k b) (of-true (le-leb a k l)) (of-true
 module _ {t : Table} (A : Admissible t) {ws : List ℕ} (S : Sets t ws) where
   on-line : SetList (t .rows) (meet (lineFirst t) (lineSecond t)) (lineSecond t) ws
   on-line = list-agree (overlap-agrees A) (λ i l. refl) S
-
-  pub few-sets : length ws ≤ t .rows
-  few-sets = sets-few (t .rows) (lineFirst t) (lineSecond t) (line-ordered t (A .sound) (A .clear)) (A .sound .rows-low) ws on-line
-
-  -- The sets' least second ends ascend, from 2 on, and the last is at most M + 1.
-  rise : (k : ℕ) → k < length ws → (e : ℕ) × Least (lineSecond t) (bit (at ws k)) e × (k + 2 ≤ e) × (e ≤ t .elements + 1)
-  rise k h = go k h (end k h)
-    where
-      end : (k : ℕ) → k < length ws → (e : ℕ) × Least (lineSecond t) (bit (at ws k)) e × (2 ≤ e) × (e ≤ t .elements + 1)
-      end k h =
-          let c = closed (t .rows) (lineFirst t) (lineSecond t) (line-ordered t (A .sound) (A .clear)) (A .sound .rows-low) (on-line .each k h) in
-          let j = c .2 .reached in
-          let l = on-line .each k h .rows (j .0) (j .1) in (
-            c .0,
-            c .2,
-            omega (arith, j .2, line-low t (A .sound) (A .clear) (j .0), line-ordered t (A .sound) (A .clear) (j .0) l),
-            omega (arith, j .2, line-high t (A .sound) (A .clear) (j .0) l),
-          )
-
-      go : (k : ℕ) → k < length ws → ((e : ℕ) × Least (lineSecond t) (bit (at ws k)) e × (2 ≤ e) × (e ≤ t .elements + 1))
-          → (e : ℕ) × Least (lineSecond t) (bit (at ws k)) e × (k + 2 ≤ e) × (e ≤ t .elements + 1)
-      go zero h c = (c .0, c .1, omega (arith, c .2), c .3)
-      go (suc k) h c =
-          let p = go k (omega arith) (end k (omega arith)) in
-          (c .0, c .1, omega (arith, p .2, on-line .order k (suc k) (p .0) (c .0) (omega arith) h (p .1) (c .1)), c .3)
-
-  -- so there are no more sets than elements
-  pub few-elements : length ws ≤ t .elements
-  few-elements = go (length ws) refl
-    where
-      go : (K : ℕ) → length ws ≡ K → length ws ≤ t .elements
-      go zero e = omega arith
-      go (suc K) e = let r = rise K (omega arith) in omega (arith, r .2, r .3)
 
   in-some : (i : ℕ) → i < t .rows → (k : ℕ) × (k < length ws) × T (bit (at ws k) i)
   in-some = listed (t .rows) (lineFirst t) (lineSecond t) (line-ordered t (A .sound) (A .clear)) (A .sound .rows-low) ws on-line
@@ -104,53 +82,151 @@ module _ {t : Table} (A : Admissible t) {ws : List ℕ} (S : Sets t ws) where
         (λ u. let r = covers-is (a i) (b i) k u in
         between i (a i) k (b i) (r .0) (r .1) (at-highest i l .0) (at-lowest i l .1) (at-highest i l .1))
 
-    pub spans : Spans (t .rows) (length ws) a b
-    spans = record {
+    pub row-span : (i : ℕ) → i < t .rows → (a i ≤ b i) × (b i < length ws)
+    row-span i l = (within i (b i) l (at-highest i l .0) (at-highest i l .1) .0, at-highest i l .0)
+
+-- ---- the sets folded
+
+-- a row stands on its ring's part of the line
+module _ {t : Table} (A : Admissible t) where
+  row-own : (i : ℕ) → i < t .rows → (t .way i * (t .elements + 1) < lineFirst t i)
+      × (lineSecond t i ≤ t .way i * (t .elements + 1) + (t .elements + 1))
+  unfolding lineFirst lineSecond onLine lineElement lineEnd
+  row-own i l = (omega arith, omega (arith, route-high (row-route t (A .sound) (A .clear) i l)))
+
+  -- those of the second ring start past the elements of the first
+  row-ring : {upper : ℕ} {first : List ℕ} → ByRow (t .rows) (lineFirst t) first → upper ≡ upperRows (t .rows) (t .elements) (at first)
+      → (i : ℕ) → i < t .rows → digit upper i ≡ t .way i
+  row-ring {upper} {first} F is i l =
+      go (t .way i) (omega (arith, A .sound .row i l .way-known, A .sound .rings-few)) (row-own i l)
+    where
+      tested : bit upper i ≡ ltb (t .elements) (lineFirst t i)
+      tested =
+          ap (λ (w : ℕ). bit w i) is ∙ bit-word (t .rows) (λ j. ltb (t .elements) (at first j)) i
+          ∙ rw (lt-ltb i (t .rows) l, F .row i l) refl
+
+      go : (d : ℕ) → d < max-rings
+          → (d * (t .elements + 1) < lineFirst t i) × (lineSecond t i ≤ d * (t .elements + 1) + (t .elements + 1)) → digit upper i ≡ d
+      go zero h p =
+          digit-off upper i (tested ∙ le-ltb (t .elements) (lineFirst t i) (omega (arith, p, line-ordered t (A .sound) (A .clear) i l)))
+      go (suc zero) h p = digit-on upper i (tested ∙ lt-ltb (t .elements) (lineFirst t i) (omega (arith, p)))
+      go (suc (suc d)) h p = absurd (omega arith)
+
+module _ {t : Table} {K : ℕ} {was first : List ℕ} {F : Folded} {vs : List ℕ} (A : Admissible t) (S : Sets t (take K was))
+    (B : ByRow (t .rows) (lineFirst t) first) (G : FoldedSets (t .rows) (t .elements) K (at first) was F vs) where
+  abbrev ws : List ℕ
+  ws = take K was
+
+  abbrev low : ℕ
+  low = lowSets (F .upper) ws
+
+  own : (i : ℕ) → i < t .rows → (digit (F .upper) i * (t .elements + 1) < lineFirst t i)
+      × (lineSecond t i ≤ digit (F .upper) i * (t .elements + 1) + (t .elements + 1))
+  own i l = rw (row-ring A B (G .upper) i l) (row-own A i l)
+
+  -- the folded line has no more sets than elements
+  pub folded-few : F .sets ≤ t .elements
+  folded-few =
+      omega (
+        arith,
+        G .sets,
+        few-folded (t .rows) (t .elements) (lineFirst t) (lineSecond t) (F .upper) (line-ordered t (A .sound) (A .clear))
+            (A .sound .rows-low) own ws (on-line A S),
+      )
+
+  -- none of the rings has more sets than the folded line
+  pub ring-few : (d : ℕ) → ringSets low (length ws) d ≤ F .sets
+  unfolding ringSets
+  ring-few zero = omega (arith, G .sets)
+  ring-few (suc d) = omega (arith, G .sets)
+
+  pub low-some : low ≤ length ws
+  low-some = lowest-le (length ws) (λ k. not (eqb (bitAnd (at ws k) (F .upper)) 0))
+
+  -- a row's set is one of the list
+  listed-at : (m i : ℕ) → T (bit (at ws m) i) → m < length ws
+  listed-at m i u = go (decLt m (length ws))
+    where
+      go : Dec (m < length ws) → m < length ws
+      go (yes h) = h
+      go (no h) = absurd (of-false (ap (λ (w : ℕ). bit w i) (past-end ws m (omega arith)) ∙ bit-zero i) u)
+
+  -- the same on the row's ring
+  folded-at : (m i : ℕ) → m < length ws → T (bit (at ws m) i)
+      → (k : ℕ) × (k < ringSets low (length ws) (digit (F .upper) i)) × (m ≡ digit (F .upper) i * low + k)
+  folded-at =
+      in-ring (t .rows) (t .elements) (lineFirst t) (lineSecond t) (F .upper) (line-ordered t (A .sound) (A .clear)) (A .sound .rows-low)
+      own ws (on-line A S)
+
+  module _ {tail head : List ℕ} (R : Ranged (t .rows) (F .sets) vs tail head) where
+    -- the places where the rows start and end, on the line that is not folded
+    abbrev pub from : ℕ → ℕ
+    from i = digit (F .upper) i * low + at tail i
+
+    abbrev pub to : ℕ → ℕ
+    to i = digit (F .upper) i * low + last head i
+
+    pub ranged-low : (i : ℕ) → i < t .rows → from i ≡ lowestSet (length ws) ws i
+    ranged-low i l =
+        let m = in-some A S i l in
+        let p : ℕ → Bool = λ k. bit (at ws k) i in
+        let h : lowest (length ws) p < length ws = omega (arith, lowest-under (length ws) p (m .0) (m .2), m .1) in
+        let c = folded-at (lowest (length ws) p) i h (lowest-has (length ws) p h) in
+        let k : c .0 < F .sets = omega (arith, c .1, ring-few (digit (F .upper) i)) in
+        let e : lowest (F .sets) (λ k. bit (at vs k) i) ≡ c .0 =
+        lowest-is (F .sets) (λ k. bit (at vs k) i) (c .0) k
+        (along (sym (G .word (c .0) i k)) (rw (c .2) at (lowest-has (length ws) p h)))
+        (λ j q u. omega (arith, c .2, lowest-under (length ws) p (digit (F .upper) i * low + j) (along (G .word j i (omega arith)) u))) in
+        omega (arith, R .lowest .row i l, e, c .2)
+
+    pub ranged-high : (i : ℕ) → i < t .rows → to i ≡ highestSet (length ws) ws i
+    ranged-high i l =
+        let m = in-some A S i l in
+        let p : ℕ → Bool = λ k. bit (at ws k) i in
+        let h = highest-lt (length ws) p (omega (arith, m .1)) in
+        let v = highest-has (length ws) p (m .0) (m .1) (m .2) in
+        let c = folded-at (highest (length ws) p) i h v in
+        let k : c .0 < F .sets = omega (arith, c .1, ring-few (digit (F .upper) i)) in
+        let e : highest (F .sets) (λ k. bit (at vs k) i) ≡ c .0 =
+        highest-is (F .sets) (λ k. bit (at vs k) i) (c .0) k (along (sym (G .word (c .0) i k)) (rw (c .2) at v))
+        (λ j q b u.
+        let w = along (G .word j i b) u in
+        omega (arith, c .2, highest-above (length ws) p (digit (F .upper) i * low + j) (listed-at (digit (F .upper) i * low + j) i w) w)) in
+        omega (arith, R .highest .row i l, e, c .2)
+
+    -- a row ends within its ring's sets
+    pub ranged-ends : (i : ℕ) → i < t .rows → last head i < ringSets low (length ws) (digit (F .upper) i)
+    ranged-ends i l =
+        let e = at-highest A S from to ranged-low ranged-high i l in
+        let c = folded-at (to i) i (e .0) (e .1) in
+        omega (arith, c .1, c .2)
+
+    pub ranged-spans : Spans (t .rows) (F .sets) (at tail) (last head)
+    ranged-spans = record {
       few-rows = A .sound .rows-high;
-      few-sets = omega (arith, few-elements, A .sound .elements-high);
-      row = λ i l. (within i (b i) l (at-highest i l .0) (at-highest i l .1) .0, at-highest i l .0);
+      few-sets = omega (arith, folded-few, A .sound .elements-high);
+      row = λ i l. (
+        omega (arith, row-span A S from to ranged-low ranged-high i l),
+        omega (arith, ranged-ends i l, ring-few (digit (F .upper) i)),
+      );
     }
 
--- ---- the ranges of an array's rows, where the list stands at the front of an array of words
+    -- a word of the folded line has the rows that its place says
+    pub ranged-listed : (k i : ℕ) → k < F .sets → bit (at vs k) i ≡ (ltb i (t .rows) && inSet (at tail) (last head) k i)
+    ranged-listed k i g = G .word k i g ∙ go (decLt i (t .rows)) (decLt m (length ws))
+      where
+        m : ℕ
+        m = digit (F .upper) i * low + k
 
-module _ {n K : ℕ} {ws tail head : List ℕ} (room : K ≤ length ws) (R : Ranged n K ws tail head) where
-  pub list-length : length (take K ws) ≡ K
-  list-length = omega (arith, length-take K ws)
-
-  pub ranged-low : (i : ℕ) → i < n → at tail i ≡ lowestSet (length (take K ws)) (take K ws) i
-  ranged-low i l =
-      rw list-length
-      (R .lowest .row i l ∙ lowest-eq K (λ k. bit (at ws k) i) (λ k. bit (at (take K ws) k) i) (λ k m. rw (getD-take K ws k 0 m)))
-
-  pub ranged-high : (i : ℕ) → i < n → last head i ≡ highestSet (length (take K ws)) (take K ws) i
-  ranged-high i l =
-      rw list-length
-      (omega (
-        arith,
-        R .highest .row i l,
-        highest-eq K (λ k. bit (at ws k) i) (λ k. bit (at (take K ws) k) i) (λ k m. rw (getD-take K ws k 0 m)),
-      ))
-
-module _ {t : Table} {K : ℕ} {ws tail head : List ℕ} (A : Admissible t) (S : Sets t (take K ws)) (room : K ≤ length ws)
-    (R : Ranged (t .rows) K ws tail head) where
-  pub ranged-spans : Spans (t .rows) K (at tail) (last head)
-  ranged-spans = rw (list-length room R) at (spans A S (at tail) (last head) (ranged-low room R) (ranged-high room R))
-
-  -- a set's word has the rows that its place says
-  pub ranged-listed : (k i : ℕ) → k < K → bit (at ws k) i ≡ (ltb i (t .rows) && inSet (at tail) (last head) k i)
-  ranged-listed k i l =
-      let e : at (take K ws) k ≡ at ws k = getD-take K ws k 0 l in
-      let h : k < length (take K ws) = omega (arith, list-length room R) in
-      ap (λ (w : ℕ). bit w i) (sym e) ∙ go h (decLt i (t .rows))
-    where
-      go : k < length (take K ws) → Dec (i < t .rows)
-          → bit (at (take K ws) k) i ≡ (ltb i (t .rows) && inSet (at tail) (last head) k i)
-      go h (yes m) =
-          set-rows A S (at tail) (last head) (ranged-low room R) (ranged-high room R) i k m h
-          ∙ sym (ap (λ (b : Bool). b && inSet (at tail) (last head) k i) (lt-ltb i (t .rows) m))
-      go h (no m) =
-          is-false (bit (at (take K ws) k) i) (λ u. omega (arith, S .each k h .rows i u))
-          ∙ sym (ap (λ (b : Bool). b && inSet (at tail) (last head) k i) (le-ltb i (t .rows) (omega arith)))
-
-pub sets-limit : {t : Table} (K : ℕ) (ws : List ℕ) → Admissible t → Sets t (take K ws) → K ≤ length ws → K ≤ t .elements
-sets-limit K ws A S room = omega (arith, few-elements A S, length-take K ws)
+        go : Dec (i < t .rows) → Dec (m < length ws) → bit (at ws m) i ≡ (ltb i (t .rows) && inSet (at tail) (last head) k i)
+        go (yes l) (yes h) =
+            set-rows A S from to ranged-low ranged-high i m l h
+            ∙ covers-shift (digit (F .upper) i * low) (at tail i) (last head i) k
+            ∙ sym (ap (λ (b : Bool). b && inSet (at tail) (last head) k i) (lt-ltb i (t .rows) l))
+        go (yes l) (no h) =
+            is-false (bit (at ws m) i) (λ u. h (listed-at m i u))
+            ∙ sym (ap (λ (b : Bool). b && inSet (at tail) (last head) k i) (lt-ltb i (t .rows) l)
+            ∙ covers-after (at tail i) (last head i) k (omega (arith, row-span A S from to ranged-low ranged-high i l)))
+        go (no l) h =
+            is-false (bit (at ws m) i) (λ u. l (S .each m (listed-at m i u) .rows i u))
+            ∙ sym (ap (λ (b : Bool). b && inSet (at tail) (last head) k i) (le-ltb i (t .rows) (omega arith)))

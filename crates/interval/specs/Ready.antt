@@ -1,8 +1,8 @@
 -- What one interval needs of a table, and what it gives.
 --
---   Ready t size top first second rate words L
---                           the table may be admitted; the arrays hold its rows' ends on the line, their rates and the sets' words, and
---                           L are the places for these
+--   Ready t size top first second rate upper words L
+--                           the table may be admitted; the arrays hold its rows' ends on the line, their rates and the words of its sets,
+--                           folded, where `upper` are the rows of the second ring, and L are the places for these
 --   Due t k b e had         interval k is one of the table's, from slot b up to slot e, and totals `had` keep step at b
 --   Advanced t k had now was out
 --                           interval k is done: `now` are the totals after it, and `out`, which held `was`, has its words at the front
@@ -10,32 +10,35 @@
 -- Only one `now` and one `out` fit (proofs/Moved, `advanced-only`).
 use mathlib.Core.Path.{_≡_}
 use mathlib.Core.List.{List}
-use Prim.Native.Nat.{ℕ, _+_, _-_, _≤_, _<_}
+use Prim.Native.Nat.{ℕ, _-_, _<_}
 use lib.ListN.{length, take}
 use Rattle.numbers.specs.Lists.{at}
 use Rattle.rules.specs.Bounds.{max-rows}
 use Rattle.rules.specs.Bus.{Table}
-use Rattle.rules.specs.Line.{lineFirst, lineSecond, Sets}
+use Rattle.rules.specs.Line.{lineTop, lineFirst, lineSecond, Sets}
 use Rattle.rules.specs.Loads.{hyperperiod, start, end, intervals}
 use Rattle.rules.specs.Loads as loads
 use Rattle.table.specs.Columns.{ByRow}
 use Rattle.lags.specs.Lags.{Admissible, Steady}
 use Rattle.loads.specs.declared.Size.{Size}
+use Rattle.fold.specs.Folded.{FoldedSets}
 use Rattle.placing.specs.Filled.{Kept}
 use Rattle.places.specs.PlacesOf.{PlacesOf}
 use Rattle.places.specs.declared.Places.{Places}
 use Rattle.interval.specs.Interval.{Moved}
 
-pub record Ready (t : Table) (size : Size) (top : ℕ) (first second rate words : List ℕ) (L : Places) : Type 0 where
+pub record Ready (t : Table) (size : Size) (top : ℕ) (first second rate : List ℕ) (upper : ℕ) (words : List ℕ) (L : Places) : Type 0 where
   pub admissible : Admissible t
   pub row-count : size .rows ≡ t .rows
-  pub top-end : top ≡ t .elements + 1
+  pub top-end : top ≡ lineTop t
   pub hyper-is : size .hyper ≡ hyperperiod t
   pub firsts : ByRow (t .rows) (lineFirst t) first
   pub seconds : ByRow (t .rows) (lineSecond t) second
   pub rates : ByRow (t .rows) (loads.rate t) rate
-  pub room : size .sets ≤ length words
-  pub list : Sets t (take (size .sets) words)
+  pub count : ℕ
+  pub listed : List ℕ
+  pub list : Sets t (take count listed)
+  pub folded : FoldedSets (t .rows) (t .elements) count (at first) listed (record { upper = upper; sets = size .sets }) words
   pub laid : PlacesOf (t .rows) (size .sets) words first L
 
 pub record Due (t : Table) (k b e : ℕ) (had : List ℕ) : Type 0 where

@@ -10,11 +10,11 @@ use lib.ListN.{length}
 use Rattle.numbers.proofs.Finite.{lowest-le, count-le}
 use Rattle.rules.specs.Bounds.{max-rows}
 use Rattle.rules.specs.Refusals.{last-number}
-use Rattle.rules.specs.TableFile.{numbers}
+use Rattle.rules.specs.TableFile.{table-mark, numbers}
 use Rattle.rules.specs.Live.{held, present, new-checks, add-checks, remove-checks, rows-file-checks, Filed}
 use Rattle.rules.proofs.Answers.{Fit, answers-fit}
 use Rattle.rules.proofs.Small.{last-place, writer-fit}
-use Rattle.table.specs.declared.Row.{Row}
+use Rattle.live.specs.declared.Entry.{Entry}
 use Rattle.live.specs.declared.Live.{Live}
 use Rattle.live.specs.declared.Changed.{Changed}
 use Rattle.live.specs.State.{liveOf, entryOf}
@@ -28,7 +28,7 @@ unfolding Fit
 new-small {M} {x} A =
     (answers-fit last-number 0 (new-checks M) _ _ (lit≤ tt, lit≤ tt, tt) (A .made .answers) .0, omega (arith, A .taken))
 
-pub add-small : {l : Live} {row : Row} {x : Changed} → AddAnswer l row x → Small x
+pub add-small : {l : Live} {row : Entry} {x : Changed} → AddAnswer l row x → Small x
 unfolding Fit
 add-small {l} {row} {x} A = (
   answers-fit last-number 0 (add-checks (liveOf l) (entryOf row)) _ _ (
@@ -40,23 +40,7 @@ add-small {l} {row} {x} A = (
       (
         lit≤ tt,
         lit≤ tt,
-        (
-          lit≤ tt,
-          lit≤ tt,
-          (
-            lit≤ tt,
-            lit≤ tt,
-            (
-              lit≤ tt,
-              lit≤ tt,
-              (
-                lit≤ tt,
-                lit≤ tt,
-                tt,
-              ),
-            ),
-          ),
-        ),
+        (lit≤ tt, lit≤ tt, (lit≤ tt, lit≤ tt, (lit≤ tt, lit≤ tt, (lit≤ tt, lit≤ tt, (lit≤ tt, lit≤ tt, tt))))),
       ),
     ),
   )
@@ -82,6 +66,6 @@ file-small v l was now n p A =
     answers-fit last-number last-place (rows-file-checks v (liveOf l) (length was)) n p (
       lit≤ tt,
       lit≤ tt,
-      writer-fit v (t .table .elements) (t .table .rows) (numbers t) (length was) (count-le max-rows (held (liveOf l))),
+      writer-fit table-mark v (t .table .elements) (t .table .rows) (numbers t) (length was) (count-le max-rows (held (liveOf l))),
     )
     (A .answers)

@@ -2,8 +2,8 @@
 // it by value, and what is handed back is stored where it was. Each answers 256 × number + place; an addition's place is the one taken.
 // The rows present are written as a table file from where they are kept.
 use live::Changed;
+use live::Entry;
 use live::Live;
-use table::Row;
 ghost use Prim.Native.Nat.{_≤_};
 ghost use Rattle.rules.specs.Bounds.{max-rows};
 ghost use Rattle.rules.specs.Refusals.{last-number};
@@ -38,14 +38,14 @@ fn made(was: Live, elements: usize) -> Kept
 fn added(was: Live, cost: u16, period: u16, first: u16, second: u16, label: u16) -> Kept
     ensures { λ r. ⌜ AddInPlace was cost period first second label (r .live) (r .code) ⌝ }
 {
-    let row = Row {
+    let entry = Entry {
         cost: cost,
         period: period,
         first: first,
         second: second,
         label: label,
     };
-    told(Live::add(was, row))
+    told(Live::add(was, entry))
 }
 
 fn removed(was: Live, place: usize) -> Kept

@@ -12,14 +12,14 @@ use Rattle.numbers.specs.Finite.{sumIn}
 use Rattle.numbers.specs.Rounding.{Rounded}
 use Rattle.rules.specs.Bounds.{max-rows, max-slots}
 use Rattle.rules.specs.Bus.{Table, overlap}
-use Rattle.rules.specs.Line.{cut, OverlapSet}
+use Rattle.rules.specs.Line.{HasCuts, OverlapSet}
 use Rattle.rules.specs.Loads.{hyperperiod, end, intervals, share, light, over}
 use Rattle.rules.specs.Planner.{Planner, due, reached}
 use Rattle.table.specs.Sound.{Sound}
 
 pub record Admissible (t : Table) : Type 0 where
   pub sound : Sound t
-  pub clear : cut t ≤ t .elements
+  pub clear : HasCuts t
   pub short : hyperperiod t ≤ max-slots
   pub heavy : (i : ℕ) → i < t .rows → ¬ T (light t i)
   pub bounded : (D : ℕ → Bool) → OverlapSet (t .rows) (overlap t) D → ¬ T (over t D)

@@ -12,10 +12,12 @@ use Rattle.numbers.proofs.Truth.{or-cases, orl, orr, of-true, of-false}
 use Rattle.rules.specs.Bus.{Table, Labelled}
 use Rattle.rules.specs.TableFile.{fileTable, fileLabelled}
 use Rattle.rules.specs.Parties.{max-limit}
-use Rattle.rules.specs.Refusals.{Check, Answers, wrong-limit, given-checks, line-checks, limit-checks, bound-checks}
+use Rattle.rules.specs.Refusals.{Check, Answers, wrong-limit, given-checks, one-ring-checks, line-checks, limit-checks, bound-checks}
 use Rattle.rules.specs.Refusals.{limited-checks, verdict-checks}
 use Rattle.rules.proofs.Answers.{None, Numbered, applied, passed, stopped, none-of, none-join, none-left, none-right, numbered-join}
+use Rattle.table.specs.Columns.{columnTable, tableOf}
 use Rattle.table.specs.declared.Answer.{Answer}
+use Rattle.table.specs.declared.columns.Columns.{Columns}
 use Rattle.outline.specs.declared.Outline.{Outline}
 use Rattle.outline.specs.Outlined.{Outlined}
 use Rattle.limits.specs.Limits.{labelled}
@@ -23,7 +25,7 @@ use Rattle.limits.proofs.Within.{limit-numbered}
 use Rattle.outline.proofs.Outlined.{line-numbered}
 use Rattle.lags.specs.Lags.{Admissible}
 use Rattle.verdict.proofs.Bound.{bound-numbered, verdict-split, admissible-of}
-use Rattle.pasted.proofs.AsGiven.{given-numbered}
+use Rattle.pasted.proofs.OneRing.{one-ring-numbered}
 use Rattle.verdict.specs.declared.Analysis.{Analysis}
 use Rattle.verdict.specs.declared.Verdict.{Verdict}
 use Rattle.verdict.specs.Verdict.{JudgedBy}
@@ -60,6 +62,12 @@ module _ (t : Table) (label : List ℕ) (our their : ℕ) where
         (analysed-after (limit-checks l our their) (bound-checks t)
         (none-of (limit-checks l our their) (k .place) (limit-numbered l our their) (rw z at K)) A)
 
+-- columns of a table with one ring
+pub one-ring-columns : (c : Columns) {t : Table} → c .rings ≡ 1 → tableOf c ≡ t
+    → columnTable (c .elements) (c .rows) 1 (c .cost) (c .period) (c .first) (c .second) (c .way) ≡ t
+one-ring-columns c e h =
+    ap (λ (r : ℕ). columnTable (c .elements) (c .rows) r (c .cost) (c .period) (c .first) (c .second) (c .way)) (sym e) ∙ h
+
 -- the same of a table with labels that columns hold
 pub within-held : (t : Table) (label : List ℕ) (u : Labelled) (our their : ℕ) → t ≡ u .table → at label ≡ u .label → {a : Analysis}
     → Analysed (within-checks (labelled t label) our their) t a → Analysed (within-checks u our their) (u .table) a
@@ -73,8 +81,12 @@ module _ (f : List ℕ) (our their : ℕ) where
   abbrev wrong : Check
   wrong = wrong-limit our their
 
+  -- 1 to 9 and 18 of a table with one ring
+  abbrev first : List Check
+  first = one-ring-checks f (given-checks f)
+
   abbrev rest : List Check
-  rest = given-checks f ++ within-checks (fileLabelled f) our their
+  rest = first ++ within-checks (fileLabelled f) our their
 
   -- 23
   pub limits-wrong : {b : Bool} → b ≡ (ltb max-limit our || ltb max-limit their) → b ≡ true → (r : Answer)
@@ -90,9 +102,9 @@ module _ (f : List ℕ) (our their : ℕ) where
     pub limits-low : (our ≤ max-limit) × (their ≤ max-limit)
     limits-low =
         let no = of-false (sym e ∙ w) in
-        let first : max-limit < our → ⊥ = λ x. no (orl (ltb max-limit our) (ltb max-limit their) (lt→ltb max-limit our x)) in
-        let second : max-limit < their → ⊥ = λ x. no (orr (ltb max-limit our) (ltb max-limit their) (lt→ltb max-limit their x)) in
-        (omega (arith, first), omega (arith, second))
+        let one : max-limit < our → ⊥ = λ x. no (orl (ltb max-limit our) (ltb max-limit their) (lt→ltb max-limit our x)) in
+        let other : max-limit < their → ⊥ = λ x. no (orr (ltb max-limit our) (ltb max-limit their) (lt→ltb max-limit their x)) in
+        (omega (arith, one), omega (arith, other))
 
     not-wrong : wrong .applies → ⊥
     not-wrong = ⊎-elim (λ x. omega (arith, x, limits-low .0)) (λ x. omega (arith, x, limits-low .1))
@@ -101,19 +113,19 @@ module _ (f : List ℕ) (our their : ℕ) where
     after = within-checks (fileLabelled f) our their
 
     -- 1 to 9 or 18
-    pub limits-given : (r : Answer) → r .number ≢ 0 → Answers (given-checks f) (r .number) (r .place)
+    pub limits-given : (r : Answer) → r .number ≢ 0 → Answers first (r .number) (r .place)
         → Analysed (limited-checks f our their) (fileTable f) (blank r)
     unfolding limited-checks
     limits-given r h a =
         analysed-refused r h
-        (passed wrong rest (r .number) (r .place) not-wrong (stopped (given-checks f) after (r .number) (r .place) h a))
+        (passed wrong rest (r .number) (r .place) not-wrong (stopped first after (r .number) (r .place) h a))
 
     -- past these its table's analysis within limits is the file's
-    pub limits-past : (p : ℕ) → Answers (given-checks f) 0 p → {a : Analysis}
+    pub limits-past : (p : ℕ) → Answers first 0 p → {a : Analysis}
         → Analysed (within-checks (fileLabelled f) our their) (fileTable f) a → Analysed (limited-checks f our their) (fileTable f) a
     unfolding limited-checks
     limits-past p g {a} A =
-        let B = analysed-after (given-checks f) after (none-of (given-checks f) p (given-numbered f) g) A in
+        let B = analysed-after first after (none-of first p (one-ring-numbered f) g) A in
         record {
           answers = passed wrong rest (a .outline .answer .number) (a .outline .answer .place) not-wrong (B .answers);
           found = B .found;
@@ -133,7 +145,7 @@ module _ (f : List ℕ) (our their : ℕ) where
   unfolding limited-checks Numbered
   limited-numbered = (
     omega arith,
-    numbered-join (given-checks f) (line-checks t ++ (limits ++ bound-checks t)) (given-numbered f)
+    numbered-join (one-ring-checks f (given-checks f)) (line-checks t ++ (limits ++ bound-checks t)) (one-ring-numbered f)
         (numbered-join (line-checks t) (limits ++ bound-checks t) (line-numbered t)
         (numbered-join limits (bound-checks t) (limit-numbered (fileLabelled f) our their) (bound-numbered t))),
   )
@@ -142,9 +154,10 @@ module _ (f : List ℕ) (our their : ℕ) where
   pub limited-none : None (limited-checks f our their) → None (verdict-checks f)
   unfolding limited-checks None
   limited-none n =
-      let past = none-right (given-checks f) (line-checks t ++ (limits ++ bound-checks t)) (n .1) in
+      let given : None (given-checks f ++ (line-checks t ++ (limits ++ bound-checks t))) = n .1 .1 .1 in
+      let past = none-right (given-checks f) (line-checks t ++ (limits ++ bound-checks t)) given in
       rw (verdict-split f)
-      (none-join (given-checks f) (table-checks t) (none-left (given-checks f) (line-checks t ++ (limits ++ bound-checks t)) (n .1))
+      (none-join (given-checks f) (table-checks t) (none-left (given-checks f) (line-checks t ++ (limits ++ bound-checks t)) given)
       (none-join (line-checks t) (bound-checks t) (none-left (line-checks t) (limits ++ bound-checks t) past)
       (none-right limits (bound-checks t) (none-right (line-checks t) (limits ++ bound-checks t) past))))
 

@@ -1,5 +1,5 @@
 // The verdict with a limit for each of two parties (#108): 23 before all else, and 21 and 22 between the outline's refusals and those of
-// the bound.
+// the bound. One ring alone is taken.
 use limits::Limits;
 use table::Answer;
 use table::Table;
@@ -17,10 +17,10 @@ ghost use Rattle.table.specs.Sound.{Sound};
 ghost use Rattle.table.specs.Columns.{columnTable};
 ghost use Rattle.limits.specs.Limits.{labelled};
 ghost use Rattle.verdict.specs.Analysed.{blank, Analysed};
-ghost use Rattle.verdict.specs.Verdict.{numberOf, placeOf, cutOf, intervalOf, hyperOf, loadOf, setsOf};
+ghost use Rattle.verdict.specs.Verdict.{numberOf, placeOf, cutOf, otherOf, intervalOf, hyperOf, loadOf, setsOf};
 ghost use Rattle.limited.specs.Limited.{within-checks};
 
-// The analysis of a table with labels: 10 and 11, then 21 and 22, then 13 and 14.
+// The analysis of a table with labels and one ring: 10 and 11, then 21 and 22, then 13 and 14.
 fn analysis_within<'a>(
     elements: usize,
     rows: usize,
@@ -28,31 +28,35 @@ fn analysis_within<'a>(
     period: &'a [u16; Table::ROWS],
     first: &'a [u8; Table::ROWS],
     second: &'a [u8; Table::ROWS],
+    way: &'a [u8; Table::ROWS],
     label: &'a [u16; Table::ROWS],
     limits: Limits,
 ) -> Analysis
-    requires { ⌜ Sound (columnTable elements rows (now cost) (now period) (now first) (now second))
+    requires { ⌜ Sound (columnTable elements rows 1 (now cost) (now period) (now first) (now second) (now way))
         × (limits .ours ≤ max-limit) × (limits .theirs ≤ max-limit) ⌝ }
     ensures { λ r. ⌜ Analysed
         (within-checks
-        (labelled (columnTable elements rows (now (cost .entry)) (now (period .entry)) (now (first .entry)) (now (second .entry)))
+        (labelled
+        (columnTable elements rows 1 (now (cost .entry)) (now (period .entry)) (now (first .entry)) (now (second .entry))
+        (now (way .entry)))
         (now (label .entry)))
         (limits .ours) (limits .theirs))
-        (columnTable elements rows (now (cost .entry)) (now (period .entry)) (now (first .entry)) (now (second .entry))) r ⌝ }
+        (columnTable elements rows 1 (now (cost .entry)) (now (period .entry)) (now (first .entry)) (now (second .entry))
+        (now (way .entry))) r ⌝ }
 {
-    let outline = outline::outline_of(elements, rows, period, first, second);
+    let outline = outline::outline_of(elements, rows, 1, period, first, second, way);
     let answer = outline.answer;
     if answer.number != Answer::DONE {
         return Analysis::refused(answer);
     }
     let hyper = outline.time.hyper;
     let rate = weights::rates(rows, hyper, cost, period);
-    let segments = ring::lay_segments(elements, rows, first, second);
+    let segments = ring::lay_segments(elements, rows, first, second, way);
     let kept = limits::kept_within(elements, rows, hyper, &rate, &segments, label, limits);
     if kept.number != Answer::DONE {
         return Analysis::refused(kept);
     }
-    verdict::weighed(elements, rows, cost, period, outline, rate)
+    verdict::weighed(rows, cost, period, outline, rate)
 }
 
 // A limit is above 1,000 thousandths.
@@ -69,7 +73,7 @@ pub fn analyse(file: &[u8], limits: Limits) -> Analysis
     if are_wrong(limits) {
         return Analysis::refused(Answer::at(Answer::WRONG_LIMIT, 0));
     }
-    let found = pasted::given(file);
+    let found = pasted::given_one_ring(file);
     let answer = found.answer;
     if answer.number != Answer::DONE {
         return Analysis::refused(answer);
@@ -81,6 +85,7 @@ pub fn analyse(file: &[u8], limits: Limits) -> Analysis
         &found.columns.period,
         &found.columns.first,
         &found.columns.second,
+        &found.columns.way,
         &found.labels,
         limits,
     )
@@ -89,7 +94,7 @@ pub fn analyse(file: &[u8], limits: Limits) -> Analysis
 // Whether the bus can carry the table of a file within limits.
 pub fn judge(file: &[u8], limits: Limits) -> Verdict
     ensures { λ r. ⌜ Judged (limitedAsk (now (file .entry)) (limits .ours) (limits .theirs)) (numberOf r) (placeOf r)
-        (cutOf r) (intervalOf r) (hyperOf r) (loadOf r) (setsOf r) ⌝ }
+        (cutOf r) (otherOf r) (intervalOf r) (hyperOf r) (loadOf r) (setsOf r) ⌝ }
 {
     verdict::verdict_of(analyse(file, limits))
 }

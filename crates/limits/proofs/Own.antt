@@ -17,7 +17,7 @@ use Rattle.numbers.proofs.Truth.{same, le-or-lt}
 use Rattle.numbers.proofs.Finite.{sum-split, sum-eq, sumIn-eq, sumIn-scaled, only-and}
 use Rattle.numbers.proofs.Lists.{at-append-right, at-map}
 use Rattle.numbers.proofs.Divisors.{Positive, lcm-multiple, lcm-divides}
-use Rattle.rules.specs.Bus.{Table, Labelled, uses}
+use Rattle.rules.specs.Bus.{Table, Labelled, clockwise, uses}
 use Rattle.rules.specs.Loads.{hyperperiod, rate}
 use Rattle.table.specs.Sound.{Sound}
 use Rattle.lags.proofs.Intervals.{period-positive, period-divides, hyperperiod-positive}
@@ -70,7 +70,7 @@ picked-below (suc n) p k l =
 
 -- ---- the party's rows in its own table and in the table of all rows
 
-module _ (p : Party) (u : Labelled) (S : Sound (u .table)) where
+module _ (p : Party) (u : Labelled) (S : Sound (u .table)) (one : u .table .rings ≡ 1) where
   abbrev t : Table
   t = u .table
 
@@ -107,7 +107,9 @@ module _ (p : Party) (u : Labelled) (S : Sound (u .table)) where
 
   alone-uses : (k s : ℕ) → k < length rows → uses alone k s ≡ uses t (at rows k) s
   unfolding own uses
-  alone-uses k s l = rw (at-map (t .first) rows k l, at-map (t .second) rows k l) refl
+  alone-uses k s l =
+      let clock : t .way (at rows k) ≡ clockwise = omega (arith, one, S .row (at rows k) (row-below k l) .way-known) in
+      rw (at-map (t .first) rows k l, at-map (t .second) rows k l, clock) refl
 
   alone-positive : Positive (alone .rows) (alone .period)
   alone-positive k l =

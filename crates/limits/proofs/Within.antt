@@ -22,7 +22,7 @@ use Rattle.rules.specs.Refusals.{Check, Answers, over-limit, segment-checks, li
 use Rattle.rules.proofs.Answers.{None, Numbered, stopped, joined, answered, none-of, numbered-join}
 use Rattle.rules.proofs.Answers.{single-none, single-numbered, single-stopped}
 use Rattle.table.specs.declared.Answer.{Answer}
-use Rattle.ring.specs.Route.{segments}
+use Rattle.ring.specs.Route.{rowSegments}
 use Rattle.lags.proofs.Intervals.{rate-le}
 use Rattle.limits.specs.Limits.{party, Small, weightOn, Limited, OverAt, FirstOf}
 use Rattle.limits.proofs.Own.{over-among}
@@ -37,7 +37,7 @@ module _ {t : Table} {M n h : ℕ} {rate words : List ℕ} (L : Limited t M n h 
   }
 
   uses-is : (i s : ℕ) → i < t .rows → s < t .elements → bit (at words i) s ≡ uses t i (suc s)
-  unfolding segments uses
+  unfolding rowSegments uses
   uses-is i s l k =
       ap (λ (w : ℕ). bit w s) (L .segments-is .row i l) ∙ bit-word (t .elements) _ s
       ∙ ap (λ (c : Bool). c && uses t i (suc s)) (is-true (ltb s (t .elements)) (lt→ltb s (t .elements) k))
@@ -61,7 +61,7 @@ module _ {t : Table} {M n h : ℕ} {rate words : List ℕ} (L : Limited t M n h 
 
     over-is : (s : ℕ) → s < t .elements → overLimit alone limit (suc s) ≡ test s
     over-is s k =
-        over-among (party b) (record { table = t; label = at label }) (L .sound) limit (suc s)
+        over-among (party b) (record { table = t; label = at label }) (L .sound) (L .one-ring) limit (suc s)
         ∙ ap₂ (λ (x y : ℕ). ltb (limit * x) (1000 * y)) (sym (L .hyper-is)) (sym (weight-is s k))
 
     alone-elements : alone .elements ≡ t .elements

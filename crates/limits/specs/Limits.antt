@@ -4,7 +4,7 @@
 --   Small n xs         no rate of n rows is above 4096
 --   weightOn n ..      what a party's rows among n weigh on the segment whose bit is s
 --   labelled t xs      the table t with the labels xs
---   Limited t ..       the table t is sound, its h is short, and its rates and words of segments are these
+--   Limited t ..       the table t is sound, has one ring and a short h, and its rates and words of segments are these
 --   OverAt n M s r     r answers with number n and segment s, counted from 0, or with 0 where s is none of M
 --   FirstOf a b r      r is a where a refuses, else b
 use mathlib.Core.Path.{_≡_}
@@ -41,12 +41,13 @@ labelled t label = record { table = t; label = at label }
 
 pub record Limited (t : Table) (elements rows hyper : ℕ) (rate segments : List ℕ) : Type 0 where
   pub sound : Sound t
+  pub one-ring : t .rings ≡ 1
   pub elements-is : elements ≡ t .elements
   pub rows-is : rows ≡ t .rows
   pub hyper-is : hyper ≡ hyperperiod t
   pub short : hyperperiod t ≤ max-slots
   pub rate-is : ByRow (t .rows) (loads.rate t) rate
-  pub segments-is : ByRow (t .rows) (λ i. route.segments (t .elements) (t .first i) (t .second i)) segments
+  pub segments-is : ByRow (t .rows) (λ i. route.rowSegments (t .elements) (t .way i) (t .first i) (t .second i)) segments
 
 pub record OverAt (number elements s : ℕ) (r : Answer) : Type 0 where
   pub over : s < elements → (r .number ≡ number) × (r .place ≡ s + 1)

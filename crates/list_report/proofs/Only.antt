@@ -9,7 +9,7 @@ use Rattle.rules.specs.ElementList.{listHeader, entrySize, listBytes}
 use Rattle.rules.specs.Refusals.{list-file-checks}
 use Rattle.rules.specs.Text.{Line, text, textOf}
 use Rattle.rules.specs.Program.{list, ListPrinted, refused, shown}
-use Rattle.rules.specs.Calls.{fileAsk, ListMade}
+use Rattle.rules.specs.Calls.{fileAsk, oneRingAsk, ListMade}
 use Rattle.rules.proofs.Answers.{answers-only}
 use Rattle.planner.proofs.Only.{plan-only}
 use Rattle.maker.proofs.Answered.{made-only}
@@ -38,12 +38,13 @@ make-only f e {was} {now} {then} {m} {n} A B = go (ℕ-discrete (A .number) 0)
     plans : A .plan ≡ B .plan
     plans = plan-only (fileAsk f) (A .answer) (B .answer) blank (A .plan) (B .plan) (A .planned) (B .planned) .1
 
-    made : ListMade (fileAsk f) (B .plan) e listBytes was (A .between) (A .number) (A .place) (A .hyper) (A .entries)
-    made = subst (λ (ws : List ℕ). ListMade (fileAsk f) ws e listBytes was (A .between)
-        (A .number) (A .place) (A .hyper) (A .entries)) plans (A .made)
+    made : ListMade (oneRingAsk f) (B .plan) e listBytes was (A .between) (A .number) (A .place) (A .hyper) (A .entries)
+    made = subst (λ (ws : List ℕ). ListMade (oneRingAsk f) ws e listBytes was (A .between)
+        (A .number) (A .place) (A .hyper) (A .entries)) plans
+        (A .made)
 
     same : (A .number ≡ B .number) × (A .place ≡ B .place) × (A .hyper ≡ B .hyper) × (A .entries ≡ B .entries) × (A .between ≡ B .between)
-    same = made-only (fileAsk f) (B .plan) e listBytes was (A .between) (B .between) _ _ _ _ _ _ _ _ made (B .made)
+    same = made-only (oneRingAsk f) (B .plan) e listBytes was (A .between) (B .between) _ _ _ _ _ _ _ _ made (B .made)
 
     go : Dec (A .number ≡ 0) → (now ≡ then) × (m ≡ n)
     go (yes z) =

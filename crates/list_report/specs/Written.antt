@@ -15,7 +15,7 @@ use Rattle.rules.specs.Bounds.{max-slots}
 use Rattle.rules.specs.ElementList.{listHeader, entrySize, listBytes}
 use Rattle.rules.specs.Text.{Line, text}
 use Rattle.rules.specs.Program.{list}
-use Rattle.rules.specs.Calls.{fileAsk, ListMade}
+use Rattle.rules.specs.Calls.{fileAsk, oneRingAsk, ListMade}
 use Rattle.table.specs.declared.Answer.{Answer}
 use Rattle.planner.specs.Answers.{PlanAnswer}
 use Rattle.decimal.specs.Puts.{max-line, Puts, PutsLine}
@@ -42,6 +42,6 @@ pub record ListWrittenFor (f : List ℕ) (e : ℕ) (was now : List ℕ) (size : 
   pub hyper : ℕ
   pub entries : ℕ
   pub between : List ℕ
-  pub made : ListMade (fileAsk f) plan e listBytes was between number place hyper entries
+  pub made : ListMade (oneRingAsk f) plan e listBytes was between number place hyper entries
   pub done : number ≡ 0 → (now ≡ between) × (size ≡ listHeader + entrySize * entries)
   pub refused : number ≢ 0 → PutsLine (list number place) was 0 now size

@@ -159,19 +159,6 @@ pub fn put_head(element: u8, hyper: u16, out: &mut [u8])
 
 // ---- checks
 
-fn is_marked(file: &[u8]) -> bool
-    requires { ⌜ 3 ≤ length (now file) ⌝ }
-    ensures { λ r. ⌜ Decides (mark (now (file .entry)) ≡ list-mark) r ⌝ }
-{
-    if file[0] != Head::MARK[0] {
-        return false;
-    }
-    if file[1] != Head::MARK[1] {
-        return false;
-    }
-    file[2] == Head::MARK[2]
-}
-
 fn in_range(x: u64, most: u64) -> bool
     ensures { λ r. ⌜ Decides ((1 ≤ x) × (x ≤ most)) r ⌝ }
 {
@@ -266,7 +253,7 @@ fn head_fault(file: &[u8]) -> u32
     if file.len() < Head::BYTES {
         return Answer::SHORT_FILE;
     }
-    if !is_marked(file) {
+    if !table::begins(file, Head::MARK[2]) {
         return Answer::WRONG_MARK;
     }
     if read16(file, Head::VERSION_AT) != Head::VERSION {

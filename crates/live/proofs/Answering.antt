@@ -17,11 +17,11 @@ use Rattle.rules.specs.Live.{InOrder, held, free, common, placed, repeated, add
 use Rattle.rules.specs.Live.{places, empty, off-live, repeated-row, no-free-place, long-with, no-row-there}
 use Rattle.rules.proofs.Answers.{None, applied, passed, done, stopped, joined}
 use Rattle.table.specs.declared.Answer.{Answer}
-use Rattle.table.specs.declared.Row.{Row}
 use Rattle.table.specs.Rows.{single}
 use Rattle.time.proofs.Periods.{capped-some, capped-none}
 use Rattle.live.specs.declared.Live.{Live}
-use Rattle.live.specs.State.{liveOf, entryOf, blank, unchanged, PutIn}
+use Rattle.live.specs.declared.Entry.{Entry}
+use Rattle.live.specs.State.{liveOf, entryOf, rowOf, blank, unchanged, PutIn}
 use Rattle.live.specs.Answers.{Sized, NewAnswer, AddAnswer, RemoveAnswer}
 use Rattle.live.proofs.Kept.{fewer-common}
 use Rattle.live.proofs.State.{blank-is, blank-sized, put-is, put-sized, put-common}
@@ -70,7 +70,7 @@ some-free l h t =
 
 -- ---- the denominator after a change
 
-module _ {l r : Live} {k : ℕ} {row : Row} (Z : Sized l) (h : k < max-rows) (P : PutIn l k row r) where
+module _ {l r : Live} {k : ℕ} {row : Entry} (Z : Sized l) (h : k < max-rows) (P : PutIn l k row r) where
   pub put-long : r .denominator ≡ 0 → max-slots < common (placed (liveOf l) k (entryOf row))
   put-long z = omega (arith, capped-none (P .denominator) z (common-positive (at (r .period))), put-common Z h P)
 
@@ -81,7 +81,7 @@ module _ {l r : Live} {k : ℕ} {row : Row} (Z : Sized l) (h : k < max-rows) (P 
 
 -- ---- an addition
 
-module _ (l : Live) (row : Row) where
+module _ (l : Live) (row : Entry) where
   abbrev L : rules.Live
   L = liveOf l
 
@@ -107,15 +107,15 @@ module _ (l : Live) (row : Row) where
   add-off Z n = add-refused 15 (λ z. omega (arith, z)) Z (applied (off-live L) _ 15 0 n refl refl)
 
   module _ (Z : Sized l) (O : InOrder L) where
-    in-order : (n p : ℕ) → Answers (faults (single (l .elements) row) 0 ++ rest) n p → Answers (add-checks L e) n p
+    in-order : (n p : ℕ) → Answers (faults (single (l .elements) 1 (rowOf row)) 0 ++ rest) n p → Answers (add-checks L e) n p
     in-order n p a = passed (off-live L) _ n p (λ z. z O) a
 
-    pub add-fault : (n : ℕ) → n ≢ 0 → Answers (faults (single (l .elements) row) 0) n 0 → AddAnswer l row (unchanged l n)
-    add-fault n h a = add-refused n h Z (in-order n 0 (stopped (faults (single (l .elements) row) 0) rest n 0 h a))
+    pub add-fault : (n : ℕ) → n ≢ 0 → Answers (faults (single (l .elements) 1 (rowOf row)) 0) n 0 → AddAnswer l row (unchanged l n)
+    add-fault n h a = add-refused n h Z (in-order n 0 (stopped (faults (single (l .elements) 1 (rowOf row)) 0) rest n 0 h a))
 
-    module _ (N : None (faults (single (l .elements) row) 0)) where
+    module _ (N : None (faults (single (l .elements) 1 (rowOf row)) 0)) where
       sound : (n p : ℕ) → Answers rest n p → Answers (add-checks L e) n p
-      sound n p a = in-order n p (joined (faults (single (l .elements) row) 0) rest n p N a)
+      sound n p a = in-order n p (joined (faults (single (l .elements) 1 (rowOf row)) 0) rest n p N a)
 
       add-repeated : T (repeated L e) → AddAnswer l row (unchanged l 18)
       add-repeated t = add-refused 18 (λ z. omega (arith, z)) Z (sound 18 0 (applied (repeated-row L e) _ 18 0 t refl refl))

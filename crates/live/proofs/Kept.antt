@@ -1,7 +1,7 @@
 -- A live table that keeps the rules keeps them through every call.
 use mathlib.Core.Path.{_≡_, refl, sym, ap, _∙_}
 use mathlib.Core.Logic.{_⊎_, inl, inr, ⊎-elim, _≢_}
-use mathlib.Core.Bool.{Bool, _&&_, cond}
+use mathlib.Core.Bool.{Bool, true, _&&_, cond}
 use Prim.Native.Nat.{ℕ, _≤_, _<_, _∣_, max}
 use native.Mathlib.Nat.{le-of-dvd, one-dvd}
 use native.Mathlib.Decide.{ℕ-discrete}
@@ -44,12 +44,30 @@ of-three {a} {b} {c} {x} {y} {z} t =
     let q = fst (eqb a x && eqb b y) (eqb c z) t in
     (eqb→eq a x (fst (eqb a x) (eqb b y) q), eqb→eq b y (snd (eqb a x) (eqb b y) q), eqb→eq c z (snd (eqb a x && eqb b y) (eqb c z) t))
 
+-- all rows run on the one ring
+module _ (l : Live) where
+  pub pasted-by : {i j : ℕ} → j < i → l .first j ≡ l .first i → l .second j ≡ l .second i → l .period j ≡ l .period i
+      → T (pasted (places l) i)
+  unfolding pasted
+  pasted-by {i} {j} h f s p =
+      any-of i _ j h
+      (both (eqb (l .first j) (l .first i) && eqb (l .second j) (l .second i) && eqb (l .period j) (l .period i)) true (three-of f s p) tt)
+
+  by-pasted : (i : ℕ) → T (pasted (places l) i)
+      → (j : ℕ) × (j < i) × ((l .first j ≡ l .first i) × (l .second j ≡ l .second i) × (l .period j ≡ l .period i))
+  unfolding pasted
+  by-pasted i t =
+      let w = least i _ t in
+      let j = w .0 in
+      let same = eqb (l .first j) (l .first i) && eqb (l .second j) (l .second i) && eqb (l .period j) (l .period i) in
+      (j, w .1, of-three (fst same true (w .2)))
+
 -- ---- rows that pass 7 to 9
 
 -- the same row in another table
-sound-as : {t u : Table} {i j : ℕ} → u .elements ≡ t .elements → u .cost j ≡ t .cost i → u .period j ≡ t .period i → u .first j ≡ t .first i
-    → u .second j ≡ t .second i → SoundRow t i → SoundRow u j
-sound-as {t} {u} {i} {j} e c p f s S = record {
+sound-as : {t u : Table} {i j : ℕ} → u .elements ≡ t .elements → u .rings ≡ t .rings → u .way j ≡ t .way i → u .cost j ≡ t .cost i
+    → u .period j ≡ t .period i → u .first j ≡ t .first i → u .second j ≡ t .second i → SoundRow t i → SoundRow u j
+sound-as {t} {u} {i} {j} e r w c p f s S = record {
   first-low = rw f (S .first-low);
   first-high = rw (f, e) (S .first-high);
   second-low = rw s (S .second-low);
@@ -59,6 +77,7 @@ sound-as {t} {u} {i} {j} e c p f s S = record {
   period-high = rw p (S .period-high);
   cost-low = rw c (S .cost-low);
   cost-high = rw (c, p) (S .cost-high);
+  way-known = rw (r, w) (S .way-known);
 }
 
 pub passes : (t : Table) (i : ℕ) → SoundRow t i → Answers (faults t i) 0 0
@@ -93,7 +112,7 @@ module _ {l : Live} (S : Seated l) (k : ℕ) {e : Entry} (A : Allowed l e) where
         label = but-same (l .label) k _ ∙ ap (λ (x : Entry). x .label) v;
       }))
       (λ (R : SoundRow (alone l e) 0). inr (passes (places after) k
-      (sound-as {t = alone l e} {u = places after} {i = 0} {j = k} refl (but-same (l .cost) k _) (but-same (l .period) k _)
+      (sound-as {t = alone l e} {u = places after} {i = 0} {j = k} refl refl refl (but-same (l .cost) k _) (but-same (l .period) k _)
       (but-same (l .first) k _) (but-same (l .second) k _) R)))
       A
 
@@ -112,8 +131,8 @@ module _ {l : Live} (S : Seated l) (k : ℕ) {e : Entry} (A : Allowed l e) where
             label = but-other (l .label) k _ i n ∙ B .label;
           }))
           (λ (B : Answers (faults (places l) i) 0 0). inr (passes (places after) i
-          (sound-as {t = places l} {u = places after} {i = i} {j = i} refl (but-other (l .cost) k _ i n) (but-other (l .period) k _ i n)
-          (but-other (l .first) k _ i n) (but-other (l .second) k _ i n) (passed (places l) i B))))
+          (sound-as {t = places l} {u = places after} {i = i} {j = i} refl refl refl (but-other (l .cost) k _ i n)
+          (but-other (l .period) k _ i n) (but-other (l .first) k _ i n) (but-other (l .second) k _ i n) (passed (places l) i B))))
           (S .place i h)
 
 module _ {l : Live} (S : Seated l) (k : ℕ) {e : Entry} (W : Welcome l e) where
@@ -123,7 +142,6 @@ module _ {l : Live} (S : Seated l) (k : ℕ) {e : Entry} (W : Welcome l e) where
   -- two rows of m with the same ends and period
   put-twice : (i j : ℕ) → i < max-rows → j < i → m .first j ≡ m .first i → m .second j ≡ m .second i → m .period j ≡ m .period i
       → 0 < m .period i → ⊥
-  unfolding pasted
   put-twice i j h lt f s p held′ = go (ℕ-discrete i k) (ℕ-discrete j k)
     where
       go : Dec (i ≡ k) → Dec (j ≡ k) → ⊥
@@ -144,17 +162,14 @@ module _ {l : Live} (S : Seated l) (k : ℕ) {e : Entry} (W : Welcome l e) where
           (omega (arith, held′, but-other (l .period) k (e .period) i n, z))
       go (no n) (no o) =
           S .single i h (lt→ltb 0 (l .period i) (omega (arith, held′, but-other (l .period) k (e .period) i n)))
-          (any-of i _ j lt
-          (three-of (sym (but-other (l .first) k _ j o) ∙ f ∙ but-other (l .first) k _ i n)
+          (pasted-by l lt (sym (but-other (l .first) k _ j o) ∙ f ∙ but-other (l .first) k _ i n)
           (sym (but-other (l .second) k _ j o) ∙ s ∙ but-other (l .second) k _ i n)
-          (sym (but-other (l .period) k _ j o) ∙ p ∙ but-other (l .period) k _ i n)))
+          (sym (but-other (l .period) k _ j o) ∙ p ∙ but-other (l .period) k _ i n))
 
   put-single : (i : ℕ) → i < max-rows → T (held m i) → T (pasted (places m) i) → ⊥
-  unfolding pasted
   put-single i h t p =
-      let j = least i _ p in
-      let q = of-three (j .2) in
-      put-twice i (j .0) h (j .1) (q .0) (q .1) (q .2) (ltb→lt 0 _ t)
+      let q = by-pasted m i p in
+      put-twice i (q .0) h (q .1) (q .2 .0) (q .2 .1) (q .2 .2) (ltb→lt 0 _ t)
 
   pub put-in-order : common (placed l k e) ≤ max-slots → InOrder m
   unfolding sumOver
@@ -251,11 +266,11 @@ unfolding None
 admitted l e O n = record {
   order = O;
   welcome = record {
-    allowed = inr (row-sound (alone l e) 0 (n .1 .0, (n .1 .1 .0, (n .1 .1 .1 .0, tt))));
-    new = not-repeated l e (n .1 .1 .1 .1 .0);
+    allowed = inr (row-sound (alone l e) 0 (n .1 .0, (n .1 .1 .0, (n .1 .1 .1 .0, (n .1 .1 .1 .1 .0, tt)))));
+    new = not-repeated l e (n .1 .1 .1 .1 .1 .0);
   };
-  room = n .1 .1 .1 .1 .1 .0;
-  short = omega (arith, n .1 .1 .1 .1 .1 .1 .0);
+  room = n .1 .1 .1 .1 .1 .1 .0;
+  short = omega (arith, n .1 .1 .1 .1 .1 .1 .1 .0);
 }
 
 added-in-order : (l m : Live) (e : Entry) (number place taken : ℕ) → InOrder l → Added l e m number place taken → InOrder m

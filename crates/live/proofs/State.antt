@@ -12,16 +12,15 @@ use Rattle.numbers.proofs.Truth.{le-or-lt}
 use Rattle.numbers.proofs.Lists.{zeros-at}
 use Rattle.rules.specs.Bounds.{max-elements, max-rows, max-slots}
 use Rattle.rules.specs.Live as rules
-use Rattle.rules.specs.Bus.{Table}
+use Rattle.rules.specs.Bus.{Table, clockwise}
 use Rattle.rules.specs.Refusals.{Answers, faults}
 use Rattle.rules.specs.Live.{Blank, Seated, places, vacant, but, common, commonOf, sumOver, placed, put}
-use Rattle.table.specs.declared.Row.{Row}
-use Rattle.table.specs.Columns.{columnTable}
 use Rattle.time.specs.Time.{Capped}
-use Rattle.tally.specs.Tally.{Passing}
+use Rattle.tally.specs.Tally.{columnPlaces, Passing}
 use Rattle.live.specs.declared.Live.{Live}
+use Rattle.live.specs.declared.Entry.{Entry}
 use Rattle.seats.specs.Seats.{Zeros}
-use Rattle.live.specs.State.{liveOf, entryOf, blank, NewSeat, PutIn}
+use Rattle.live.specs.State.{liveOf, entryOf, rowOf, blank, NewSeat, PutIn}
 use Rattle.live.specs.Answers.{Sized}
 use Rattle.live.proofs.Kept.{but-same, but-other, passed, put-place}
 
@@ -106,32 +105,34 @@ at-set xs k v l = fun-ext (λ i. go i (ℕ-discrete i k))
     go i (no n) = getD-set-other xs k i v 0 n ∙ sym (but-other (at xs) k v i n)
 
 -- its ends fit a byte
-pub new-seat-fits : (M : ℕ) (row : Row) → M ≤ max-elements → NewSeat M row → (row .first ≤ max-elements) × (row .second ≤ max-elements)
+pub new-seat-fits : (M : ℕ) (row : Entry) → M ≤ max-elements → NewSeat M row → (row .first ≤ max-elements) × (row .second ≤ max-elements)
 new-seat-fits M row h N =
     ⊎-elim (λ R. (omega (arith, R .first-high, h), omega (arith, R .second-high, h)))
     (λ z. (omega (arith, z .first), omega (arith, z .second))) N
 
 -- the columns after it
-pub put-passing : (l : Live) (k : ℕ) (row : Row) → Sized l → k < max-rows → Seated (liveOf l) → NewSeat (l .elements) row
-    → Passing (columnTable (l .elements) max-rows (set (l .cost) k (row .cost)) (set (l .period) k (row .period))
-    (set (l .first) k (row .first)) (set (l .second) k (row .second)))
+pub put-passing : (l : Live) (k : ℕ) (row : Entry) → Sized l → k < max-rows → Seated (liveOf l) → NewSeat (l .elements) row
+    → Passing (columnPlaces (l .elements) (set (l .cost) k (row .cost)) (set (l .period) k (row .period)) (set (l .first) k (row .first))
+    (set (l .second) k (row .second)))
 put-passing l k row Z h S N =
     subst Passing
     (λ j. record {
       elements = l .elements;
       rows = max-rows;
+      rings = 1;
       cost = sym (at-set (l .cost) k (row .cost) (omega (arith, Z .cost))) j;
       period = sym (at-set (l .period) k (row .period) (omega (arith, Z .period))) j;
       first = sym (at-set (l .first) k (row .first) (omega (arith, Z .first))) j;
       second = sym (at-set (l .second) k (row .second) (omega (arith, Z .second))) j;
+      way = λ i. clockwise;
     })
     (live-passing (put (liveOf l) k (entryOf row)) (S .high) (put-place S k {e = entryOf row} (⊎-elim (λ R. inr R) (λ z. inl (
     vacant-is z)) N)))
   where
-    vacant-is : Zeros row → entryOf row ≡ vacant
+    vacant-is : Zeros (rowOf row) → entryOf row ≡ vacant
     vacant-is z = λ j. record { cost = z .cost j; period = z .period j; first = z .first j; second = z .second j; label = z .label j }
 
-module _ {l r : Live} {k : ℕ} {row : Row} (Z : Sized l) (h : k < max-rows) (P : PutIn l k row r) where
+module _ {l r : Live} {k : ℕ} {row : Entry} (Z : Sized l) (h : k < max-rows) (P : PutIn l k row r) where
   cost-is : at (r .cost) ≡ but (at (l .cost)) k (row .cost)
   cost-is = ap at (P .cost) ∙ at-set (l .cost) k (row .cost) (omega (arith, Z .cost))
 

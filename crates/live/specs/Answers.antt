@@ -2,7 +2,7 @@
 --
 --   Sized l                    the arrays of l have 64 places, its sums are 32
 --   NewAnswer M r              new, from M
---   AddAnswer l row r          an addition to l
+--   AddAnswer l e r            an addition to l
 --   RemoveAnswer l k r         a removal from l
 --
 -- Each holds what #109 says of the call. Only one answer fits (proofs/Only).
@@ -12,8 +12,8 @@ use Prim.Native.Nat.{ℕ}
 use lib.ListN.{length}
 use Rattle.rules.specs.Bounds.{max-elements, max-rows}
 use Rattle.rules.specs.Live.{Made, Added, Removed}
-use Rattle.table.specs.declared.Row.{Row}
 use Rattle.live.specs.declared.Live.{Live}
+use Rattle.live.specs.declared.Entry.{Entry}
 use Rattle.live.specs.declared.Changed.{Changed}
 use Rattle.live.specs.State.{liveOf, entryOf}
 
@@ -31,8 +31,8 @@ pub record NewAnswer (M : ℕ) (r : Changed) : Type 0 where
   pub size : Sized (r .live)
 
 -- A refusal hands back the very live table it was given.
-pub record AddAnswer (l : Live) (row : Row) (r : Changed) : Type 0 where
-  pub added : Added (liveOf l) (entryOf row) (liveOf (r .live)) (r .answer .number) (r .answer .place) (r .taken)
+pub record AddAnswer (l : Live) (e : Entry) (r : Changed) : Type 0 where
+  pub added : Added (liveOf l) (entryOf e) (liveOf (r .live)) (r .answer .number) (r .answer .place) (r .taken)
   pub same : r .answer .number ≢ 0 → r .live ≡ l
   pub size : Sized (r .live)
 

@@ -7,7 +7,7 @@ use mathlib.Core.Path.{_≡_}
 use Prim.Native.Nat.{ℕ, _<_}
 use Rattle.rules.specs.Bounds.{max-elements}
 use Rattle.rules.specs.Live.{Live, Entry, InOrder, Made, Added, Removed, Reached, common, sumOver}
-use Rattle.table.specs.declared.Row.{Row}
+use Rattle.live.specs.declared.Entry.{Entry as LiveEntry}
 use Rattle.live.specs.declared.Live.{Live as LiveTable}
 use Rattle.live.specs.declared.Changed.{Changed}
 use Rattle.live.specs.Answers.{NewAnswer, AddAnswer, RemoveAnswer}
@@ -25,7 +25,7 @@ abbrev pub One-new : Type 0
 One-new = (M : ℕ) (r s : Changed) → NewAnswer M r → NewAnswer M s → r ≡ s
 
 abbrev pub One-addition : Type 0
-One-addition = (l : LiveTable) (row : Row) (r s : Changed) → AddAnswer l row r → AddAnswer l row s → r ≡ s
+One-addition = (l : LiveTable) (e : LiveEntry) (r s : Changed) → AddAnswer l e r → AddAnswer l e s → r ≡ s
 
 abbrev pub One-removal : Type 0
 One-removal = (l : LiveTable) (k : ℕ) (r s : Changed) → RemoveAnswer l k r → RemoveAnswer l k s → r ≡ s

@@ -15,7 +15,7 @@ ghost use Rattle.numbers.specs.Finite.{lowest};
 ghost use Rattle.numbers.specs.Lists.{at};
 ghost use Rattle.rules.specs.Bounds.{max-elements, max-rows};
 ghost use Rattle.rules.specs.Live.{InOrder};
-ghost use Rattle.live.specs.State.{liveOf, NewSeat, PutIn, unchanged};
+ghost use Rattle.live.specs.State.{liveOf, rowOf, NewSeat, PutIn, unchanged};
 ghost use Rattle.live.specs.Answers.{NewAnswer, AddAnswer, RemoveAnswer};
 
 // The sum of segment s + 1 stands at s.
@@ -29,6 +29,28 @@ pub struct Live {
     pub label: [u16; Table::ROWS],
     pub denominator: u64,
     pub sums: [u64; Table::ELEMENTS],
+}
+
+// A row that is to be put in a place, with its label. A live table has one ring, so no direction is told.
+pub struct Entry {
+    pub cost: u16,
+    pub period: u16,
+    pub first: u16,
+    pub second: u16,
+    pub label: u16,
+}
+
+fn clockwise(entry: Entry) -> Row
+    ensures { λ r. ⌜ r ≡ rowOf entry ⌝ }
+{
+    Row {
+        cost: entry.cost,
+        period: entry.period,
+        first: entry.first,
+        second: entry.second,
+        way: 0,
+        label: entry.label,
+    }
 }
 
 // What a call answers: number and place, the place that a row has taken, and the live table after it.
@@ -124,28 +146,27 @@ impl Live {
             &live.period,
             &live.first,
             &live.second,
-            &live.label,
         );
         are_same(&live.sums, &sums)
     }
 
-    // Place `k` holds the row, and denominator and sums are worked out afresh. The denominator is 0 where it would be above 4096.
-    fn put(self, k: usize, row: Row) -> Live
-        requires { ⌜ (k < max-rows) × InOrder (liveOf self) × NewSeat (self .elements) row ⌝ }
-        ensures { λ r. ⌜ PutIn self k row r ⌝ }
+    // Place `k` holds the entry, and denominator and sums are worked out afresh. The denominator is 0 where it would be above 4096.
+    fn put(self, k: usize, entry: Entry) -> Live
+        requires { ⌜ (k < max-rows) × InOrder (liveOf self) × NewSeat (self .elements) entry ⌝ }
+        ensures { λ r. ⌜ PutIn self k entry r ⌝ }
     {
         let mut cost = self.cost;
         let mut period = self.period;
         let mut first = self.first;
         let mut second = self.second;
         let mut label = self.label;
-        cost[k] = row.cost;
-        period[k] = row.period;
-        first[k] = row.first as u8;
-        second[k] = row.second as u8;
-        label[k] = row.label;
+        cost[k] = entry.cost;
+        period[k] = entry.period;
+        first[k] = entry.first as u8;
+        second[k] = entry.second as u8;
+        label[k] = entry.label;
         let d = tally::denominator_of(&period);
-        let sums = tally::sums_of(self.elements, d, &cost, &period, &first, &second, &label);
+        let sums = tally::sums_of(self.elements, d, &cost, &period, &first, &second);
         Live {
             elements: self.elements,
             cost: cost,
@@ -186,15 +207,16 @@ impl Live {
         }
     }
 
-    // A row is put in the lowest free place.
-    pub fn add(self, row: Row) -> Changed
-        ensures { λ r. ⌜ AddAnswer self row r ⌝ }
+    // An entry is put in the lowest free place.
+    pub fn add(self, entry: Entry) -> Changed
+        ensures { λ r. ⌜ AddAnswer self entry r ⌝ }
     {
         let live = self;
         if !Live::is_in_order(live) {
             return Live::refused(live, Answer::OFF_STATE);
         }
-        let number = table::row_fault(live.elements, row);
+        let row = clockwise(entry);
+        let number = table::row_fault(live.elements, 1, row);
         if number != Answer::DONE {
             return Live::refused(live, number);
         }
@@ -205,7 +227,7 @@ impl Live {
         if other != Answer::DONE {
             return Live::refused(live, other);
         }
-        let after = Live::put(live, k, row);
+        let after = Live::put(live, k, entry);
         if after.denominator == 0 {
             return Live::refused(live, Answer::LONG_HYPERPERIOD);
         }
@@ -230,7 +252,7 @@ impl Live {
         if table::slots_at(&live.period, k) == 0 {
             return Live::refused(live, Answer::NO_ROW_THERE);
         }
-        let free = Row {
+        let free = Entry {
             cost: 0,
             period: 0,
             first: 0,

@@ -1,21 +1,21 @@
 -- The file of a live table's rows is a table that passes 1 to 9, 18 and 11.
 use mathlib.Core.Path.{_≡_, refl, sym, ap, subst, _∙_}
 use mathlib.Core.Logic.{inl, inr, ⊎-elim}
-use mathlib.Core.Bool.{Bool}
+use mathlib.Core.Bool.{Bool, _&&_}
 use mathlib.Core.List.{List}
 use Prim.Native.Nat.{ℕ, zero, suc, _≤_, _<_, _∣_, max}
 use native.Mathlib.Nat.{le-of-dvd, not-suc-le-zero}
 use native.Mathlib.Omega.{arith}
-use lib.Dec.{T, ltb, ltb→lt}
+use lib.Dec.{T, eqb, ltb, ltb→lt}
 use lib.ListN.{length}
 use Rattle.numbers.specs.Finite.{sum, count, any}
 use Rattle.numbers.specs.Divisors.{lcm}
-use Rattle.numbers.proofs.Truth.{decide, le-or-lt, is-true, is-false}
-use Rattle.numbers.proofs.Finite.{least, any-of, only-true, only-false, count-mono}
+use Rattle.numbers.proofs.Truth.{fst, decide, le-or-lt, is-true, is-false}
+use Rattle.numbers.proofs.Finite.{least, only-true, only-false, count-mono}
 use Rattle.numbers.proofs.Divisors.{Positive, lcm-divides, lcm-multiple}
 use Rattle.rules.specs.Bounds.{max-rows, max-slots}
 use Rattle.rules.specs.Bus.{Labelled, pasted}
-use Rattle.rules.specs.TableFile.{fileTable, fileLabelled, memoryLabelled, numbers, bytes}
+use Rattle.rules.specs.TableFile.{table-mark, ringsOf, fileTable, fileLabelled, memoryLabelled, numbers, bytes}
 use Rattle.rules.specs.Loads.{hyperperiod}
 use Rattle.rules.specs.Refusals.{Answers, pasted-row, file-checks, pasted-checks, given-checks, version-checks}
 use Rattle.rules.specs.Live.{Live, InOrder, Seated, places, held, placeOf, commonOf, common, present, rows-file-checks, Filed}
@@ -23,10 +23,10 @@ use Rattle.rules.proofs.Answers.{None, Numbered, answered, none-join, single-no
 use Rattle.rules.proofs.Calls.{call-none}
 use Rattle.round_trip.proofs.RoundTrip.{bytes-alike, memory-back, writer-numbered, written-none, written-back, written-passes}
 use Rattle.tally.proofs.Tally.{one-positive}
-use Rattle.live.proofs.Kept.{three-of, of-three}
+use Rattle.live.proofs.Kept.{pasted-by, of-three}
 use Rattle.live.proofs.Order.{common-positive}
 use Rattle.live_file.specs.Promises.{Rows-are-given}
-use Rattle.live_file.proofs.Present.{place-of-count}
+use Rattle.live_file.proofs.Present.{place-of-count, present-told}
 
 -- ---- the place of a row
 
@@ -77,12 +77,11 @@ module _ (l : Live) (O : InOrder l) where
   -- no row is there twice
   apart : (j k : ℕ) → j < t .table .rows → k < j → t .table .first k ≡ t .table .first j → t .table .second k ≡ t .table .second j
       → t .table .period k ≡ t .table .period j → ⊥
-  unfolding pasted
   apart j k m n f s p =
       let S = stands (held l) j m in
       let R = stands (held l) k (omega arith) in
       O .rows .single (placeOf (held l) j) (S .within) (S .holds)
-      (any-of (placeOf (held l) j) _ (placeOf (held l) k) (in-turn (held l) j k n S R) (three-of f s p))
+      (pasted-by l (in-turn (held l) j k n S R) f s p)
 
   period-low : (j : ℕ) → j < t .table .rows → 0 < t .table .period j
   period-low j m = ltb→lt 0 (t .table .period j) (stands (held l) j m .holds)
@@ -113,18 +112,18 @@ module _ (v : ℕ) (l : Live) (O : InOrder l) where
   abbrev f : List ℕ
   f = bytes v s
 
-  module _ (a : None (version-checks v M n xs)) where
+  module _ (a : None (version-checks 1 v M n xs)) where
     few : fileTable f .rows ≡ n
-    few = written-back v M n xs a .rows
+    few = written-back 1 v M n xs (inl refl) a .rows
 
     first-is : (j : ℕ) → j < n → fileTable f .first j ≡ present l .table .first j
-    first-is j m = written-back v M n xs a .first j m ∙ memory-back (present l) .first j m
+    first-is j m = written-back 1 v M n xs (inl refl) a .first j m ∙ memory-back (present l) (present-told l) .first j m
 
     second-is : (j : ℕ) → j < n → fileTable f .second j ≡ present l .table .second j
-    second-is j m = written-back v M n xs a .second j m ∙ memory-back (present l) .second j m
+    second-is j m = written-back 1 v M n xs (inl refl) a .second j m ∙ memory-back (present l) (present-told l) .second j m
 
     period-is : (j : ℕ) → j < n → fileTable f .period j ≡ present l .table .period j
-    period-is j m = written-back v M n xs a .period j m ∙ memory-back (present l) .period j m
+    period-is j m = written-back 1 v M n xs (inl refl) a .period j m ∙ memory-back (present l) (present-told l) .period j m
 
     unpasted : (j : ℕ) → j < fileTable f .rows → T (pasted (fileTable f) j) → ⊥
     unfolding pasted
@@ -132,7 +131,9 @@ module _ (v : ℕ) (l : Live) (O : InOrder l) where
         let k = least j _ p in
         let i : j < n = omega (arith, few) in
         let h : k .0 < n = omega (arith, k .1) in
-        let e = of-three (k .2) in
+        let same = eqb (fileTable f .first (k .0)) (fileTable f .first j) && eqb (fileTable f .second (k .0)) (fileTable f .second j)
+        && eqb (fileTable f .period (k .0)) (fileTable f .period j) in
+        let e = of-three (fst same (eqb (fileTable f .way (k .0)) (fileTable f .way j)) (k .2)) in
         apart l O j (k .0) i (k .1) (sym (first-is (k .0) h) ∙ e .0 ∙ first-is j i) (sym (second-is (k .0) h) ∙ e .1 ∙ second-is j i)
         (sym (period-is (k .0) h) ∙ e .2 ∙ period-is j i)
 
@@ -140,7 +141,8 @@ module _ (v : ℕ) (l : Live) (O : InOrder l) where
     unfolding given-checks pasted-checks
     given =
         answered (given-checks f)
-        (none-join (file-checks f) _ (written-passes v M n xs a) (single-none (pasted-row (fileTable f)) (fileTable f .rows) unpasted))
+        (none-join (file-checks f) _ (written-passes 1 v M n xs (inl refl) a)
+        (single-none (pasted-row (fileTable f)) (fileTable f .rows) unpasted))
 
     short : hyperperiod (fileTable f) ≤ max-slots
     unfolding hyperperiod
@@ -152,11 +154,12 @@ module _ (v : ℕ) (l : Live) (O : InOrder l) where
         omega (arith, le-of-dvd (common-positive (l .period)) d, O .denominator, O .short)
 
 pub rows-are-given : Rows-are-given
-unfolding Numbered None
+unfolding Numbered None ringsOf
 rows-are-given v l was now place O c =
     let t : Labelled = present l in
     let none : None (rows-file-checks v l (length was)) =
-    call-none {p = place} (omega arith, writer-numbered v (t .table .elements) (t .table .rows) (numbers t) (length was)) c in
-    let a = written-none v (t .table .elements) (t .table .rows) (numbers t) (length was) (none .1) in
-    subst (λ (f : List ℕ). Answers (given-checks f) 0 0 × (hyperperiod (fileTable f) ≤ max-slots)) (bytes-alike v (memory-back t))
+    call-none {p = place} (omega arith, writer-numbered table-mark v (t .table .elements) (t .table .rows) (numbers t) (length was)) c in
+    let a = written-none table-mark v (t .table .elements) (t .table .rows) (numbers t) (length was) (none .1) .1 in
+    subst (λ (f : List ℕ). Answers (given-checks f) 0 0 × (hyperperiod (fileTable f) ≤ max-slots))
+    (bytes-alike v (memory-back t (present-told l)))
     (given v l O a, short v l O a)

@@ -17,16 +17,17 @@ use Rattle.numbers.proofs.Finite.{lowest-is, only-true, only-false, sum-next, c
 use Rattle.numbers.proofs.Lists.{Filled, filled-start}
 use Rattle.numbers.proofs.Codec.{filled-rows, filled-row}
 use Rattle.rules.specs.Bounds.{max-rows}
-use Rattle.rules.specs.TableFile.{rowNumbers, memoryRow, numbers}
+use Rattle.rules.specs.Bus.{clockwise}
+use Rattle.rules.specs.TableFile.{table-mark, ringsOf, rowNumbers, wayIn, labelIn, lastOf, memoryRow, numbers}
 use Rattle.rules.specs.Calls.{lent, Written}
 use Rattle.rules.specs.Live.{Live, InOrder, placeOf, present, off-live, Filed}
 use Rattle.rules.proofs.Answers.{applied, passed}
 use Rattle.rules.proofs.Calls.{lent-take, filled-lent}
 use Rattle.table.specs.declared.Row.{Row}
-use Rattle.table.specs.Rows.{IsRow, inMemory}
-use Rattle.table.specs.Columns.{columnLabelled}
+use Rattle.table.specs.Rows.{inMemory}
+use Rattle.table.specs.Columns.{HasRow}
 use Rattle.reader.proofs.Calls.{memory-row}
-use Rattle.round_trip.proofs.RoundTrip.{bytes-alike, memory-back, numbers-length}
+use Rattle.round_trip.proofs.RoundTrip.{Told, bytes-alike, memory-back, numbers-length}
 use Rattle.live_file.specs.Present.{presentIn, PutPresent}
 
 -- ---- counting the places that hold rows
@@ -92,18 +93,19 @@ module _ {cost period first second label : List ℕ} where
       here : placeOf (holds period) n ≡ i
       here = ap (placeOf (holds period)) (P .counted) ∙ place-of-count (holds period) i l held
 
-      pub packing-held : {r : Row} {out′ : List ℕ} → IsRow (columnLabelled 0 max-rows cost period first second label) i r
-          → out′ ≡ sets out (rowNumbers * n) (inMemory r) → Packing cost period first second label was out′ (n + 1) (i + 1)
+      pub packing-held : {r : Row} {out′ : List ℕ} → HasRow cost period first second i clockwise (at label i) r
+          → out′ ≡ sets out (rowNumbers * n) (inMemory 1 r) → Packing cost period first second label was out′ (n + 1) (i + 1)
       packing-held {r} {out′} R o = record {
         few = omega arith;
         fewer = omega (arith, P .fewer);
         counted = ap (λ (x : ℕ). x + 1) (P .counted) ∙ sym (count-held (holds period) i held);
-        filled = filled-row {i = n} [] (row cost period first second label) (inMemory r) (rowNumbers * (n + 1)) (P .filled) o
+        filled = filled-row {i = n} [] (row cost period first second label) (inMemory 1 r) (rowNumbers * (n + 1)) (P .filled) o
             (memory-row {t = presentIn cost period first second label} {i = n} (record {
               cost = R .cost ∙ ap (at cost) (sym here);
               period = R .period ∙ ap (at period) (sym here);
               first = R .first ∙ ap (at first) (sym here);
               second = R .second ∙ ap (at second) (sym here);
+              way = R .way;
               label = R .label ∙ ap (at label) (sym here);
             }))
             (omega arith) (omega (arith, P .fewer, room));
@@ -119,6 +121,11 @@ module _ {cost period first second label : List ℕ} where
 
 -- ---- what is answered
 
+-- on one ring a row's last number is its label
+pub present-told : (l : Live) → Told (present l)
+unfolding wayIn labelIn lastOf
+present-told l i h = (refl, refl)
+
 module _ (v : ℕ) (l : Live) (was : List ℕ) where
   pub file-off : (InOrder l → ⊥) → Filed v l was was 15 0
   file-off n = record {
@@ -128,12 +135,13 @@ module _ (v : ℕ) (l : Live) (was : List ℕ) where
   }
 
   pub file-written : (n : ℕ) (xs now : List ℕ) (m p : ℕ) → InOrder l → n ≡ present l .table .rows → xs ≡ numbers (present l)
-      → Written v (l .elements) n xs was now m p → Filed v l was now m p
+      → Written table-mark v (l .elements) n xs was now m p → Filed v l was now m p
+  unfolding ringsOf
   file-written n xs now m p O e q w =
-      let c : Written v (l .elements) (present l .table .rows) (numbers (present l)) was now m p = rw (e, q) at w in
+      let c : Written table-mark v (l .elements) (present l .table .rows) (numbers (present l)) was now m p = rw (e, q) at w in
       record {
         answers = passed (off-live l) _ m p (λ z. z O) (c .answers);
-        done = λ z. c .done z ∙ ap (λ (b : List ℕ). lent b was) (bytes-alike v (memory-back (present l)));
+        done = λ z. c .done z ∙ ap (λ (b : List ℕ). lent b was) (bytes-alike v (memory-back (present l) (present-told l)));
         refused = c .refused;
       }
 

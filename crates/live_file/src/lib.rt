@@ -28,7 +28,7 @@ fn put_present<'a>(
     while i < Table::ROWS {
         if table::slots_at(period, i) != 0 {
             reader::put_numbers(
-                table::row_at(cost, period, first, second, label, i),
+                table::row_at(cost, period, first, second, i, 0, label[i]),
                 Table::ROW_NUMBERS * rows,
                 out,
             );
@@ -56,7 +56,7 @@ pub fn write_file(live: Live, version: u64, out: &mut [u8]) -> Answer
         &mut numbers,
     );
     let size = Table::ROW_NUMBERS * rows;
-    writer::write(
+    writer::write_plain(
         version,
         live.elements as u64,
         rows as u64,

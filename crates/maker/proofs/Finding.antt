@@ -13,7 +13,8 @@ use Rattle.rules.specs.TableFile.{fileTable, fileLabelled}
 use Rattle.rules.specs.Loads.{hyperperiod}
 use Rattle.rules.specs.ElementList.{elementMoves, BadWord}
 use Rattle.rules.specs.Refusals.{Check, Answers, wrong-element, bad-word, short-output}
-use Rattle.rules.specs.Refusals.{file-checks, pasted-checks, given-checks, verdict-checks}
+use Rattle.rules.specs.Refusals.{header-checks, file-checks, pasted-checks, given-checks, verdict-checks}
+use Rattle.rules.specs.Calls.{oneRingAsk}
 use Rattle.rules.proofs.Answers.{
   None,
   Numbered,
@@ -39,9 +40,10 @@ use Rattle.table.specs.Columns.{ByRow, tableOf}
 use Rattle.table.specs.declared.Answer.{Answer}
 use Rattle.decoding.specs.Decoded.{Decodes}
 use Rattle.decoding.specs.declared.Decoded.{Decoded}
-use Rattle.ring.specs.Route.{segments}
+use Rattle.decoding.proofs.OneRing.{OtherMark, other-mark, own-mark, one-numbered, one-rest, one-rings}
+use Rattle.ring.specs.Route.{rowSegments}
 use Rattle.verdict.specs.Analysed.{table-checks}
-use Rattle.verdict.proofs.Bound.{verdict-split, admissible-of}
+use Rattle.verdict.proofs.Bound.{verdict-numbered, verdict-split, admissible-of}
 use Rattle.moves.specs.Words.{Laid, LowestBad, endingAt, planMoves, Clear}
 use Rattle.moves.proofs.Made.{plan-moves, clean-clear}
 use Rattle.maker.specs.declared.Found.{Found}
@@ -129,8 +131,9 @@ pub found-none : (t : Table) (plan : List ℕ) (e n p : ℕ) → n ≡ 0 → Ans
 unfolding Numbered
 found-none t plan e n p z a = none-of (early-checks [] t plan e) p (early-numbered t plan e [] tt) (rw z at a)
 
-pub laid-of : (t : Table) (xs : List ℕ) → ByRow (t .rows) (λ i. segments (t .elements) (t .first i) (t .second i)) xs → Laid t xs
-laid-of t xs B = record { row = B .row }
+pub laid-of : {t : Table} (xs : List ℕ) → Sound t → t .rings ≡ 1
+    → ByRow (t .rows) (λ i. rowSegments (t .elements) (t .way i) (t .first i) (t .second i)) xs → Laid t xs
+laid-of xs S one B = record { way = λ i l. omega (arith, one, S .row i l .way-known); row = B .row }
 
 module _ {t : Table} (S : Sound t) (plan : List ℕ) (e : ℕ) where
   abbrev into : ℕ
@@ -143,63 +146,79 @@ module _ {t : Table} (S : Sound t) (plan : List ℕ) (e : ℕ) where
   unfolding elementMoves
   moves-of = plan-moves S e (hyperperiod t) plan
 
-  pub clear-of : None (early-checks [] t plan e) → Clear into from (hyperperiod t) plan
-  clear-of a = clean-clear S e (hyperperiod t) plan (words-clean t plan e a)
+  pub clear-of : t .rings ≡ 1 → None (early-checks [] t plan e) → Clear into from (hyperperiod t) plan
+  clear-of one a = clean-clear S e one (hyperperiod t) plan (words-clean t plan e a)
 
   pub long-of : None (early-checks [] t plan e) → hyperperiod t ≤ length plan
   long-of a = ⊎-elim (λ l. l) (λ l. absurd (plan-long t plan e a l)) (le-or-lt (hyperperiod t) (length plan))
 
-  pub found-ready : (r : Found) → None (early-checks [] t plan e)
+  pub found-ready : (r : Found) → t .rings ≡ 1 → None (early-checks [] t plan e)
       → Answers (early-checks [] t plan e) (r .answer .number) (r .answer .place) → r .hyper ≡ hyperperiod t → r .hyper ≤ max-slots
       → r .into ≡ into → r .from ≡ from → r .entries ≡ length (planMoves (r .into) (r .from) (r .hyper) plan)
       → r .entries ≤ 2 * r .hyper → Finds [] t plan e r
-  found-ready r a q h l i f n m = record {
+  found-ready r one a q h l i f n m = record {
     answers = q;
     ready = λ z. let same : planMoves (r .into) (r .from) (r .hyper) plan ≡ elementMoves t e plan = rw (h, i, f) moves-of in record {
       hyper = h;
       short = l;
       long = omega (arith, h, long-of a);
       element-small = omega (arith, element-there t plan e a .1, S .elements-high);
-      clear = rw (h, i, f) (clear-of a);
+      clear = rw (h, i, f) (clear-of one a);
       moves = same;
       entries = n ∙ ap length same;
       few = omega arith;
     };
   }
 
--- ---- of a file
+-- ---- of a file, after the verdict's checks with 2 for a table of two rings
+
+abbrev judging : List ℕ → List Check
+judging f = oneRingAsk f .checks
+
+pub judged-numbered : (f : List ℕ) → Numbered (judging f)
+judged-numbered f = one-numbered f (verdict-checks f) (verdict-numbered f)
+
+pub own-verdict : (f : List ℕ) → (OtherMark f → ⊥) → (n p : ℕ) → Answers (verdict-checks f) n p → Answers (judging f) n p
+unfolding verdict-checks given-checks file-checks header-checks
+own-verdict f own n p a = own-mark f _ own n p a
 
 module _ (f : List ℕ) (plan : List ℕ) (e : ℕ) where
   abbrev t : Table
   t = fileTable f
 
-  -- the verdict refuses
-  pub verdict-stops : (a : Answer) (r : Found) → r .answer ≡ a → a .number ≢ 0 → Answers (verdict-checks f) (a .number) (a .place)
-      → Finds (verdict-checks f) t plan e r
+  -- one of these refuses
+  pub verdict-stops : (a : Answer) (r : Found) → r .answer ≡ a → a .number ≢ 0 → Answers (judging f) (a .number) (a .place)
+      → Finds (judging f) t plan e r
   verdict-stops a r q h A =
       found-refused a r q h
-      (rw (after t plan e (verdict-checks f)) (stopped (verdict-checks f) (early-checks [] t plan e) (a .number) (a .place) h A))
+      (rw (after t plan e (judging f)) (stopped (judging f) (early-checks [] t plan e) (a .number) (a .place) h A))
 
-  module _ (none : None (verdict-checks f)) where
-    pub admitted-table : Sound t × (hyperperiod t ≤ max-slots)
-    admitted-table = let A = admissible-of f none in (A .sound, A .short)
+  pub mark-stops : (a : Answer) (r : Found) → r .answer ≡ a → (a .number ≡ 2) × (a .place ≡ 0) → OtherMark f → Finds (judging f) t plan e r
+  mark-stops a r q z w =
+      verdict-stops a r q (λ n. let y : ⊥ = omega (arith, n, z .0) in y) (rw (z .0, z .1) (other-mark f (verdict-checks f) w))
+
+  module _ (none : None (judging f)) where
+    pub admitted-table : Sound t × (hyperperiod t ≤ max-slots) × (t .rings ≡ 1)
+    admitted-table =
+        let A = admissible-of f (one-rest f (verdict-checks f) none) in (A .sound, A .short, one-rings f (verdict-checks f) none)
 
     -- its columns hold the table
     pub admitted-columns : (d : Decoded) → Decodes (file-checks f) (fileLabelled f) d → tableOf (d .columns) ≡ t
     unfolding verdict-checks given-checks
     admitted-columns d D =
         let files : None (file-checks f) =
-        none-left (file-checks f) (pasted-checks t) (none-left (given-checks f) (table-checks t) (rw (verdict-split f) at none)) in
+        none-left (file-checks f) (pasted-checks t)
+        (none-left (given-checks f) (table-checks t) (rw (verdict-split f) at (one-rest f (verdict-checks f) none))) in
         let z = answers-only (file-checks f) (d .answer .number) 0 (d .answer .place) 0 (D .answers) (answered (file-checks f) files) in
         D .passed (z .0) .table
 
     -- what is found of it is found of the file's
     pub admitted-finds : (d : Decoded) → Decodes (file-checks f) (fileLabelled f) d → (r : Found)
-        → Finds [] (tableOf (d .columns)) plan e r → Finds (verdict-checks f) t plan e r
+        → Finds [] (tableOf (d .columns)) plan e r → Finds (judging f) t plan e r
     admitted-finds d D r F =
         let G : Finds [] t plan e r = subst (λ (u : Table). Finds [] u plan e r) (admitted-columns d D) F in
         record {
-          answers = rw (after t plan e (verdict-checks f))
-              (joined (verdict-checks f) (early-checks [] t plan e) (r .answer .number) (r .answer .place) none (G .answers));
+          answers = rw (after t plan e (judging f))
+              (joined (judging f) (early-checks [] t plan e) (r .answer .number) (r .answer .place) none (G .answers));
           ready = G .ready;
         }

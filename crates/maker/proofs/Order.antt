@@ -196,7 +196,7 @@ module _ (t : Table) (e : ℕ) (ws : List ℕ) where
       (split x (wayMoves (t .rows) (t .second) e s (at ws s) 0) (wayMoves (t .rows) (t .first) e s (at ws s) 1) (w .2))
 
   -- in words that aren't bad there is at most one each way, so the moves stand in order
-  module _ (S : Sound t) (clean : (s : ℕ) → s < hyperperiod t → BadWord t (at ws s) → ⊥) where
+  module _ (S : Sound t) (one : t .rings ≡ 1) (clean : (s : ℕ) → s < hyperperiod t → BadWord t (at ws s) → ⊥) where
     way-order : (end : ℕ → ℕ) → ((i j : ℕ) → i < t .rows → j < t .rows → end i ≡ end j → T (overlap t i j)) → (s d : ℕ) → s < hyperperiod t
         → ((i : ℕ) → i < t .rows → T (bit (at ws s) i) → end i ≡ e → IsMove t e ws (move s i d))
         → Between (IsMove t e ws) (2 * s + d) (2 * s + d + 1) (wayMoves (t .rows) end e s (at ws s) d)
@@ -230,7 +230,7 @@ module _ (t : Table) (e : ℕ) (ws : List ℕ) where
         let c : 2 * s + 1 + 1 ≡ 2 * s + 2 = omega arith in
         join (IsMove t e ws) (2 * s) (2 * s + 1) (2 * s + 2) (wayMoves (t .rows) (t .second) e s (at ws s) 0)
         (wayMoves (t .rows) (t .first) e s (at ws s) 1)
-        (rw (b, a) at (way-order (t .second) (second-overlap S) s 0 l
+        (rw (b, a) at (way-order (t .second) (second-overlap S one) s 0 l
         (λ i m h q. record { slot = l; row = m; moves = h; end = inl (refl, q) })))
-        (rw c at (way-order (t .first) (first-overlap S) s 1 l
+        (rw c at (way-order (t .first) (first-overlap S one) s 1 l
         (λ i m h q. record { slot = l; row = m; moves = h; end = inr (refl, q) }))))

@@ -31,9 +31,9 @@ use Rattle.rules.specs.ElementList.{
   IsMove,
   BadWord,
 }
-use Rattle.rules.specs.Refusals.{Check, Answers, wrong-element, wrong-entry, bad-word, short-output, verdict-checks, maker-checks}
+use Rattle.rules.specs.Refusals.{Check, Answers, wrong-element, wrong-entry, bad-word, short-output, maker-checks}
 use Rattle.rules.specs.Refusals.{list-file-checks, list-memory-checks}
-use Rattle.rules.specs.Calls.{lent, Ask, fileAsk, ListMade}
+use Rattle.rules.specs.Calls.{lent, Ask, oneRingAsk, ListMade}
 use Rattle.rules.proofs.Answers.{
   None,
   Numbered,
@@ -52,14 +52,15 @@ use Rattle.lags.proofs.Intervals.{hyperperiod-positive}
 use Rattle.lists.proofs.Heads.{Right, right-memory}
 use Rattle.lists.proofs.RoundTrip.{right-alike, numbers-length, bytes-length, memory-back, bytes-pass}
 use Rattle.lists.specs.Entries.{rank}
-use Rattle.verdict.proofs.Bound.{verdict-numbered, admissible-of}
 use Rattle.maker.specs.Finding.{word-checks}
 use Rattle.maker.specs.Promises.{Exactly, Made-exactly, All-twice, Made-few, Made-passes, First-words}
+use Rattle.maker.proofs.Finding.{judged-numbered, admitted-table}
 use Rattle.maker.proofs.Order.{has, ascends, bounded, all, only, ordered}
 
 -- ---- of the moves in words that aren't bad
 
-module _ (t : Table) (e : ℕ) (ws : List ℕ) (S : Sound t) (clean : (s : ℕ) → s < hyperperiod t → BadWord t (at ws s) → ⊥) where
+module _ (t : Table) (e : ℕ) (ws : List ℕ) (S : Sound t) (one : t .rings ≡ 1)
+    (clean : (s : ℕ) → s < hyperperiod t → BadWord t (at ws s) → ⊥) where
   abbrev made : ElementList
   made = movesList t e ws
 
@@ -67,10 +68,10 @@ module _ (t : Table) (e : ℕ) (ws : List ℕ) (S : Sound t) (clean : (s : ℕ) 
   xs = elementMoves t e ws
 
   is-move : (k : ℕ) → k < length xs → IsMove t e ws (made .entry k)
-  is-move k l = has (IsMove t e ws) 0 (2 * hyperperiod t) xs (ordered t e ws S clean) k l
+  is-move k l = has (IsMove t e ws) 0 (2 * hyperperiod t) xs (ordered t e ws S one clean) k l
 
   rises : (j k : ℕ) → j < k → k < length xs → rank (made .entry j) < rank (made .entry k)
-  rises j k m l = ascends (IsMove t e ws) 0 (2 * hyperperiod t) xs (ordered t e ws S clean) j k m l
+  rises j k m l = ascends (IsMove t e ws) 0 (2 * hyperperiod t) xs (ordered t e ws S one clean) j k m l
 
   pub exactly : Exactly t e ws
   exactly = record { moves = is-move; all = all t e ws; once = once }
@@ -84,7 +85,7 @@ module _ (t : Table) (e : ℕ) (ws : List ℕ) (S : Sound t) (clean : (s : ℕ) 
           (λ h. absurd (apart k j h l (sym q))) (le-or-lt j k)
 
   pub few : length xs ≤ 2 * hyperperiod t
-  few = let z = bounded (IsMove t e ws) 0 (2 * hyperperiod t) xs (ordered t e ws S clean) in omega (arith, z)
+  few = let z = bounded (IsMove t e ws) 0 (2 * hyperperiod t) xs (ordered t e ws S one clean) in omega (arith, z)
 
   way-small : (k : ℕ) → k < length xs → made .entry k .way ≤ 1
   way-small k l = ⊎-elim (λ q. omega (arith, q .0)) (λ q. omega (arith, q .0)) (is-move k l .end)
@@ -179,28 +180,28 @@ module _ (a : Ask) (plan : List ℕ) (e room wants : ℕ) where
         (none-right (a .checks ++ (wrong-element (a .table) e ∷ [])) bad words-none)
 
 module _ (f plan : List ℕ) (e : ℕ) (form : ElementList → List ℕ) (was now : List ℕ) (p h k : ℕ)
-    (M : ListMade (fileAsk f) plan e form was now 0 p h k) where
+    (M : ListMade (oneRingAsk f) plan e form was now 0 p h k) where
   abbrev t : Table
   t = fileTable f
 
   abbrev wants : ℕ
   wants = length (form (movesList t e plan))
 
-  none : None (maker-checks (verdict-checks f) t plan e (length was) wants)
-  none = call-none (maker-numbered (fileAsk f) plan e (length was) wants (verdict-numbered f)) M
+  none : None (maker-checks (oneRingAsk f .checks) t plan e (length was) wants)
+  none = call-none (maker-numbered (oneRingAsk f) plan e (length was) wants (judged-numbered f)) M
 
-  admitted : Sound t × (hyperperiod t ≤ max-slots)
-  admitted = let A = admissible-of f (before-none (fileAsk f) plan e (length was) wants none) in (A .sound, A .short)
+  admitted : Sound t × (hyperperiod t ≤ max-slots) × (t .rings ≡ 1)
+  admitted = admitted-table f plan e (before-none (oneRingAsk f) plan e (length was) wants none)
 
   clean-words : (s : ℕ) → s < hyperperiod t → BadWord t (at plan s) → ⊥
-  clean-words = words-clean (fileAsk f) plan e (length was) wants none
+  clean-words = words-clean (oneRingAsk f) plan e (length was) wants none
 
   pub made-right : Right (movesList t e plan)
   made-right =
-      right t e plan (admitted .0) clean-words (element-there (fileAsk f) plan e (length was) wants none) (admitted .1)
+      right t e plan (admitted .0) (admitted .2) clean-words (element-there (oneRingAsk f) plan e (length was) wants none) (admitted .1)
 
   pub made-moves : Exactly t e plan
-  made-moves = exactly t e plan (admitted .0) clean-words
+  made-moves = exactly t e plan (admitted .0) (admitted .2) clean-words
 
 pub made-exactly : Made-exactly
 made-exactly f plan e form was now p h k M = made-moves f plan e form was now p h k M
@@ -209,20 +210,20 @@ pub made-few : Made-few
 made-few f plan e form was now p h k M =
     let d = M .done refl in
     let A = admitted f plan e form was now p h k M in
-    let l = few (fileTable f) e plan (A .0) (clean-words f plan e form was now p h k M) in
+    let l = few (fileTable f) e plan (A .0) (A .2) (clean-words f plan e form was now p h k M) in
     (omega (arith, d .0, d .1, l), omega (arith, d .0, A .1))
 
 pub made-entries : (f plan : List ℕ) (e : ℕ) (form : ElementList → List ℕ) (was now : List ℕ) (n p h k : ℕ) → n ≡ 0
-    → ListMade (fileAsk f) plan e form was now n p h k → k ≤ 2 * max-slots
+    → ListMade (oneRingAsk f) plan e form was now n p h k → k ≤ 2 * max-slots
 made-entries f plan e form was now n p h k z M =
-    let N : ListMade (fileAsk f) plan e form was now 0 p h k = rw z at M in
+    let N : ListMade (oneRingAsk f) plan e form was now 0 p h k = rw z at M in
     let l = made-few f plan e form was now p h k N in
     omega (arith, l .0, l .1)
 
 pub made-passes : Made-passes
 made-passes = record { numbers = numbers; bytes = bytes }
   where
-    numbers : (f plan : List ℕ) (e : ℕ) (was now : List ℕ) (p h k : ℕ) → ListMade (fileAsk f) plan e listNumbers was now 0 p h k
+    numbers : (f plan : List ℕ) (e : ℕ) (was now : List ℕ) (p h k : ℕ) → ListMade (oneRingAsk f) plan e listNumbers was now 0 p h k
         → Answers (list-memory-checks e h (take (entryNumbers * k) now)) 0 0
     numbers f plan e was now p h k M =
         let l : ElementList = movesList (fileTable f) e plan in
@@ -235,7 +236,7 @@ made-passes = record { numbers = numbers; bytes = bytes }
         (right-memory e (l .hyper) (listNumbers l) (numbers-length l ∙ ap (λ (n : ℕ). entryNumbers * n) (sym (q .entries)))
         (right-alike q (made-right f plan e listNumbers was now p h k M))))
 
-    bytes : (f plan : List ℕ) (e : ℕ) (was now : List ℕ) (p h k : ℕ) → ListMade (fileAsk f) plan e listBytes was now 0 p h k
+    bytes : (f plan : List ℕ) (e : ℕ) (was now : List ℕ) (p h k : ℕ) → ListMade (oneRingAsk f) plan e listBytes was now 0 p h k
         → Answers (list-file-checks (take (listHeader + entrySize * k) now)) 0 0
     bytes f plan e was now p h k M =
         let l : ElementList = movesList (fileTable f) e plan in

@@ -34,7 +34,7 @@ use Rattle.rules.specs.ElementList.{
   IsMove,
 }
 use Rattle.rules.specs.Refusals.{Answers, list-file-checks, list-memory-checks}
-use Rattle.rules.specs.Calls.{Ask, fileAsk, ListMade}
+use Rattle.rules.specs.Calls.{Ask, oneRingAsk, ListMade}
 
 abbrev pub Holds : ElementList → Entry → Type 0
 Holds l x = (k : ℕ) × (k < l .entries) × (l .entry k ≡ x)
@@ -53,19 +53,19 @@ pub record Twice (t : Table) (ws : List ℕ) (s i : ℕ) : Type 0 where
 
 abbrev pub Made-exactly : Type 0
 Made-exactly = (f plan : List ℕ) (e : ℕ) (form : ElementList → List ℕ) (was now : List ℕ) (p h k : ℕ)
-    → ListMade (fileAsk f) plan e form was now 0 p h k → Exactly (fileTable f) e plan
+    → ListMade (oneRingAsk f) plan e form was now 0 p h k → Exactly (fileTable f) e plan
 
 abbrev pub All-twice : Type 0
 All-twice = (t : Table) (ws : List ℕ) (s i : ℕ) → s < hyperperiod t → i < t .rows → T (bit (at ws s) i) → Twice t ws s i
 
 abbrev pub Made-few : Type 0
 Made-few = (f plan : List ℕ) (e : ℕ) (form : ElementList → List ℕ) (was now : List ℕ) (p h k : ℕ)
-    → ListMade (fileAsk f) plan e form was now 0 p h k → (k ≤ 2 * h) × (h ≤ max-slots)
+    → ListMade (oneRingAsk f) plan e form was now 0 p h k → (k ≤ 2 * h) × (h ≤ max-slots)
 
 pub record Made-passes : Type 0 where
-  pub numbers : (f plan : List ℕ) (e : ℕ) (was now : List ℕ) (p h k : ℕ) → ListMade (fileAsk f) plan e listNumbers was now 0 p h k
+  pub numbers : (f plan : List ℕ) (e : ℕ) (was now : List ℕ) (p h k : ℕ) → ListMade (oneRingAsk f) plan e listNumbers was now 0 p h k
       → Answers (list-memory-checks e h (take (entryNumbers * k) now)) 0 0
-  pub bytes : (f plan : List ℕ) (e : ℕ) (was now : List ℕ) (p h k : ℕ) → ListMade (fileAsk f) plan e listBytes was now 0 p h k
+  pub bytes : (f plan : List ℕ) (e : ℕ) (was now : List ℕ) (p h k : ℕ) → ListMade (oneRingAsk f) plan e listBytes was now 0 p h k
       → Answers (list-file-checks (take (listHeader + entrySize * k) now)) 0 0
 
 abbrev pub First-words : Type 1

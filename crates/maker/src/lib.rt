@@ -12,8 +12,8 @@ ghost use Rattle.rules.specs.Bus as bus;
 ghost use Rattle.rules.specs.TableFile.{fileTable};
 ghost use Rattle.rules.specs.Loads.{hyperperiod};
 ghost use Rattle.rules.specs.ElementList.{listNumbers, listBytes};
-ghost use Rattle.rules.specs.Refusals.{Answers, verdict-checks};
-ghost use Rattle.rules.specs.Calls.{fileAsk, ListMade};
+ghost use Rattle.rules.specs.Refusals.{Answers};
+ghost use Rattle.rules.specs.Calls.{oneRingAsk, ListMade};
 ghost use Rattle.table.specs.Sound.{Sound};
 ghost use Rattle.table.specs.Columns.{tableOf};
 ghost use Rattle.moves.specs.Words.{LowestBad};
@@ -62,12 +62,18 @@ fn fault(elements: usize, element: u64, slot: usize, words: usize, hyper: usize)
     Answer::done()
 }
 
-// What is found of a sound table, whose hyperperiod is known, and a plan.
+// What is found of a sound table of one ring, whose hyperperiod is known, and a plan.
 fn find_on(table: Columns, hyper: usize, plan: &[u64], element: u64) -> Found
-    requires { ⌜ Sound (tableOf table) × (hyper ≡ hyperperiod (tableOf table)) × (hyper ≤ max-slots) ⌝ }
+    requires { ⌜ Sound (tableOf table) × (hyper ≡ hyperperiod (tableOf table)) × (hyper ≤ max-slots) × (table .rings ≡ 1) ⌝ }
     ensures { λ r. ⌜ Finds [] (tableOf table) (now (plan .entry)) element r ⌝ }
 {
-    let routes = ring::lay_segments(table.elements, table.rows, &table.first, &table.second);
+    let routes = ring::lay_segments(
+        table.elements,
+        table.rows,
+        &table.first,
+        &table.second,
+        &table.way,
+    );
     let slot = moves::lowest_bad(table.rows, &routes, plan, hyper);
     let answer = fault(table.elements, element, slot, plan.len(), hyper);
     if answer.number != Answer::DONE {
@@ -84,13 +90,17 @@ fn find_on(table: Columns, hyper: usize, plan: &[u64], element: u64) -> Found
     }
 }
 
-// The same of a file's table, after the verdict's.
+// The same of a file's table, after the verdict's. A table of one ring alone is taken.
 fn find_in(file: &[u8], plan: &[u64], element: u64) -> Found
-    ensures { λ r. ⌜ Finds (verdict-checks (now (file .entry))) (fileTable (now (file .entry))) (now (plan .entry)) element r ⌝ }
+    ensures { λ r. ⌜ Finds (oneRingAsk (now (file .entry)) .checks) (fileTable (now (file .entry))) (now (plan .entry)) element r ⌝ }
 {
+    if decoding::has_other_mark(file) {
+        return nothing(Answer::at(Answer::WRONG_MARK, 0));
+    }
     let verdict = verdict::judge(file);
     let Verdict::Admitted {
         cut: _,
+        other: _,
         interval: _,
         hyper,
         load: _,
@@ -123,9 +133,10 @@ fn refused(answer: Answer) -> Making
     }
 }
 
-// The list in memory, at the front of `out`: three numbers an entry. The verdict's refusals, 29, 19, 17.
+// The list in memory, at the front of `out`: three numbers an entry. The verdict's refusals, with 2 for a table of two rings, then 29, 19,
+// 17.
 pub fn make(file: &[u8], plan: &[u64], element: u64, out: &mut [u16]) -> Making
-    ensures { λ r. ⌜ ListMade (fileAsk (now (file .entry))) (now (plan .entry)) element listNumbers (now (out .entry)) (now (out .exit))
+    ensures { λ r. ⌜ ListMade (oneRingAsk (now (file .entry))) (now (plan .entry)) element listNumbers (now (out .entry)) (now (out .exit))
         (r .answer .number) (r .answer .place) (r .hyper) (r .entries) ⌝ }
 {
     let found = find_in(file, plan, element);
@@ -146,7 +157,7 @@ pub fn make(file: &[u8], plan: &[u64], element: u64, out: &mut [u16]) -> Making
 
 // The list's file, at the front of `out`, likewise.
 pub fn make_file(file: &[u8], plan: &[u64], element: u64, out: &mut [u8]) -> Making
-    ensures { λ r. ⌜ ListMade (fileAsk (now (file .entry))) (now (plan .entry)) element listBytes (now (out .entry)) (now (out .exit))
+    ensures { λ r. ⌜ ListMade (oneRingAsk (now (file .entry))) (now (plan .entry)) element listBytes (now (out .entry)) (now (out .exit))
         (r .answer .number) (r .answer .place) (r .hyper) (r .entries) ⌝ }
 {
     let found = find_in(file, plan, element);

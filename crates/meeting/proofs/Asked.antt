@@ -47,6 +47,7 @@ module _ (f : List ℕ) (i j : ℕ) (r : Decoded) (D : Decodes (file-checks f) (
     rows-are = ap (λ (u : Table). u .rows) held
 
     pub met-routes : Routes (r .columns .elements) (r .columns .rows) (at (r .columns .first)) (at (r .columns .second))
+        (at (r .columns .way))
     met-routes = sound-routes {t = tableOf (r .columns)} (rw held (passed-none f none .sound))
 
     -- 32 refuses
@@ -74,7 +75,10 @@ module _ (f : List ℕ) (i j : ℕ) (r : Decoded) (D : Decodes (file-checks f) (
 
       -- nothing does
       pub met-done : (n p w : ℕ) → j < r .columns .rows → (n ≡ 0) × (p ≡ 0)
-          → w ≡ shared (onRing (r .columns .elements) (r .columns .rows) (at (r .columns .first)) (at (r .columns .second))) i j
+          → w
+          ≡ shared
+          (onRing (r .columns .elements) (r .columns .rows) (at (r .columns .first)) (at (r .columns .second)) (at (r .columns .way)))
+          i j
           → Met f i j n p w
       unfolding shared-checks shared uses
       met-done n p w k e q = record {

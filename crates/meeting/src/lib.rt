@@ -40,6 +40,7 @@ pub fn meet(file: &[u8], i: usize, j: usize) -> Meeting
             rows,
             &found.columns.first,
             &found.columns.second,
+            &found.columns.way,
             i,
             j,
         ),

@@ -17,14 +17,15 @@ use Rattle.numbers.specs.Lists.{at}
 use Rattle.numbers.proofs.Truth.{eqb-of, decide, is-true, is-false, along, of-false, both, fst, snd, orl, orr, or-cases, le-or-lt}
 use Rattle.numbers.proofs.Finite.{any-of, least}
 use Rattle.numbers.proofs.Word.{bit-zero, bit-ext, bit-lt, bit-and, bit-or, lt-of-bits}
-use Rattle.rules.specs.Bus.{Table, uses, overlap, steps}
+use Rattle.rules.specs.Bus.{Table, clockwise, uses, shares, overlap, steps}
 use Rattle.rules.specs.ElementList.{BadWord}
 use Rattle.rules.proofs.Shared.{zero-if-apart}
 use lib.ListN.{length}
 use Rattle.table.specs.Sound.{Sound}
 use Rattle.table.proofs.ByRow.{past-end}
-use Rattle.ring.specs.Route.{Element, segments}
+use Rattle.ring.specs.Route.{Element, rowSegments}
 use Rattle.ring.proofs.Clockwise.{steps-cases, steps-same}
+use Rattle.ring.proofs.Mirror.{clockwise-uses}
 use Rattle.ring.proofs.Words.{both-segments}
 use Rattle.moves.specs.Words.{LowestBad}
 
@@ -50,21 +51,22 @@ bits-below n w z q =
 -- ---- the segments of a row
 
 abbrev pub route : Table → ℕ → ℕ
-route t i = segments (t .elements) (t .first i) (t .second i)
+route t i = rowSegments (t .elements) (t .way i) (t .first i) (t .second i)
 
--- rows with a segment in common overlap
-pub meet-overlap : (t : Table) (i j s : ℕ) → T (bit (route t i) s) → T (bit (route t j) s) → T (overlap t i j)
-meet-overlap t i j s a b =
+-- rows of one ring with a segment in common overlap
+pub meet-overlap : (t : Table) (i j s : ℕ) → t .way i ≡ t .way j → T (bit (route t i) s) → T (bit (route t j) s) → T (overlap t i j)
+meet-overlap t i j s w a b =
     ⊎-elim (λ h. h)
     (λ h.
-    let none : bitAnd (route t i) (route t j) ≡ 0 = both-segments t i j ∙ zero-if-apart t i j .1 (is-false (overlap t i j) h) in
+    let none : bitAnd (route t i) (route t j) ≡ 0 = both-segments t i j w ∙ zero-if-apart t i j .1 (is-false (overlap t i j) h) in
     absurd (along (sym (bit-and (route t i) (route t j) s) ∙ ap (λ (w : ℕ). bit w s) none ∙ bit-zero s)
     (both (bit (route t i) s) (bit (route t j) s) a b)))
     (decide (overlap t i j))
 
 -- rows with none do not
-pub apart : (t : Table) (i j : ℕ) → ((s : ℕ) → T (bit (route t i) s) → T (bit (route t j) s) → ⊥) → T (overlap t i j) → ⊥
-apart t i j h o =
+pub apart : (t : Table) (i j : ℕ) → t .way i ≡ t .way j → ((s : ℕ) → T (bit (route t i) s) → T (bit (route t j) s) → ⊥)
+    → T (overlap t i j) → ⊥
+apart t i j e h o =
     let none : bitAnd (route t i) (route t j) ≡ 0 =
     bit-ext (bitAnd (route t i) (route t j)) 0
     (λ s.
@@ -72,7 +74,7 @@ apart t i j h o =
     (λ q. let w = along (bit-and (route t i) (route t j) s) q in
     h s (fst (bit (route t i) s) (bit (route t j) s) w) (snd (bit (route t i) s) (bit (route t j) s) w))
     ∙ sym (bit-zero s)) in
-    of-false (zero-if-apart t i j .0 (sym (both-segments t i j) ∙ none)) o
+    of-false (zero-if-apart t i j .0 (sym (both-segments t i j e) ∙ none)) o
 
 pub record Used (t : Table) (w i used : ℕ) : Type 0 where
   pub covers : (j : ℕ) → j < i → T (bit w j) → (s : ℕ) → T (bit (route t j) s) → T (bit used s)
@@ -97,7 +99,7 @@ used-skip {t} {w} {i} {used} U n = record {
     nearly : (j : ℕ) → j < i + 1 → (j ≡ i) ⊎ (j < i)
     nearly j h = ⊎-elim (λ (q : i ≤ j). inl (omega arith)) inr (le-or-lt i j)
 
-module _ {t : Table} {w i used : ℕ} (U : Used t w i used) (b : T (bit w i)) where
+module _ {t : Table} {w i used : ℕ} (U : Used t w i used) (b : T (bit w i)) (one : (j : ℕ) → j < i → t .way j ≡ t .way i) where
   -- it shares no segment with those before it
   pub used-add : bitAnd used (route t i) ≡ 0 → Used t w (i + 1) (bitOr used (route t i))
   used-add z = record {
@@ -109,7 +111,7 @@ module _ {t : Table} {w i used : ℕ} (U : Used t w i used) (b : T (bit w i)) wh
         ⊎-elim (λ a. let q = U .taken s a in (q .0, omega (arith, q .1), q .2, q .3)) (λ a. (i, omega arith, b, a))
         (or-cases (bit used s) (bit (route t i) s) (along (bit-or used (route t i) s) h));
     clear = λ j k l m c d.
-        ⊎-elim (λ (e : k ≡ i). rw e (apart t j i (free j (omega arith) c))) (λ h. U .clear j k l h c d) (nearly k m);
+        ⊎-elim (λ (e : k ≡ i). rw e (apart t j i (one j (omega arith)) (free j (omega arith) c))) (λ h. U .clear j k l h c d) (nearly k m);
   }
     where
       nearly : (j : ℕ) → j < i + 1 → (j ≡ i) ⊎ (j < i)
@@ -137,7 +139,8 @@ module _ {t : Table} {w i used : ℕ} (U : Used t w i used) (b : T (bit w i)) wh
           let v = along (bit-and used (route t i) s) h in
           let q = U .taken s (fst (bit used s) (bit (route t i) s) v) in
           f (any-of i (λ j. bit w j && overlap t j i) (q .0) (q .1)
-          (both (bit w (q .0)) (overlap t (q .0) i) (q .2) (meet-overlap t (q .0) i s (q .3) (snd (bit used s) (bit (route t i) s) v))))
+          (both (bit w (q .0)) (overlap t (q .0) i) (q .2)
+          (meet-overlap t (q .0) i s (one (q .0) (q .1)) (q .3) (snd (bit used s) (bit (route t i) s) v))))
 
 -- no row is left
 pub used-end : {t : Table} {w i used : ℕ} → Used t w i used → i ≡ t .rows → ((k : ℕ) × (t .rows ≤ k) × T (bit w k) → ⊥) → BadWord t w → ⊥
@@ -174,9 +177,12 @@ module _ (t : Table) (ws : List ℕ) where
     pub clean-end : (m : ℕ) → Clean t ws n → n ≡ m → LowestBad t ws m m
     clean-end m h e = record { most = omega arith; none = rw e at h; bad = λ q. absurd (let z : ⊥ = omega arith in z) }
 
--- ---- rows with the same first end, or the same second end, share a segment there
+-- ---- rows of one ring with the same first end, or the same second end, share a segment there
 
-module _ {t : Table} (S : Sound t) where
+module _ {t : Table} (S : Sound t) (one : t .rings ≡ 1) where
+  clock : (i : ℕ) → i < t .rows → t .way i ≡ clockwise
+  clock i l = omega (arith, one, S .row i l .way-known)
+
   first-element : (i : ℕ) → i < t .rows → Element (t .elements) (t .first i)
   first-element i l = record { low = S .row i l .first-low; high = S .row i l .first-high }
 
@@ -195,7 +201,8 @@ module _ {t : Table} (S : Sound t) where
   unfolding uses
   used-at i e l h m =
       let q : suc (e - 1) ≡ e = omega arith in
-      rw q (lt→ltb (steps (t .elements) (t .first i) e) (steps (t .elements) (t .first i) (t .second i)) m)
+      along (sym (clockwise-uses (t .elements) (t .first i) (t .second i) (suc (e - 1)) (clock i l)))
+      (rw q (lt→ltb (steps (t .elements) (t .first i) e) (steps (t .elements) (t .first i) (t .second i)) m))
 
   first-used : (i : ℕ) → i < t .rows → T (uses t i (suc (t .first i - 1)))
   first-used i l =
@@ -252,17 +259,19 @@ module _ {t : Table} (S : Sound t) where
           (steps-cases f m)) (steps-cases f g))
           (differ i l))
 
-  overlap-at : (i j e : ℕ) → Element (t .elements) e → T (uses t i (suc (e - 1))) → T (uses t j (suc (e - 1))) → T (overlap t i j)
+  overlap-at : (i j e : ℕ) → i < t .rows → j < t .rows → Element (t .elements) e → T (uses t i (suc (e - 1)))
+      → T (uses t j (suc (e - 1))) → T (overlap t i j)
   unfolding overlap
-  overlap-at i j e g a b =
-      any-of (t .elements) (λ s. uses t i (suc s) && uses t j (suc s)) (e - 1) (omega (arith, g .low, g .high))
-      (both (uses t i (suc (e - 1))) (uses t j (suc (e - 1))) a b)
+  overlap-at i j e l m g a b =
+      any-of (t .elements) (λ s. shares t i j (suc s)) (e - 1) (omega (arith, g .low, g .high))
+      (both (eqb (t .way i) (t .way j)) (uses t i (suc (e - 1)) && uses t j (suc (e - 1)))
+      (eqb-of (t .way i) (t .way j) (clock i l ∙ sym (clock j m))) (both (uses t i (suc (e - 1))) (uses t j (suc (e - 1))) a b))
 
   pub first-overlap : (i j : ℕ) → i < t .rows → j < t .rows → t .first i ≡ t .first j → T (overlap t i j)
   first-overlap i j l m e =
-      overlap-at i j (t .first i) (first-element i l) (first-used i l) (rw e (first-used j m))
+      overlap-at i j (t .first i) l m (first-element i l) (first-used i l) (rw e (first-used j m))
 
   pub second-overlap : (i j : ℕ) → i < t .rows → j < t .rows → t .second i ≡ t .second j → T (overlap t i j)
   second-overlap i j l m e =
-      overlap-at i j (last-segment (t .second i)) (last-element (t .second i) (second-element i l)) (second-used i l)
+      overlap-at i j (last-segment (t .second i)) l m (last-element (t .second i) (second-element i l)) (second-used i l)
       (rw e (second-used j m))

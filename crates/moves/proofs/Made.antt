@@ -60,8 +60,8 @@ module _ {t : Table} (S : Sound t) (e : ℕ) where
         ⊎-elim (λ (l : i ≤ j). ⊎-elim (λ (m : j ≤ i). omega arith) (λ m. absurd (apart i j m x y)) (le-or-lt j i))
         (λ l. absurd (apart j i l y x)) (le-or-lt i j)
 
-  pub clean-clear : (n : ℕ) (ws : List ℕ) → ((s : ℕ) → s < n → BadWord t (at ws s) → ⊥) → Clear into from n ws
-  clean-clear n ws h = record {
-    into = λ s l. at-most-one (t .second) (second-overlap S) (at ws s) (h s l);
-    from = λ s l. at-most-one (t .first) (first-overlap S) (at ws s) (h s l);
+  pub clean-clear : t .rings ≡ 1 → (n : ℕ) (ws : List ℕ) → ((s : ℕ) → s < n → BadWord t (at ws s) → ⊥) → Clear into from n ws
+  clean-clear one n ws h = record {
+    into = λ s l. at-most-one (t .second) (second-overlap S one) (at ws s) (h s l);
+    from = λ s l. at-most-one (t .first) (first-overlap S one) (at ws s) (h s l);
   }

@@ -4,7 +4,7 @@
 use mathlib.Core.Path.{_≡_, refl, sym, ap, _∙_}
 use mathlib.Core.Logic.{_≢_}
 use mathlib.Core.List.{List}
-use Prim.Native.Nat.{ℕ, _+_}
+use Prim.Native.Nat.{ℕ}
 use native.Mathlib.Decide.{ℕ-discrete}
 use lib.ListN.{take}
 use Rattle.numbers.specs.Lists.{at}
@@ -42,6 +42,8 @@ withSets t l k ws = record {
   elements = t .elements;
   rows = t .rows;
   cut = l .cut;
+  other = l .other;
+  top = l .top;
   time = l .time;
   first = l .line .first;
   second = l .line .second;
@@ -57,8 +59,8 @@ module _ {t : Table} {l : Layout} (A : LaidOut t l) where
     lies-ends : Ends t (at (l .line .first)) (at (l .line .second))
     lies-ends i m = let L = A .found z in (L .first .row i m, L .second .row i m)
 
-    pub lies-on-line : OnLine (t .rows) (at (l .line .first)) (at (l .line .second)) (t .elements + 1)
-    lies-on-line = let L = A .found z in ends-on-line t (L .timed .sound) (L .clear) _ _ lies-ends
+    pub lies-on-line : OnLine (t .rows) (at (l .line .first)) (at (l .line .second)) (l .top)
+    lies-on-line = let L = A .found z in rw (L .top) (ends-on-line t (L .timed .sound) (L .clear) _ _ lies-ends)
 
     pub outlined-laid : (k : ℕ) (ws : List ℕ) → SetWords (t .rows) (at (l .line .first)) (at (l .line .second)) k ws
         → Outlined (line-checks t) t (withSets t l k ws)
@@ -70,6 +72,8 @@ module _ {t : Table} {l : Layout} (A : LaidOut t l) where
         elements = refl;
         rows = refl;
         cut = L .cut;
+        other = L .other;
+        top = L .top;
         first = L .first;
         second = L .second;
         few = S .few;
@@ -86,6 +90,8 @@ lies-only : {t : Table} {l m : Layout} → l .answer ≡ m .answer → Lies t l 
 lies-only e L M = λ k. record {
   answer = e k;
   cut = (L .cut ∙ sym (M .cut)) k;
+  other = (L .other ∙ sym (M .other)) k;
+  top = (L .top ∙ sym (M .top)) k;
   time = time-only (L .timed) (M .timed) k;
   line = record { first = by-row-only (L .first) (M .first) k; second = by-row-only (L .second) (M .second) k };
 }

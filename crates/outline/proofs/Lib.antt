@@ -1,4 +1,5 @@
 pub mod Sets
 pub mod Outlined
+pub mod Cuts
 pub mod Laying
 pub mod Listed

@@ -1,5 +1,5 @@
--- Refusals 1 to 9, 18, 10 and 11, and that only one outline fits. Past the checks of a table as it is given it has a cut or 10 is given,
--- and a hyperperiod of at most 4096 slots or 11 is given.
+-- Refusals 1 to 9, 26, 18, 10 and 11, and that only one outline fits. Past the checks of a table as it is given each ring has a cut or 10
+-- is given, and the hyperperiod is at most 4096 slots or 11 is given.
 use mathlib.Core.Path.{_≡_, refl, sym, ap, _∙_}
 use mathlib.Core.Logic.{_≢_, ⊎-elim}
 use mathlib.Core.List.{List, [], _∷_}
@@ -12,21 +12,25 @@ use Rattle.numbers.proofs.Truth.{le-or-lt}
 use Rattle.rules.specs.Bounds.{max-rows, max-slots}
 use Rattle.rules.specs.Bus.{Table}
 use Rattle.rules.specs.TableFile.{fileTable}
-use Rattle.rules.specs.Line.{cut, lineFirst, lineSecond, Sets}
+use Rattle.rules.specs.Line.{cut, HasCuts, lineTop, lineFirst, lineSecond, Sets}
 use Rattle.rules.specs.Loads.{hyperperiod}
-use Rattle.rules.specs.Refusals.{Check, Answers, no-cut, long-hyperperiod, given-checks, line-checks}
+use Rattle.rules.specs.Refusals.{Check, Answers, no-cut, long-hyperperiod, given-checks, cut-checks, line-checks}
 use Rattle.rules.proofs.Answers.{
   None,
   Numbered,
   applied,
-  passed,
   stopped,
   joined,
   none-of,
+  none-join,
   none-left,
   none-right,
   numbered-join,
   answers-only,
+  single-none,
+  none-single,
+  single-numbered,
+  single-stopped,
 }
 use Rattle.rules.proofs.Sets.{sets-only}
 use Rattle.table.specs.Sound.{Passed}
@@ -59,36 +63,54 @@ answers-zero cs r e a = rw e at a
 -- ---- refusals 10 and 11
 
 module _ (t : Table) where
+  -- 11 alone
+  abbrev long : List Check
+  long = long-hyperperiod t ∷ []
+
   pub line-numbered : Numbered (line-checks t)
-  unfolding line-checks Numbered
-  line-numbered = omega arith
+  unfolding line-checks cut-checks Numbered
+  line-numbered =
+      numbered-join (cut-checks t) long (single-numbered (no-cut t) (t .rings) (λ d. omega arith)) ((λ e. omega arith), tt)
 
-  has-cut : cut t ≤ t .elements → no-cut t .applies → ⊥
-  has-cut l a = omega (arith, cut-none t .0 a)
+  has-cut : (d : ℕ) → cut t d ≤ t .elements → no-cut t d .applies → ⊥
+  has-cut d l a = omega (arith, cut-none t d .0 a)
 
-  pub cut-refused : t .elements < cut t → Answers (line-checks t) (no-cut t .number) 0
+  no-cut-applies : (d : ℕ) → t .elements < cut t d → no-cut t d .applies
+  no-cut-applies d l = cut-none t d .1 (omega (arith, cut-high t d))
+
+  -- ring d is the lowest without a cut
+  pub cut-refused : (d : ℕ) → d < t .rings → ((e : ℕ) → e < d → cut t e ≤ t .elements) → t .elements < cut t d
+      → Answers (line-checks t) (no-cut t d .number) d
+  unfolding line-checks cut-checks
+  cut-refused d l has h =
+      stopped (cut-checks t) long _ d (omega arith)
+      (single-stopped (no-cut t) (t .rings) d l (omega arith) (λ e m. has-cut e (has e m)) (no-cut-applies d h))
+
+  cuts-none : HasCuts t → None (cut-checks t)
+  unfolding cut-checks
+  cuts-none has = single-none (no-cut t) (t .rings) (λ d l. has-cut d (has d l))
+
+  none-cuts : None (cut-checks t) → HasCuts t
+  unfolding cut-checks
+  none-cuts a d l =
+      ⊎-elim (λ m. m) (λ m. absurd (none-single (no-cut t) (t .rings) a d l (no-cut-applies d m))) (le-or-lt (cut t d) (t .elements))
+
+  pub long-refused : HasCuts t → max-slots < hyperperiod t → Answers (line-checks t) (long-hyperperiod t .number) 0
   unfolding line-checks
-  cut-refused l =
-      applied (no-cut t) (long-hyperperiod t ∷ []) _ _ (cut-none t .1 (omega (arith, cut-high t))) refl refl
+  long-refused has h = joined (cut-checks t) long _ _ (cuts-none has) (applied (long-hyperperiod t) [] _ _ h refl refl)
 
-  pub long-refused : cut t ≤ t .elements → max-slots < hyperperiod t → Answers (line-checks t) (long-hyperperiod t .number) 0
-  unfolding line-checks
-  long-refused l h =
-      passed (no-cut t) (long-hyperperiod t ∷ []) _ _ (has-cut l)
-      (applied (long-hyperperiod t) [] _ _ h refl refl)
-
-  pub line-none : cut t ≤ t .elements → hyperperiod t ≤ max-slots → None (line-checks t)
+  pub line-none : HasCuts t → hyperperiod t ≤ max-slots → None (line-checks t)
   unfolding line-checks None
-  line-none l h = (has-cut l, ((λ a. omega arith), tt))
+  line-none has h = none-join (cut-checks t) long (cuts-none has) ((λ a. omega arith), tt)
 
-  pub none-line : None (line-checks t) → (cut t ≤ t .elements) × (hyperperiod t ≤ max-slots)
+  pub none-line : None (line-checks t) → HasCuts t × (hyperperiod t ≤ max-slots)
   unfolding line-checks None
   none-line a = (
-    ⊎-elim (λ l. l) (λ l. absurd (a .0 (cut-none t .1 (omega (arith, cut-high t))))) (le-or-lt (cut t) (t .elements)),
-    ⊎-elim (λ l. l) (λ l. absurd (a .1 .0 l)) (le-or-lt (hyperperiod t) max-slots),
+    none-cuts (none-left (cut-checks t) long a),
+    ⊎-elim (λ l. l) (λ l. absurd (none-right (cut-checks t) long a .0 l)) (le-or-lt (hyperperiod t) max-slots),
   )
 
--- ---- files that pass 1 to 9, 18, 10 and 11
+-- ---- files that pass 1 to 9, 26, 18, 10 and 11
 
 module _ (f : List ℕ) where
   pub outline-numbered : Numbered (outline-checks f)
@@ -98,7 +120,7 @@ module _ (f : List ℕ) where
     pub outline-passed : Passed f
     outline-passed = given-passed f (none-left (given-checks f) (line-checks (fileTable f)) a)
 
-    pub outline-short : (cut (fileTable f) ≤ fileTable f .elements) × (hyperperiod (fileTable f) ≤ max-slots)
+    pub outline-short : HasCuts (fileTable f) × (hyperperiod (fileTable f) ≤ max-slots)
     outline-short = none-line (fileTable f) (none-right (given-checks f) (line-checks (fileTable f)) a)
 
     pub outline-list-only : (ws vs : List ℕ) → Sets (fileTable f) ws → Sets (fileTable f) vs → ws ≡ vs
@@ -142,7 +164,7 @@ module _ {t : Table} {o : Outline} (F : Found t o) where
   found-ends i l = (F .first .row i l, F .second .row i l)
 
   module _ (first second : ℕ → ℕ) (ends : Ends t first second) where
-    pub found-on-line : OnLine (t .rows) first second (t .elements + 1)
+    pub found-on-line : OnLine (t .rows) first second (lineTop t)
     found-on-line = ends-on-line t (F .timed .sound) (F .clear) first second ends
 
     pub found-words : SetWords (t .rows) first second (o .sets) (o .words)
@@ -166,6 +188,8 @@ found-only {t} {o} {u} e F G =
       elements = (F .elements ∙ sym (G .elements)) k;
       rows = (F .rows ∙ sym (G .rows)) k;
       cut = (F .cut ∙ sym (G .cut)) k;
+      other = (F .other ∙ sym (G .other)) k;
+      top = (F .top ∙ sym (G .top)) k;
       time = time-only (F .timed) (G .timed) k;
       first = by-row-only (F .first) (G .first) k;
       second = by-row-only (F .second) (G .second) k;

@@ -1,4 +1,4 @@
--- The overlap sets of a sound table with a cut: the ring's list is the line's, and no two sets tie.
+-- The overlap sets of a sound table with its cuts: the rings' list is the line's, and no two sets tie.
 --
 --   Ends t first second    first and second are the rows' ends on the line
 use mathlib.Core.Path.{_≡_, refl, sym, _∙_}
@@ -6,9 +6,9 @@ use mathlib.Core.List.{List}
 use Prim.Native.Nat.{ℕ, _+_, _≤_, _<_}
 use native.Mathlib.Omega.{arith}
 use Rattle.rules.specs.Bus.{Table, overlap}
-use Rattle.rules.specs.Line.{cut, lineFirst, lineSecond, meet, SetList, Sets}
+use Rattle.rules.specs.Line.{HasCuts, lineTop, lineFirst, lineSecond, meet, SetList, Sets}
 use Rattle.table.specs.Sound.{Sound}
-use Rattle.ring.proofs.OnLine.{line-ordered, line-high, overlap-meet}
+use Rattle.ring.proofs.OnLine.{line-ordered, line-high, line-short, overlap-meet}
 use Rattle.sets.specs.Sets.{OnLine}
 use Rattle.outline.specs.Ties.{No-ties}
 use Rattle.sets.proofs.Transfer.{Agree, agree-sym, list-agree, no-tie}
@@ -24,15 +24,15 @@ meet-eq f g s u i j a b c d = rw (a, b, c, d)
 pub own-ends : (t : Table) → Ends t (lineFirst t) (lineSecond t)
 own-ends t i l = (refl, refl)
 
-module _ (t : Table) (sound : Sound t) (clear : cut t ≤ t .elements) where
+module _ (t : Table) (sound : Sound t) (clear : HasCuts t) where
   module _ (first second : ℕ → ℕ) (ends : Ends t first second) where
-    pub ends-on-line : OnLine (t .rows) first second (t .elements + 1)
+    pub ends-on-line : OnLine (t .rows) first second (lineTop t)
     ends-on-line = record {
       some = sound .rows-low;
       few = sound .rows-high;
       line = λ i l. omega (arith, ends i l, line-ordered t sound clear i l);
       within = λ i l. omega (arith, ends i l, line-high t sound clear i l);
-      short = omega arith;
+      short = omega (arith, line-short t sound clear);
     }
 
     ends-meet : Agree (t .rows) (overlap t) (meet first second)

@@ -12,7 +12,7 @@ use Rattle.numbers.specs.Lists.{at}
 use Rattle.numbers.proofs.Truth.{both, fst, snd, decide, along, same, eqb-of}
 use Rattle.numbers.proofs.Finite.{any-of, any-eq, least, lowest-has, lowest-below}
 use Rattle.numbers.proofs.Word.{bit-word}
-use Rattle.rules.specs.Bounds.{max-rows}
+use Rattle.rules.specs.Bounds.{max-elements, max-rows}
 use Rattle.rules.specs.Bus.{Table, pasted}
 use Rattle.rules.specs.TableFile.{fileTable, fileLabelled}
 use Rattle.rules.specs.Refusals.{Answers, pasted-row, file-checks, pasted-checks, given-checks}
@@ -24,7 +24,6 @@ use Rattle.decoding.specs.Decoded.{refusal, Decodes}
 use Rattle.table.specs.declared.Answer.{Answer}
 use Rattle.decoding.specs.declared.Decoded.{Decoded}
 use Rattle.table.proofs.Faults.{file-numbered, passed-none}
-use Rattle.sets.specs.Walk.{line-size}
 use Rattle.sets.proofs.Sums.{without, other}
 use Rattle.pasted.specs.Alike.{alike}
 
@@ -43,28 +42,32 @@ left-out w j p l e =
     (λ f. ap (λ (b : Bool). b && p k) (other w j l k (λ z. f (eqb-of k j z))))
     (decide (eqb k j)))
 
--- of the earlier rows with row i's first end one has its second end and its period, or none
+-- of the earlier rows with row i's first end one has its second end, its period and its direction, or none
 pub earlier-pasted : (t : Table) (w i : ℕ) → i ≤ max-rows → w ≡ word i (λ j. eqb (t .first j) (t .first i))
-    → any max-rows (λ j. bit w j && alike (t .period) (t .second) i j) ≡ pasted t i
+    → any max-rows (λ j. bit w j && alike (t .period) (t .second) (t .way) i j) ≡ pasted t i
 unfolding pasted
 earlier-pasted t w i few e =
     same _ _
     (λ h.
-    let r = least max-rows (λ j. bit w j && alike (t .period) (t .second) i j) h in
+    let r = least max-rows (λ j. bit w j && alike (t .period) (t .second) (t .way) i j) h in
     let j = r .0 in
-    let c = along (bits j) (fst (bit w j) (alike (t .period) (t .second) i j) (r .2)) in
-    let a = snd (bit w j) (alike (t .period) (t .second) i j) (r .2) in
+    let c = along (bits j) (fst (bit w j) (alike (t .period) (t .second) (t .way) i j) (r .2)) in
+    let a = snd (bit w j) (alike (t .period) (t .second) (t .way) i j) (r .2) in
+    let sp = fst (S j && P j) (W j) a in
     any-of i _ j (ltb→lt j i (fst (ltb j i) (F j) c))
-    (both (F j && S j) (P j) (both (F j) (S j) (snd (ltb j i) (F j) c) (fst (S j) (P j) a)) (snd (S j) (P j) a)))
+    (both (F j && S j && P j) (W j)
+    (both (F j && S j) (P j) (both (F j) (S j) (snd (ltb j i) (F j) c) (fst (S j) (P j) sp)) (snd (S j) (P j) sp))
+    (snd (S j && P j) (W j) a)))
     (λ h.
-    let r = least i (λ j. (F j && S j) && P j) h in
+    let r = least i (λ j. F j && S j && P j && W j) h in
     let j = r .0 in
     let l : j < i = r .1 in
-    let f = fst (F j && S j) (P j) (r .2) in
+    let fsp = fst (F j && S j && P j) (W j) (r .2) in
+    let f = fst (F j && S j) (P j) fsp in
     any-of max-rows _ j (omega arith)
-    (both (bit w j) (alike (t .period) (t .second) i j)
+    (both (bit w j) (alike (t .period) (t .second) (t .way) i j)
     (along (sym (bits j)) (both (ltb j i) (F j) (lt→ltb j i l) (fst (F j) (S j) f)))
-    (both (S j) (P j) (snd (F j) (S j) f) (snd (F j && S j) (P j) (r .2)))))
+    (both (S j && P j) (W j) (both (S j) (P j) (snd (F j) (S j) f) (snd (F j && S j) (P j) fsp)) (snd (F j && S j && P j) (W j) (r .2)))))
   where
     F : ℕ → Bool
     F j = eqb (t .first j) (t .first i)
@@ -74,6 +77,9 @@ earlier-pasted t w i few e =
 
     P : ℕ → Bool
     P j = eqb (t .period j) (t .period i)
+
+    W : ℕ → Bool
+    W j = eqb (t .way j) (t .way i)
 
     bits : (j : ℕ) → bit w j ≡ (ltb j i && F j)
     bits j = ap (λ (v : ℕ). bit v j) e ∙ bit-word i (λ j. eqb (t .first j) (t .first i)) j
@@ -114,8 +120,8 @@ module _ (f : List ℕ) where
       held : tableOf (r .columns) ≡ t
       held = D .passed z .table
 
-      -- the ends are on the ring, whose elements are no more than the line's
-      pub given-ends : (r .columns .rows ≤ max-rows) × ((i : ℕ) → i < r .columns .rows → at (r .columns .first) i < line-size)
+      -- the ends are on the ring
+      pub given-ends : (r .columns .rows ≤ max-rows) × ((i : ℕ) → i < r .columns .rows → at (r .columns .first) i ≤ max-elements)
       given-ends =
           let s : Sound (tableOf (r .columns)) = rw held (passed-none f none .sound) in
           (s .rows-high, λ i l. let row = s .row i l in omega arith)

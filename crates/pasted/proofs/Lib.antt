@@ -1,1 +1,2 @@
 pub mod AsGiven
+pub mod OneRing

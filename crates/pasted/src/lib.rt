@@ -1,6 +1,5 @@
 // A table as it is given: what is refused of it before anything is looked for on its ring.
 use decoding::Decoded;
-use sets::Sets;
 use table::Answer;
 use table::Table;
 ghost use mathlib.Core.Path.{_≡_};
@@ -10,45 +9,51 @@ ghost use Prim.Native.Nat.{ℕ, _≤_, _<_};
 ghost use Rattle.numbers.specs.Finite.{any, lowest};
 ghost use Rattle.numbers.specs.Lists.{at};
 ghost use Rattle.numbers.specs.Word.{bit};
-ghost use Rattle.rules.specs.Bounds.{max-rows};
+ghost use Rattle.rules.specs.Bounds.{max-elements, max-rows};
 ghost use Rattle.rules.specs.Bus.{pasted};
 ghost use Rattle.rules.specs.TableFile.{fileLabelled};
-ghost use Rattle.rules.specs.Refusals.{given-checks};
-ghost use Rattle.sets.specs.Walk.{line-size};
+ghost use Rattle.rules.specs.Refusals.{given-checks, one-ring-checks};
 ghost use Rattle.table.specs.Columns.{columnTable};
 ghost use Rattle.decoding.specs.Decoded.{Decodes};
 ghost use Rattle.pasted.specs.Alike.{alike};
 
-// Rows `j` and `i` have the same second end and the same period.
+// Rows `j` and `i` have the same second end, the same period and the same direction.
 fn is_alike<'a>(
     period: &'a [u16; Table::ROWS],
     second: &'a [u8; Table::ROWS],
+    way: &'a [u8; Table::ROWS],
     j: usize,
     i: usize,
 ) -> bool
     requires { ⌜ (j < max-rows) × (i < max-rows) ⌝ }
-    ensures { λ r. ⌜ r ≡ alike (at (now (period .entry))) (at (now (second .entry))) i j ⌝ }
+    ensures { λ r. ⌜ r ≡ alike (at (now (period .entry))) (at (now (second .entry))) (at (now (way .entry))) i j ⌝ }
 {
     if table::end_at(second, j) != table::end_at(second, i) {
         return false;
     }
-    table::slots_at(period, j) == table::slots_at(period, i)
+    if table::slots_at(period, j) != table::slots_at(period, i) {
+        return false;
+    }
+    table::end_at(way, j) == table::end_at(way, i)
 }
 
-// Some row of the word `rows` has row `i`'s second end and period. Only these are gone through: most rows share their first end with few.
+// Some row of the word `rows` has row `i`'s second end, period and direction. Only these are gone through: most rows share their first end
+// with few.
 fn is_repeated<'a>(
     rows: u64,
     period: &'a [u16; Table::ROWS],
     second: &'a [u8; Table::ROWS],
+    way: &'a [u8; Table::ROWS],
     i: usize,
 ) -> bool
     requires { ⌜ i < max-rows ⌝ }
-    ensures { λ r. ⌜ r ≡ any max-rows (λ j. bit rows j && alike (at (now (period .entry))) (at (now (second .entry))) i j) ⌝ }
+    ensures { λ r. ⌜ r ≡ any max-rows (λ j. bit rows j
+        && alike (at (now (period .entry))) (at (now (second .entry))) (at (now (way .entry))) i j) ⌝ }
 {
     let mut left = rows;
     while left != 0 {
         let j = sets::lowest_row(left);
-        if is_alike(period, second, j, i) {
+        if is_alike(period, second, way, j, i) {
             return true;
         }
         left = left ^ (1u64 << j);
@@ -56,24 +61,26 @@ fn is_repeated<'a>(
     false
 }
 
-// The lowest row that has the ends and the period of an earlier one; the row count where there is none.
+// The lowest row that has the ends, the period and the direction of an earlier one; the row count where there is none.
 fn lowest_pasted<'a>(
     rows: usize,
     period: &'a [u16; Table::ROWS],
     first: &'a [u8; Table::ROWS],
     second: &'a [u8; Table::ROWS],
+    way: &'a [u8; Table::ROWS],
 ) -> usize
-    requires { ⌜ (rows ≤ max-rows) × ((i : ℕ) → i < rows → at (now first) i < line-size) ⌝ }
-    ensures { λ r. ⌜ ((elements : ℕ) (cost : List ℕ)
-        → r ≡ lowest rows (pasted (columnTable elements rows cost (now (period .entry)) (now (first .entry)) (now (second .entry))))) ⌝ }
+    requires { ⌜ (rows ≤ max-rows) × ((i : ℕ) → i < rows → at (now first) i ≤ max-elements) ⌝ }
+    ensures { λ r. ⌜ ((elements rings : ℕ) (cost : List ℕ)
+        → r ≡ lowest rows (pasted (columnTable elements rows rings cost (now (period .entry)) (now (first .entry)) (now (second .entry))
+        (now (way .entry))))) ⌝ }
 {
     // for each element the word of the rows so far that start there
-    let mut starts = [0u64; Sets::LINE];
+    let mut starts = [0u64; Table::ELEMENTS + 1];
     let mut i: usize = 0;
     while i < rows {
         let from = table::end_at(first, i);
         let earlier = starts[from];
-        if is_repeated(earlier, period, second, i) {
+        if is_repeated(earlier, period, second, way, i) {
             return i;
         }
         starts[from] = earlier | (1u64 << i);
@@ -96,9 +103,21 @@ pub fn given(file: &[u8]) -> Decoded
         &found.columns.period,
         &found.columns.first,
         &found.columns.second,
+        &found.columns.way,
     );
     if row < found.columns.rows {
         return Decoded::refused(Answer::at(Answer::PASTED_ROW, row));
     }
     found
+}
+
+// The same where a table of one ring alone is taken: another mark gets 2, after 1.
+pub fn given_one_ring(file: &[u8]) -> Decoded
+    ensures { λ r. ⌜ Decodes (one-ring-checks (now (file .entry)) (given-checks (now (file .entry))))
+        (fileLabelled (now (file .entry))) r ⌝ }
+{
+    if decoding::has_other_mark(file) {
+        return Decoded::refused(Answer::at(Answer::WRONG_MARK, 0));
+    }
+    given(file)
 }

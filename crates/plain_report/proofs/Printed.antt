@@ -38,13 +38,13 @@ module _ (f : List ℕ) (r : Verdict) (J : IsVerdict f r) where
         fits = omega (arith, F .1);
       }
 
-  pub rendered-admitted : (c l h x s : ℕ) → r ≡ Admitted c l h x s → {was one now : List ℕ} {a size : ℕ}
+  pub rendered-admitted : (c o l h x s : ℕ) → r ≡ Admitted c o l h x s → {was one now : List ℕ} {a size : ℕ}
       → ((ws : List ℕ) × WholePlan (fileTable f) ws × PutsLines (slot-lines ws) max-slots was 0 one a)
       → ((ws : List ℕ) × WholePlan (fileTable f) ws × PutsLines (slot-lines ws) max-slots one a now size)
       → PlainRendered f was now size
-  rendered-admitted c l h x s e {was} {one} {now} {a} {size} P Q = record {
+  rendered-admitted c o l h x s e {was} {one} {now} {a} {size} P Q = record {
     lines = slot-lines (P .0) ++ slot-lines (Q .0);
-    printed = admitted (P .0) (Q .0) (admits f r J c l h x s e) (P .1) (Q .1);
+    printed = admitted (P .0) (Q .0) (admits f r J c o l h x s e) (P .1) (Q .1);
     puts = subst (λ (t : List ℕ). Puts t was 0 now size) (sym (text-join (slot-lines (P .0)) (slot-lines (Q .0))))
         (puts-more (P .2 .0) (Q .2 .0));
     fits = omega (arith, P .2 .1, Q .2 .1);

@@ -13,6 +13,7 @@ pub fn render(file: &[u8], out: &mut [u8]) -> usize
     let answer = verdict::judge(file);
     let Verdict::Admitted {
         cut: _,
+        other: _,
         interval: _,
         hyper,
         load: _,

@@ -15,7 +15,7 @@ use Rattle.numbers.proofs.Truth.{same, is-true, is-false, decide}
 use Rattle.numbers.proofs.Lists.{each-eq}
 use Rattle.rules.specs.Bounds.{max-rows, max-slots}
 use Rattle.rules.specs.Bus.{Table}
-use Rattle.rules.specs.TableFile.{version-2, labelSize, rowSize, version, fileTable}
+use Rattle.rules.specs.TableFile.{version-2, labelSize, rowSize, version, fileRings, fileTable}
 use Rattle.rules.specs.Loads.{light}
 use Rattle.rules.specs.Refusals.{Answers, short-output, verdict-checks}
 use Rattle.rules.specs.Text.{Line, text}
@@ -38,7 +38,7 @@ use Rattle.rules.proofs.Calls.{lent-take, call-must}
 use Rattle.table.specs.Sound.{Sound, Passed}
 use Rattle.table.specs.Columns.{tableOf}
 use Rattle.table.proofs.Faults.{passed-none}
-use Rattle.table.proofs.RowSizes.{label-two, label-none}
+use Rattle.table.proofs.RowSizes.{label-two, label-none, last-label}
 use Rattle.verdict.specs.declared.Verdict.{Verdict}
 use Rattle.verdict.specs.Verdict.{numberOf, placeOf, IsVerdict}
 use Rattle.decimal.specs.Puts.{Puts, PutsLine, PutsLines}
@@ -47,7 +47,7 @@ use Rattle.decimal.proofs.Text.{text-join, text-one, lines-next, lines-skip}
 use Rattle.raising.specs.declared.Raising.{Raising}
 use Rattle.raising.specs.Raises.{RaisedBeside, Raises}
 use Rattle.raising.proofs.Costs.{raise-raises}
-use Rattle.raising.proofs.Writing.{raising-none, file-none, raised-length}
+use Rattle.raising.proofs.Writing.{raising-none, one, file-none, raised-length}
 use Rattle.raise_report.specs.Printed.{Costs, raisedLines, RaiseRendered}
 
 -- ---- a line more, or none: `was < is`, as the loop tests it
@@ -144,7 +144,8 @@ module _ (f : List ℕ) (x : Raising) (R : RaisedBeside f x) where
         omega (
           arith,
           passed .size,
-          mul-le-mul-left (rowSize (version f)) (passed .sound .rows-high),
+          mul-le-mul-left (rowSize (fileRings f) (version f)) (passed .sound .rows-high),
+          last-label {r = fileRings f} (version f) (λ e. omega (arith, e, one f none)),
           label-low (version f),
         )
 

@@ -12,7 +12,7 @@ use Rattle.rules.specs.Bounds.{max-rows, max-slots}
 use Rattle.rules.specs.Bus.{Table}
 use Rattle.rules.specs.TableFile.{fileTable, fileLabelled}
 use Rattle.rules.specs.Loads.{shortest}
-use Rattle.rules.specs.Refusals.{given-checks, line-checks}
+use Rattle.rules.specs.Refusals.{Check, Answers, given-checks, one-ring-checks, line-checks}
 use Rattle.rules.specs.Raising.{raisedCost, before-13}
 use Rattle.rules.proofs.Answers.{None, stopped, joined, answered, none-of, none-join, answers-only}
 use Rattle.table.specs.Sound.{Sound}
@@ -22,7 +22,8 @@ use Rattle.table.proofs.ByRow.{by-row-only}
 use Rattle.decoding.specs.Decoded.{refusal, Decodes}
 use Rattle.decoding.specs.declared.Decoded.{Decoded}
 use Rattle.decoding.proofs.Decoding.{decodes-only}
-use Rattle.pasted.proofs.AsGiven.{given-numbered, given-passed}
+use Rattle.pasted.proofs.AsGiven.{given-passed}
+use Rattle.pasted.proofs.OneRing.{one-ring-numbered, one-ring-none}
 use Rattle.time.specs.Time.{Timed}
 use Rattle.outline.specs.declared.Layout.{Layout}
 use Rattle.outline.specs.Layout.{LaidOut}
@@ -38,7 +39,11 @@ raising-refused : {f : List ℕ} (a : Answer) → a .number ≢ 0 → Decodes (b
     → RaisedBeside f (unraised a)
 raising-refused a h D = record { given = D; costs = λ e. absurd (h e); none = λ e. refl }
 
-module _ (f : List ℕ) (r : Decoded) (D : Decodes (given-checks f) (fileLabelled f) r) where
+-- 1 to 9 and 18, where a table of one ring alone is taken
+abbrev pub one-given : List ℕ → List Check
+one-given f = one-ring-checks f (given-checks f)
+
+module _ (f : List ℕ) (r : Decoded) (D : Decodes (one-given f) (fileLabelled f) r) where
   abbrev t : Table
   t = fileTable f
 
@@ -47,21 +52,24 @@ module _ (f : List ℕ) (r : Decoded) (D : Decodes (given-checks f) (fileLabelle
   raising-given h =
       raising-refused (r .answer) h
       record {
-        answers = stopped (given-checks f) (line-checks t) _ _ h (D .answers);
+        answers = stopped (one-given f) (line-checks t) _ _ h (D .answers);
         passed = λ e. absurd (h e);
         labelled = λ e. absurd (h e);
         refused = λ e. (refl, refl);
       }
 
   module _ (z : r .answer .number ≡ 0) where
-    none : None (given-checks f)
-    none = none-of (given-checks f) (r .answer .place) (given-numbered f) (rw z at (D .answers))
+    passes : Answers (one-given f) 0 (r .answer .place)
+    passes = rw z at (D .answers)
+
+    none : None (one-given f)
+    none = none-of (one-given f) (r .answer .place) (one-ring-numbered f) passes
 
     held : tableOf (r .columns) ≡ t
     held = D .passed z .table
 
     sound : Sound t
-    sound = given-passed f none .sound
+    sound = given-passed f (one-ring-none f (r .answer .place) passes) .sound
 
     pub raising-sound : Sound (tableOf (r .columns))
     raising-sound = rw held sound
@@ -78,7 +86,7 @@ module _ (f : List ℕ) (r : Decoded) (D : Decodes (given-checks f) (fileLabelle
       raising-line h =
           raising-refused (l .answer) h
           record {
-            answers = joined (given-checks f) (line-checks t) _ _ none (of-file .answers);
+            answers = joined (one-given f) (line-checks t) _ _ none (of-file .answers);
             passed = λ e. absurd (h e);
             labelled = λ e. absurd (h e);
             refused = λ e. (refl, refl);
@@ -93,7 +101,7 @@ module _ (f : List ℕ) (r : Decoded) (D : Decodes (given-checks f) (fileLabelle
 
         all-none : None (before-13 f)
         all-none =
-            none-join (given-checks f) (line-checks t) none
+            none-join (one-given f) (line-checks t) none
             (none-of (line-checks t) (l .answer .place) (line-numbered t) (rw y at (of-file .answers)))
 
         costs-are : (cs : List ℕ) → ByRow (t .rows) (λ i. max (t .cost i) (up (t .period i) (l .time .interval))) cs
@@ -111,7 +119,7 @@ module _ (f : List ℕ) (r : Decoded) (D : Decodes (given-checks f) (fileLabelle
         raising-done cs B = record {
           given = record {
             answers =
-                let e = answers-only (given-checks f) _ 0 _ 0 (D .answers) (answered (given-checks f) none) in
+                let e = answers-only (one-given f) _ 0 _ 0 (D .answers) (answered (one-given f) none) in
                 rw (e .0, e .1) (answered (before-13 f) all-none);
             passed = D .passed;
             labelled = D .labelled;

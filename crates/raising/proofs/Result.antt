@@ -13,7 +13,7 @@ use Rattle.numbers.specs.Lists.{each}
 use Rattle.numbers.specs.Codec.{readLow}
 use Rattle.numbers.proofs.Truth.{snd, along, le-or-lt}
 use Rattle.rules.specs.Bus.{Table, Labelled, through, pasted}
-use Rattle.rules.specs.TableFile.{headerSize, labelSize, rowWith, rowSize, version, fileTable, fileLabelled, numbers, bytes, memoryLabelled}
+use Rattle.rules.specs.TableFile.{headerSize, lastSize, rowSize, version, fileRings, fileTable, fileLabelled, numbers, bytes}
 use Rattle.rules.specs.Loads.{hyperperiod, shortest, equalPeriods, light}
 use Rattle.rules.specs.Refusals.{
   Check,
@@ -23,6 +23,7 @@ use Rattle.rules.specs.Refusals.{
   file-checks,
   pasted-checks,
   given-checks,
+  cut-checks,
   line-checks,
   bound-checks,
   verdict-checks,
@@ -33,11 +34,11 @@ use Rattle.table.specs.Sound.{Sound}
 use Rattle.table.specs.Columns.{Whole}
 use Rattle.table.proofs.Faults.{passed-none}
 use Rattle.decoding.proofs.Decoding.{Blank, blank-past, label-past}
-use Rattle.outline.proofs.Outlined.{outline-numbered}
-use Rattle.round_trip.proofs.RoundTrip.{Alike, bytes-alike, memory-back, file-back, version-back, written-passes}
+use Rattle.outline.specs.Outlined.{outline-checks}
+use Rattle.round_trip.proofs.RoundTrip.{Alike, Fits, last-told, bytes-alike, file-back, written-passes}
 use Rattle.raising.specs.Raises.{Raised-verdict}
 use Rattle.raising.proofs.Costs.{heavy-stays, raise-raises}
-use Rattle.raising.proofs.Writing.{file-none, raised-passes}
+use Rattle.raising.proofs.Writing.{before-numbered, one, outline-none, file-none, raised-told, raised-passes, raised-back}
 
 -- ---- past the last row nothing is raised
 
@@ -65,15 +66,18 @@ same-table {s} {t} q p r l =
     let period : s .table .period ≡ t .table .period = each-row (q .period) (λ i m. p i m .period ∙ sym (r i m .period)) in
     let first : s .table .first ≡ t .table .first = each-row (q .first) (λ i m. p i m .first ∙ sym (r i m .first)) in
     let second : s .table .second ≡ t .table .second = each-row (q .second) (λ i m. p i m .second ∙ sym (r i m .second)) in
+    let way : s .table .way ≡ t .table .way = each-row (q .way) (λ i m. p i m .way ∙ sym (r i m .way)) in
     let label : s .label ≡ t .label = each-row (q .label) l in
     λ k. record {
       table = record {
         elements = q .elements k;
         rows = q .rows k;
+        rings = q .rings k;
         cost = cost k;
         period = period k;
         first = first k;
         second = second k;
+        way = way k;
       };
       label = label k;
     }
@@ -107,7 +111,7 @@ unfolding pasted-checks pasted
 pasted-stays t a = a
 
 line-stays : (t : Table) → None (line-checks t) → None (line-checks (raised t))
-unfolding line-checks through hyperperiod
+unfolding line-checks cut-checks through hyperperiod
 line-stays t a = a
 
 -- of 13 and 14 only 14 is left
@@ -129,38 +133,44 @@ module _ (f : List ℕ) (none : None (before-13 f)) where
   abbrev v : ℕ
   v = version f
 
-  fits : labelSize v ≡ 0 → (i : ℕ) → i < g .table .rows → g .label i ≡ 0
+  abbrev r : ℕ
+  r = fileRings f
+
+  fits : Fits (lastSize r v) g
   unfolding readLow
-  fits e i l = ap (λ (k : ℕ). readLow k f (headerSize + rowWith (labelSize v) * i + 6)) e
+  fits e i l =
+      let p : ℕ = headerSize + rowSize r v * i + 6 in
+      last-told r (readLow (lastSize r v) f p) ∙ ap (λ (k : ℕ). readLow k f p) e
 
   result-none : None (file-checks (raisedFile f))
   result-none =
-      subst (λ (xs : List ℕ). None (file-checks xs)) (bytes-alike v (memory-back g))
-      (written-passes v (g .table .elements) (g .table .rows) (numbers g) (raised-passes f none))
+      subst (λ (xs : List ℕ). None (file-checks xs)) (bytes-alike v (raised-back f none))
+      (written-passes 1 v (g .table .elements) (g .table .rows) (numbers g) (inl refl) (raised-passes f none))
 
   whole : (xs : List ℕ) → None (file-checks xs) → Whole xs
   whole xs a = let p = passed-none xs a in record { size = p .size; few = p .sound .rows-high }
 
   result-table : fileLabelled (raisedFile f) ≡ g
   result-table =
-      let back : Alike (fileLabelled (raisedFile f)) g = file-back v g fits in
+      let back : Alike (fileLabelled (raisedFile f)) g = file-back v g (inl (one f none)) fits (raised-told f none) in
       let mine : Whole f = whole f (file-none f none) in
       let its : Whole (raisedFile f) = whole (raisedFile f) result-none in
       same-table back (λ i l. blank-past its (rw (back .rows) l)) (λ i l. blank-row (blank-past mine l))
-      (λ i l. label-past its i (rw (back .rows) l) ∙ sym (label-past mine i l))
+      (λ i l. label-past its (rw (back .rows) l) ∙ sym (label-past mine l))
     where
       blank-row : {i : ℕ} → Blank (given .table) i → Blank (g .table) i
-      blank-row B = record { cost = blank-raised B; period = B .period; first = B .first; second = B .second }
+      blank-row B = record { cost = blank-raised B; period = B .period; first = B .first; second = B .second; way = B .way }
 
-  result-before : None (before-13 (raisedFile f))
+  result-before : None (outline-checks (raisedFile f))
   unfolding given-checks
   result-before =
       let t : Table = given .table in
       let e : fileTable (raisedFile f) ≡ raised t = ap (λ (u : Labelled). u .table) result-table in
       none-join (given-checks (raisedFile f)) (line-checks (fileTable (raisedFile f)))
       (none-join (file-checks (raisedFile f)) (pasted-checks (fileTable (raisedFile f))) result-none
-      (rw e (pasted-stays t (none-right (file-checks f) (pasted-checks t) (none-left (given-checks f) (line-checks t) none)))))
-      (rw e (line-stays t (none-right (given-checks f) (line-checks t) none)))
+      (rw e (pasted-stays t (none-right (file-checks f) (pasted-checks t) (none-left (given-checks f) (line-checks t)
+      (outline-none f none))))))
+      (rw e (line-stays t (none-right (given-checks f) (line-checks t) (outline-none f none))))
 
   result-answers : (n p : ℕ) → Answers (verdict-checks (raisedFile f)) n p → (n ≡ 0) ⊎ (n ≡ 14)
   unfolding verdict-checks
@@ -168,7 +178,7 @@ module _ (f : List ℕ) (none : None (before-13 f)) where
       let t : Table = given .table in
       let e : fileTable (raisedFile f) ≡ raised t = ap (λ (u : Labelled). u .table) result-table in
       bounds-answer t (passed-none f (file-none f none) .sound) n p
-      (rw e at (unjoined (before-13 (raisedFile f)) (bound-checks (fileTable (raisedFile f))) n p result-before a))
+      (rw e at (unjoined (outline-checks (raisedFile f)) (bound-checks (fileTable (raisedFile f))) n p result-before a))
 
 pub raised-verdict : Raised-verdict
-raised-verdict f a = let none = none-of (before-13 f) 0 (outline-numbered f) a in (result-table f none, result-answers f none)
+raised-verdict f a = let none = none-of (before-13 f) 0 (before-numbered f) a in (result-table f none, result-answers f none)

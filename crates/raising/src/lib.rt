@@ -63,11 +63,11 @@ fn refused(answer: Answer) -> Raising
     }
 }
 
-// A file's table and its raised costs, or the first refusal of 1 to 9, 18, 10 and 11.
+// A file's table and its raised costs, or the first refusal of 1 to 9, 18, 10 and 11. A table of one ring alone is taken.
 pub fn raised_table(file: &[u8]) -> Raising
     ensures { λ r. ⌜ RaisedBeside (now (file .entry)) r ⌝ }
 {
-    let found = pasted::given(file);
+    let found = pasted::given_one_ring(file);
     let answer = found.answer;
     if answer.number != Answer::DONE {
         return refused(answer);
@@ -75,9 +75,11 @@ pub fn raised_table(file: &[u8]) -> Raising
     let laid = outline::layout_of(
         found.columns.elements,
         found.columns.rows,
+        found.columns.rings,
         &found.columns.period,
         &found.columns.first,
         &found.columns.second,
+        &found.columns.way,
     );
     let placed = laid.answer;
     if placed.number != Answer::DONE {
@@ -116,7 +118,7 @@ pub fn raise(file: &[u8], out: &mut [u8]) -> Answer
         &found.given.labels,
         &mut numbers,
     );
-    writer::write(
+    writer::write_plain(
         version_of(file),
         columns.elements as u64,
         columns.rows as u64,

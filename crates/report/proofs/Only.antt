@@ -6,11 +6,10 @@ use lib.ListN.{length, take}
 use lib.Seq.{sets}
 use Rattle.rules.specs.Bus.{Table}
 use Rattle.rules.specs.TableFile.{fileTable}
-use Rattle.rules.specs.Line as line
 use Rattle.rules.specs.Loads.{hyperperiod, shortest, reported}
 use Rattle.rules.specs.Refusals.{Answers, verdict-checks}
 use Rattle.rules.specs.Text.{Line, text}
-use Rattle.rules.specs.Program.{verdict, values, set-lines, slot-lines, max-input, Printed, refused, admitted}
+use Rattle.rules.specs.Program.{verdict, cut-lines, values, set-lines, slot-lines, max-input, Printed, refused, admitted}
 use Rattle.rules.proofs.Answers.{answers-only}
 use Rattle.rules.proofs.Sets.{sets-only}
 use Rattle.rules.proofs.Plans.{plan-only}
@@ -19,7 +18,7 @@ use Rattle.report.proofs.Printed.{carried}
 
 abbrev admitted-lines : Table → List ℕ → List ℕ → List Line
 admitted-lines t ws vs =
-    verdict 0 0 ∷ (values (line.cut t) (shortest t) (hyperperiod t) (reported t ws) ++ (set-lines ws ++ slot-lines vs))
+    verdict 0 0 ∷ (cut-lines t ++ (values (shortest t) (hyperperiod t) (reported t ws) ++ (set-lines ws ++ slot-lines vs)))
 
 module _ (input : List ℕ) where
   abbrev answers : ℕ → ℕ → Type 0

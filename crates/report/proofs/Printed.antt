@@ -26,12 +26,13 @@ use Rattle.verdict.proofs.Judging.{refused-number}
 use Rattle.promises.proofs.Demands.{plan-size}
 use Rattle.table.specs.declared.Answer.{Answer}
 use Rattle.planner.specs.Answers.{PlanAnswer}
-use Rattle.rules.specs.Text.{textOf, text}
+use Rattle.rules.specs.Text.{Line, textOf, text}
 use Rattle.decimal.specs.Puts.{Puts, PutsLine, PutsLines}
 use Rattle.decimal.proofs.Puts.{puts-more}
 use Rattle.decimal.proofs.Text.{text-first, text-join, text-one}
 use Rattle.rules.specs.Program.{verdict, values, set-lines, slot-lines, max-input, Printed, refused, admitted}
-use Rattle.report.specs.Rendered.{Rendered}
+use Rattle.report.specs.Rendered.{cuts, Rendered}
+use Rattle.report.proofs.Cuts.{cuts-are}
 
 -- ---- an admitted table's lists
 
@@ -94,8 +95,8 @@ module _ (f : List ℕ) (r : Verdict) (J : IsVerdict f r) where
     pub refusal : IsVerdict f (Refused x)
     refusal = subst (λ (v : Verdict). IsVerdict f v) e J
 
-  module _ (c l h x s : ℕ) (e : r ≡ Admitted c l h x s) where
-    admission : IsVerdict f (Admitted c l h x s)
+  module _ (c o l h x s : ℕ) (e : r ≡ Admitted c o l h x s) where
+    admission : IsVerdict f (Admitted c o l h x s)
     admission = subst (λ (v : Verdict). IsVerdict f v) e J
 
     pub admits : Answers (verdict-checks f) 0 0
@@ -111,17 +112,20 @@ module _ (f : List ℕ) (r : Verdict) (J : IsVerdict f r) where
         let y : p ≡ x .place = ep ∙ ap placeOf e in
         rw (z, y) (refused (x .number) (x .place) (rw i at (refusal x e .answers)) (refused-number x (refusal x e)))
 
-    printed-admitted : (c l h x s : ℕ) → r ≡ Admitted c l h x s → (ws plan : List ℕ)
+    printed-admitted : (c o l h x s : ℕ) → r ≡ Admitted c o l h x s → (ws plan : List ℕ)
         → Sets (fileTable f) ws → WholePlan (fileTable f) plan
-        → Printed input (verdict n p ∷ (values c l h x ++ (set-lines ws ++ slot-lines plan)))
-    printed-admitted c l h x s e ws plan S W =
-        let A = admission c l h x s e .done refl in
-        let a = admits c l h x s e in
+        → Printed input (verdict n p ∷ (cuts c o ++ (values l h x ++ (set-lines ws ++ slot-lines plan))))
+    printed-admitted c o l h x s e ws plan S W =
+        let A = admission c o l h x s e .done refl in
+        let a = admits c o l h x s e in
+        let C = carried f a in
         let z : n ≡ 0 = en ∙ ap numberOf e in
         let y : p ≡ 0 = ep ∙ ap placeOf e in
-        let same : A .list ≡ ws = sets-only (carried f a .sound .rows-low) (A .listed) S in
-        rw (z, y, A .cut-is, A .interval-is, A .hyper-is, A .load-is ∙ ap (reported (fileTable f)) same)
-        (admitted (fileTable f) ws plan (ap fileTable i) (rw i at a) S W)
+        let same : A .list ≡ ws = sets-only (C .sound .rows-low) (A .listed) S in
+        subst (λ (ls : List Line). Printed input (verdict n p ∷ (ls ++ (values l h x ++ (set-lines ws ++ slot-lines plan)))))
+        (sym (cuts-are (C .sound) (C .clear) (A .cut-is) (A .second-is)))
+        (rw (z, y, A .interval-is, A .hyper-is, A .load-is ∙ ap (reported (fileTable f)) same)
+        (admitted (fileTable f) ws plan (ap fileTable i) (rw i at a) S W))
 
     module _ {was one : List ℕ} {a : ℕ} (F : PutsLine (verdict n p) was 0 one a) where
       pub rendered-refused : (x : Answer) → r ≡ Refused x → Rendered input was one a
@@ -132,19 +136,21 @@ module _ (f : List ℕ) (r : Verdict) (J : IsVerdict f r) where
         fits = omega (arith, F .1);
       }
 
-      module _ (c l h x s : ℕ) (e : r ≡ Admitted c l h x s) {two three now : List ℕ} {b d size : ℕ} where
-        pub rendered-admitted : PutsLines (values c l h x) 4 one a two b
-            → ((ws : List ℕ) × Sets (fileTable f) ws × PutsLines (set-lines ws) max-rows two b three d)
-            → ((ws : List ℕ) × WholePlan (fileTable f) ws × PutsLines (slot-lines ws) max-slots three d now size)
+      module _ (c o l h x s : ℕ) (e : r ≡ Admitted c o l h x s) {two three four now : List ℕ} {b d g size : ℕ} where
+        pub rendered-admitted : PutsLines (cuts c o) 2 one a two b → PutsLines (values l h x) 3 two b three d
+            → ((ws : List ℕ) × Sets (fileTable f) ws × PutsLines (set-lines ws) max-rows three d four g)
+            → ((ws : List ℕ) × WholePlan (fileTable f) ws × PutsLines (slot-lines ws) max-slots four g now size)
             → Rendered input was now size
-        rendered-admitted A S P =
-            let joined = text-first (verdict n p) (values c l h x ++ (set-lines (S .0) ++ slot-lines (P .0)))
-            ∙ ap (λ (t : List ℕ). textOf (verdict n p) ++ t) (text-join (values c l h x) (set-lines (S .0) ++ slot-lines (P .0))
-            ∙ ap (λ (t : List ℕ). text (values c l h x) ++ t) (text-join (set-lines (S .0)) (slot-lines (P .0)))) in
+        rendered-admitted C A S P =
+            let lists : List Line = set-lines (S .0) ++ slot-lines (P .0) in
+            let joined = text-first (verdict n p) (cuts c o ++ (values l h x ++ lists))
+            ∙ ap (λ (t : List ℕ). textOf (verdict n p) ++ t) (text-join (cuts c o) (values l h x ++ lists)
+            ∙ ap (λ (t : List ℕ). text (cuts c o) ++ t) (text-join (values l h x) lists
+            ∙ ap (λ (t : List ℕ). text (values l h x) ++ t) (text-join (set-lines (S .0)) (slot-lines (P .0))))) in
             record {
-              lines = verdict n p ∷ (values c l h x ++ (set-lines (S .0) ++ slot-lines (P .0)));
-              printed = printed-admitted c l h x s e (S .0) (P .0) (S .1) (P .1);
+              lines = verdict n p ∷ (cuts c o ++ (values l h x ++ lists));
+              printed = printed-admitted c o l h x s e (S .0) (P .0) (S .1) (P .1);
               puts = subst (λ (t : List ℕ). Puts t was 0 now size) (sym joined)
-                  (puts-more (F .0) (puts-more (A .0) (puts-more (S .2 .0) (P .2 .0))));
-              fits = omega (arith, F .1, A .1, S .2 .1, P .2 .1);
+                  (puts-more (F .0) (puts-more (C .0) (puts-more (A .0) (puts-more (S .2 .0) (P .2 .0)))));
+              fits = omega (arith, F .1, C .1, A .1, S .2 .1, P .2 .1);
             }

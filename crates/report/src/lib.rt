@@ -19,13 +19,13 @@ ghost use Rattle.rules.specs.Calls.{fileAsk};
 ghost use Rattle.planner.specs.Answers.{PlanAnswer};
 ghost use Rattle.decimal.specs.Puts.{limit, lineOf, max-line, PutsLine, PutsLines};
 ghost use Rattle.rules.specs.Program.{verdict, values, set, slot, set-lines, slot-lines};
-ghost use Rattle.report.specs.Rendered.{Rendered};
+ghost use Rattle.report.specs.Rendered.{cuts, Rendered};
 
 // The program's input: one byte more than the longest table file has, so that a longer one is refused for its length.
 pub const INPUT: usize = Table::FILE_BYTES + 1;
 
-// Room for every report: 64 bytes for each of the verdict, the four values, the sets and the slots.
-pub const SIZE: usize = 64 * (5 + Table::ROWS + Table::SLOTS);
+// Room for every report: 64 bytes for each of the verdict, two cuts, the three values, the sets and the slots.
+pub const SIZE: usize = 64 * (6 + Table::ROWS + Table::SLOTS);
 
 // ---- lines
 
@@ -43,13 +43,24 @@ pub fn put_verdict(number: u32, place: u32, out: &mut [u8]) -> usize
     put_line(b"verdict", &[number as u64, place as u64], out, 0)
 }
 
-fn put_values(cut: u32, interval: u32, hyper: u32, load: u32, out: &mut [u8], at: usize) -> usize
-    requires { ⌜ at + max-line * 4 ≤ limit ⌝ }
-    ensures { λ r. ⌜ PutsLines (values cut interval hyper load) 4 (now (out .entry)) at (now (out .exit)) r ⌝ }
+// The cut of each ring; that of the other is 0 where there is one ring.
+fn put_cuts(cut: u32, other: u32, out: &mut [u8], at: usize) -> usize
+    requires { ⌜ at + max-line * 2 ≤ limit ⌝ }
+    ensures { λ r. ⌜ PutsLines (cuts cut other) 2 (now (out .entry)) at (now (out .exit)) r ⌝ }
 {
-    let second = put_value(b"cut", cut as u64, out, at);
-    let third = put_value(b"interval", interval as u64, out, second);
-    let last = put_value(b"hyper", hyper as u64, out, third);
+    let next = put_value(b"cut", cut as u64, out, at);
+    if other == 0 {
+        return next;
+    }
+    put_value(b"cut", other as u64, out, next)
+}
+
+fn put_values(interval: u32, hyper: u32, load: u32, out: &mut [u8], at: usize) -> usize
+    requires { ⌜ at + max-line * 3 ≤ limit ⌝ }
+    ensures { λ r. ⌜ PutsLines (values interval hyper load) 3 (now (out .entry)) at (now (out .exit)) r ⌝ }
+{
+    let next = put_value(b"interval", interval as u64, out, at);
+    let last = put_value(b"hyper", hyper as u64, out, next);
     put_value(b"load", load as u64, out, last)
 }
 
@@ -147,6 +158,7 @@ pub fn render(input: &[u8], out: &mut [u8]) -> usize
     let first = put_verdict(answer.number(), answer.place(), out);
     let Verdict::Admitted {
         cut,
+        other,
         interval,
         hyper,
         load,
@@ -155,7 +167,8 @@ pub fn render(input: &[u8], out: &mut [u8]) -> usize
     else {
         return first;
     };
-    let valued = put_values(cut, interval, hyper, load, out, first);
+    let parted = put_cuts(cut, other, out, first);
+    let valued = put_values(interval, hyper, load, out, parted);
     let listed = put_list(file, out, valued);
     put_plan(file, false, hyper, out, listed)
 }

@@ -114,7 +114,8 @@ route-uses {M} {c} {a} {b} {s} r es =
     let w = route-within r es h in
     both (leb (lineElement M c a) (lineElement M c s)) (ltb (lineElement M c s) (lineEnd M c b)) (le→leb _ _ (w .0)) (lt→ltb _ _ (w .1)))
     (λ h.
-    route-used r es (leb→le _ _ (fst (leb (lineElement M c a) (lineElement M c s)) _ h)) (ltb→lt _ _ (snd (leb (lineElement M c a) (lineElement M c s)) _ h)))
+    route-used r es (leb→le _ _ (fst (leb (lineElement M c a) (lineElement M c s)) _ h))
+    (ltb→lt _ _ (snd (leb (lineElement M c a) (lineElement M c s)) _ h)))
 
 -- ---- two routes
 

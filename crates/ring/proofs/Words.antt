@@ -1,18 +1,19 @@
 -- #102: the word of a route's segments, and that two rows share the segments that are in both words.
 use mathlib.Core.Path.{_≡_, refl, sym, ap, ap₂, _∙_}
-use mathlib.Core.Logic.{⊎-elim}
+use mathlib.Core.Logic.{⊎-elim, _≢_}
 use mathlib.Core.Bool.{Bool, true, false, _&&_, _||_, and-true, and-false}
 use Prim.Native.Nat.{ℕ, suc, _+_, _/_, _%_, _^_, _≤_, _<_}
 use native.Mathlib.Numerals.{one-add}
 use native.Mathlib.Omega.{arith}
 use lib.Bits.{bitOr, bitAnd}
-use lib.Dec.{eqb, leb, ltb, le→leb, lt→ltb, ltb→lt}
+use lib.Dec.{eqb, eqb→eq, leb, ltb, le→leb, lt→ltb, ltb→lt}
 use lib.Pow.{shr-shr}
 use Rattle.numbers.specs.Word.{bit, Stretch, word}
-use Rattle.numbers.proofs.Truth.{is-true, is-false, le-or-lt}
-use Rattle.numbers.proofs.Word.{bit-or, bit-and, bit-word, bit-ext, word-lt}
-use Rattle.rules.specs.Bus.{Table, uses, routeUses, shared}
-use Rattle.ring.specs.Route.{Shows, segments}
+use Rattle.numbers.proofs.Truth.{is-true, is-false, eqb-of, le-or-lt}
+use Rattle.numbers.proofs.Word.{bit-zero, bit-or, bit-and, bit-word, bit-ext, word-eq, word-lt}
+use Rattle.rules.specs.Bus.{Table, clockwise, uses, routeUses, shared}
+use Rattle.ring.specs.Route.{Element, Shows, segments, rowSegments}
+use Rattle.ring.proofs.Mirror.{clockwise-uses, counterclockwise-uses}
 
 -- `(w >> n)`: bit k is bit n + k
 bit-shifted : (w n k : ℕ) → bit (w / 2 ^ n) k ≡ bit w (n + k)
@@ -55,17 +56,38 @@ pub segments-fit : (M a b : ℕ) → segments M a b < 2 ^ M
 unfolding segments
 segments-fit M a b = word-lt M (λ s. routeUses M a b (suc s))
 
+-- ---- rows of either ring
+
+-- a row's segments are those of a route one way or the other
+pub row-clockwise : {d : ℕ} (M a b : ℕ) → d ≡ clockwise → segments M a b ≡ rowSegments M d a b
+unfolding segments rowSegments
+row-clockwise M a b e = word-eq M _ _ (λ s l. sym (clockwise-uses M a b (suc s) e))
+
+pub row-counterclockwise : {M d a b : ℕ} → d ≢ clockwise → Element M a → Element M b → segments M b a ≡ rowSegments M d a b
+unfolding segments rowSegments
+row-counterclockwise {M} n x y =
+    word-eq M _ _ (λ s l. sym (counterclockwise-uses n x y (record { low = omega arith; high = omega (arith, l) })))
+
 -- ---- two rows
 
-pub both-segments : (t : Table) (i j : ℕ)
-    → bitAnd (segments (t .elements) (t .first i) (t .second i)) (segments (t .elements) (t .first j) (t .second j)) ≡ shared t i j
-unfolding segments shared uses
-both-segments t i j =
+abbrev rowWord : Table → ℕ → ℕ
+rowWord t i = rowSegments (t .elements) (t .way i) (t .first i) (t .second i)
+
+pub both-segments : (t : Table) (i j : ℕ) → t .way i ≡ t .way j → bitAnd (rowWord t i) (rowWord t j) ≡ shared t i j
+unfolding rowSegments shared uses
+both-segments t i j e =
     bit-ext _ _
     (λ k.
     bit-and _ _ k ∙ ap₂ _&&_ (bit-word (t .elements) _ k) (bit-word (t .elements) _ k)
-    ∙ shared-bit (ltb k (t .elements)) _ _ ∙ sym (bit-word (t .elements) _ k))
+    ∙ shared-bit (ltb k (t .elements)) (eqb (t .way i) (t .way j)) _ _ (is-true _ (eqb-of _ _ e)) ∙ sym (bit-word (t .elements) _ k))
   where
-    shared-bit : (l p q : Bool) → ((l && p) && (l && q)) ≡ (l && (p && q))
-    shared-bit true p q = refl
-    shared-bit false p q = refl
+    shared-bit : (l same p q : Bool) → same ≡ true → ((l && p) && (l && q)) ≡ (l && (same && (p && q)))
+    shared-bit true same p q z = rw z
+    shared-bit false same p q z = refl
+
+-- rows of different rings share none
+pub no-segments : (t : Table) (i j : ℕ) → t .way i ≢ t .way j → 0 ≡ shared t i j
+unfolding shared
+no-segments t i j n =
+    let none : eqb (t .way i) (t .way j) ≡ false = is-false _ (λ h. n (eqb→eq _ _ h)) in
+    bit-ext 0 _ (λ k. bit-zero k ∙ sym (bit-word (t .elements) _ k ∙ rw none (and-false (ltb k (t .elements)))))

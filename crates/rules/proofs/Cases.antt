@@ -20,18 +20,20 @@ use Rattle.numbers.proofs.Finite.{every-at, lowest-is}
 use Rattle.numbers.proofs.Pairs.{pair-gcd-step, pair-gcd-zero, pair-lcm-by}
 use Rattle.numbers.proofs.Divisors.{dvd-of, lcm-of-least}
 use Rattle.numbers.proofs.Tests.{Test, and-test, every-test}
-use Rattle.rules.specs.Bus.{Table, unlabelled, steps, uses, through, overlap, pasted}
-use Rattle.rules.specs.TableFile.{version-1, version-2, labelSize, rowBytes, bytes}
-use Rattle.rules.specs.Line.{clear, cut, onLine, lineFirst, lineSecond, Sets}
+use Rattle.rules.specs.Bus.{Table, unlabelled, mirror, mirrorSegment, steps, uses, through, overlap, pasted}
+use Rattle.rules.specs.TableFile.{version-1, version-2, ringsOf, markOf, labelSize, lastSize, wayIn, labelIn, lastOf}
+use Rattle.rules.specs.TableFile.{rowBytes, bytes}
+use Rattle.rules.specs.Line.{clear, cut, boardCut, onLine, lineFirst, lineSecond, Sets}
 use Rattle.rules.specs.Loads.{hyperperiod, jobEnd, nextEnd, start, end, intervals, someInterval, shortest}
 use Rattle.rules.specs.Loads.{rate, share, equalPeriods, light, past, over, reported}
 use Rattle.rules.specs.Interval.{lag, before, hinders, free}
 use Rattle.rules.specs.Planner.{Stage, due, finished, none, more, reached, Off, standing, WholePlan}
 use Rattle.rules.specs.Refusals.{header-checks, row-checks, file-checks, pasted-checks, given-checks}
-use Rattle.rules.specs.Refusals.{line-checks, bound-checks, verdict-checks}
+use Rattle.rules.specs.Refusals.{cut-checks, line-checks, bound-checks, verdict-checks}
 use Rattle.rules.specs.Cases.{case-A, case-A-labels, case-B, case-B-with, equal-with, pasted-with, round, thirds, halves}
 use Rattle.rules.specs.Cases.{none-had, B-at, Cases}
 use Rattle.rules.specs.Cases.{uneven, uneven-with}
+use Rattle.rules.specs.Cases.{board, turned-with, round-turned, twice-with}
 use Rattle.rules.proofs.Sets.{set-in, sets-only, sets-by}
 use Rattle.rules.proofs.Verdict.{verdict-by}
 use Rattle.rules.proofs.Steps.{Outcome, Outcomes, Best, rounded-test, qualify-test, moved-on, outcomes-by, best-test}
@@ -40,11 +42,10 @@ use Rattle.rules.proofs.Plans.{run-more}
 
 -- All that computes below: an `unfolding` line that names it opens all that its own line names.
 computing : Unit {0}
-unfolding any every lowest highest only sum bit lcm product Rounded each steps uses through overlap pasted readLow writeLow labelSize
-    rowBytes bytes clear cut onLine lineFirst lineSecond hyperperiod jobEnd nextEnd start end intervals someInterval shortest rate
-    equalPeriods light past over largest
-    reported lag before hinders free standing header-checks row-checks file-checks pasted-checks given-checks line-checks bound-checks
-    verdict-checks
+unfolding any every lowest highest only sum bit lcm product Rounded each mirror mirrorSegment steps uses through overlap pasted readLow
+    writeLow ringsOf markOf labelSize lastSize wayIn labelIn lastOf rowBytes bytes clear cut boardCut onLine lineFirst lineSecond
+    hyperperiod jobEnd nextEnd start end intervals someInterval shortest rate equalPeriods light past over largest reported lag before
+    hinders free standing header-checks row-checks file-checks pasted-checks given-checks cut-checks line-checks bound-checks verdict-checks
 computing = tt
 
 -- a table's file in version 1
@@ -69,6 +70,18 @@ sets-thirds = sets-by thirds (1 ∷ []) tt
 sets-halves : Sets halves (3 ∷ 6 ∷ [])
 unfolding computing
 sets-halves = sets-by halves (3 ∷ 6 ∷ []) tt
+
+sets-board : Sets board (3 ∷ 12 ∷ [])
+unfolding computing
+sets-board = sets-by board (3 ∷ 12 ∷ []) tt
+
+sets-turned : Sets (turned-with 1 1) (3 ∷ [])
+unfolding computing
+sets-turned = sets-by (turned-with 1 1) (3 ∷ []) tt
+
+sets-apart : Sets (turned-with 1 0) (2 ∷ 1 ∷ [])
+unfolding computing
+sets-apart = sets-by (turned-with 1 0) (2 ∷ 1 ∷ []) tt
 
 -- a list of sets that is there is the only one
 listed : (t : Table) (ws vs : List ℕ) → 0 < t .rows → Sets t vs → Sets t ws ↔ (ws ≡ vs)
@@ -267,4 +280,19 @@ cases = record {
   uneven-over = over-uneven;
   labels-bytes = refl;
   labels-verdict = verdict-by (bytes version-2 case-A-labels) (3 ∷ 6 ∷ []) 0 0 tt tt refl;
+  board-bytes = refl;
+  board-cuts = (refl, refl);
+  board-sets = λ ws. listed board ws (3 ∷ 12 ∷ []) (lit< tt) sets-board;
+  board-verdict = verdict-by (file board) (3 ∷ 12 ∷ []) 0 0 tt tt refl;
+  clockwise-alone = (refl, refl);
+  turned-alone = (refl, refl);
+  turned-sets = λ ws. listed (turned-with 1 1) ws (3 ∷ []) (lit< tt) sets-turned;
+  apart-sets = λ ws. listed (turned-with 1 0) ws (2 ∷ 1 ∷ []) (lit< tt) sets-apart;
+  no-second = refl;
+  round-turned-verdict = verdict-by (file round-turned) (7 ∷ []) 10 1 tt tt refl;
+  both-ways = verdict-by (file (twice-with 0 1 1)) (1 ∷ 2 ∷ []) 0 0 tt tt refl;
+  same-way = verdict-by (file (twice-with 1 1 1)) (3 ∷ []) 18 1 tt tt refl;
+  third-way = verdict-by (file (twice-with 0 1 2)) (1 ∷ 2 ∷ []) 26 1 tt tt refl;
+  cost-first = verdict-by (file (twice-with 0 0 2)) (1 ∷ 2 ∷ []) 9 1 tt tt refl;
+  row-first = verdict-by (file (twice-with 2 0 0)) (2 ∷ 1 ∷ []) 26 0 tt tt refl;
 }

@@ -1,4 +1,5 @@
 pub mod Answers
+pub mod Rings
 pub mod Calls
 pub mod Small
 pub mod Shared

@@ -4,7 +4,7 @@ use mathlib.Core.List.{List}
 use Prim.Native.Nat.{ℕ}
 use lib.ListN.{length, length-map}
 use Rattle.numbers.specs.Lists.{at}
-use Rattle.rules.specs.Bus.{Table, Labelled}
+use Rattle.rules.specs.Bus.{Table, Labelled, clockwise}
 use Rattle.rules.specs.Parties.{Party, rowsOf, ofRows, own, overLimit, Agree, Own-rows-only}
 
 -- the table whose rows are these
@@ -12,10 +12,12 @@ tableFrom : (M : ℕ) (costs periods firsts seconds : List ℕ) → Table
 tableFrom M costs periods firsts seconds = record {
   elements = M;
   rows = length costs;
+  rings = 1;
   cost = at costs;
   period = at periods;
   first = at firsts;
   second = at seconds;
+  way = λ k. clockwise;
 }
 
 own-from : (p : Party) (t : Labelled)

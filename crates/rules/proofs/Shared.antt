@@ -9,7 +9,7 @@ use Rattle.numbers.specs.Word.{bit, word}
 use Rattle.numbers.proofs.Truth.{both, fst, snd, along, is-false, of-false}
 use Rattle.numbers.proofs.Finite.{any-of, any-none}
 use Rattle.numbers.proofs.Word.{bit-word, bit-zero, bit-ext}
-use Rattle.rules.specs.Bus.{Table, uses, overlap, shared}
+use Rattle.rules.specs.Bus.{Table, shares, overlap, shared}
 use Rattle.rules.specs.Shared.{Shows-segments, Zero-if-apart}
 
 -- a word is 0 exactly if no number is in its set
@@ -28,8 +28,8 @@ word-none n p = (
 
 pub shows-segments : Shows-segments
 unfolding shared
-shows-segments t i j s = bit-word (t .elements) (λ k. uses t i (suc k) && uses t j (suc k)) s
+shows-segments t i j s = bit-word (t .elements) (λ k. shares t i j (suc k)) s
 
 pub zero-if-apart : Zero-if-apart
 unfolding shared overlap
-zero-if-apart t i j = word-none (t .elements) (λ k. uses t i (suc k) && uses t j (suc k))
+zero-if-apart t i j = word-none (t .elements) (λ k. shares t i j (suc k))

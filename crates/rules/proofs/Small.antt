@@ -8,16 +8,18 @@ use lib.ListN.{length}
 use lib.Dec.{lit≤}
 use Rattle.numbers.proofs.Truth.{le-or-lt}
 use Rattle.numbers.specs.Lists.{each}
-use Rattle.rules.specs.Bounds.{max-elements, max-rows}
+use Rattle.rules.specs.Bounds.{max-elements, max-rows, max-rings}
 use Rattle.rules.specs.Bus.{Table, Labelled}
-use Rattle.rules.specs.TableFile.{rowNumbers, fileTable, fileLabelled, memoryTable, memoryLabelled}
+use Rattle.rules.specs.TableFile.{rowNumbers, ringsOf, fileTable, fileLabelled, memoryWith, memoryLabelledWith}
 use Rattle.rules.specs.Loads.{hyperperiod}
 use Rattle.rules.specs.Parties.{ours, theirs, own}
 use Rattle.rules.specs.Refusals.{Check, Answers, last-number, faults, pasted-row, light-row, over-bound, short-output}
+use Rattle.rules.specs.Refusals.{short-file, wrong-mark, no-cut, long-hyperperiod, cut-checks}
 use Rattle.rules.specs.Refusals.{over-limit, wrong-limit, segment-checks, limit-checks, limited-checks}
 use Rattle.rules.specs.Refusals.{header-checks, row-checks, file-checks, pasted-checks, given-checks, line-checks, bound-checks}
 use Rattle.rules.specs.Refusals.{no-row, shared-checks, verdict-checks, plan-checks}
 use Rattle.rules.specs.Refusals.{lost-label, size-checks, memory-checks, label-checks, version-checks, writer-checks}
+use Rattle.rules.proofs.Rings.{rings-few}
 use Rattle.rules.proofs.Answers.{None, Fit, answers-split, answers-fit, fit-join, fit-each}
 
 -- places are rows, or sets, of which there are no more than rows, or segments, of which there are fewer
@@ -53,29 +55,38 @@ rows-fit : (t : Table) → t .rows ≤ max-rows → Fit last-number last-place (
 unfolding row-checks Fit
 rows-fit t few =
     fit-each last-number last-place (faults t) (t .rows)
-    (λ i l. (lit≤ tt, omega arith, (lit≤ tt, omega arith, (lit≤ tt, omega arith, tt))))
+    (λ i l. (lit≤ tt, omega arith, (lit≤ tt, omega arith, (lit≤ tt, omega arith, (lit≤ tt, omega arith, tt)))))
 
 -- the writer's, of no more rows than a table may have
-pub writer-fit : (v M n : ℕ) (xs : List ℕ) (room : ℕ) → n ≤ max-rows → Fit last-number last-place (writer-checks v M n xs room)
+pub writer-fit : (m : List ℕ) (v M n : ℕ) (xs : List ℕ) (room : ℕ) → n ≤ max-rows
+    → Fit last-number last-place (writer-checks m v M n xs room)
 unfolding writer-checks version-checks memory-checks label-checks Fit
-writer-fit v M n xs room few =
-    let t = memoryTable M n xs in
+writer-fit m v M n xs room few =
+    let r = ringsOf m in
+    let t = memoryWith r M n xs in
+    let s = memoryLabelledWith r M n xs in
     let sizes = size-checks t (length xs) (rowNumbers * n) in
-    let memory : Fit last-number last-place (memory-checks M n xs) =
+    let memory : Fit last-number last-place (memory-checks r M n xs) =
     fit-join last-number last-place sizes (row-checks t) (lit≤ tt, lit≤ tt, (lit≤ tt, lit≤ tt, (lit≤ tt, lit≤ tt, tt))) (rows-fit t few) in
-    let labels = fit-each last-number last-place (λ i. lost-label v (memoryLabelled M n xs) i ∷ []) n (λ i l. (lit≤ tt, omega arith, tt)) in
-    fit-join last-number last-place (version-checks v M n xs) _
-    (lit≤ tt, lit≤ tt, fit-join last-number last-place (memory-checks M n xs) (label-checks v (memoryLabelled M n xs)) memory labels)
-    (lit≤ tt, lit≤ tt, tt)
+    let labels = fit-each last-number last-place (λ i. lost-label v s i ∷ []) n (λ i l. (lit≤ tt, omega arith, tt)) in (
+      lit≤ tt,
+      lit≤ tt,
+      fit-join last-number last-place (version-checks r v M n xs) _
+          (lit≤ tt, lit≤ tt, fit-join last-number last-place (memory-checks r M n xs) (label-checks v s) memory labels)
+          (lit≤ tt, lit≤ tt, tt),
+    )
 
-table-fit : (t : Table) (ds : List Check) → t .rows ≤ max-rows → Fit last-number last-place ds
+table-fit : (t : Table) (ds : List Check) → t .rows ≤ max-rows → t .rings ≤ max-rings → Fit last-number last-place ds
     → Fit last-number last-place (past-header t ds)
-unfolding pasted-checks line-checks Fit
-table-fit t ds few fit =
+unfolding pasted-checks cut-checks line-checks Fit
+table-fit t ds few two fit =
     let pasted = fit-each last-number last-place (λ i. pasted-row t i ∷ []) (t .rows) (λ i l. (lit≤ tt, omega arith, tt)) in
+    let cuts = fit-each last-number last-place (λ d. no-cut t d ∷ []) (t .rings) (λ d l. (lit≤ tt, omega arith, tt)) in
+    let long = long-hyperperiod t ∷ [] in
+    let line = fit-join last-number last-place (cut-checks t) long cuts (lit≤ tt, lit≤ tt, tt) in
     fit-join last-number last-place (row-checks t) (pasted-checks t ++ (line-checks t ++ ds)) (rows-fit t few)
     (fit-join last-number last-place (pasted-checks t) (line-checks t ++ ds) pasted
-    (fit-join last-number last-place (line-checks t) ds (lit≤ tt, lit≤ tt, (lit≤ tt, lit≤ tt, tt)) fit))
+    (fit-join last-number last-place (line-checks t) ds line fit))
 
 bound-fit : (t : Table) → t .rows ≤ max-rows → Fit last-number last-place (bound-checks t)
 unfolding bound-checks Fit
@@ -88,7 +99,7 @@ pub verdict-small : (f : List ℕ) (n p : ℕ) → Answers (verdict-checks f) n 
 unfolding verdict-checks given-checks file-checks
 verdict-small f n p r =
     let t = fileTable f in
-    small-by f (past-header t (bound-checks t)) n p (λ low few. table-fit t (bound-checks t) few (bound-fit t few))
+    small-by f (past-header t (bound-checks t)) n p (λ low few. table-fit t (bound-checks t) few (rings-few f) (bound-fit t few))
     (rw (append-assoc, append-assoc, append-assoc) at r)
 
 -- ---- with limits
@@ -112,15 +123,16 @@ limited-small f our their n p r =
     let t = fileTable f in
     let limits = limit-checks (fileLabelled f) our their in
     let ds = limits ++ bound-checks t in
+    let front = wrong-limit our their ∷ short-file f ∷ wrong-mark f ∷ [] in
     ⊎-elim
-    (λ a. answers-fit last-number last-place (wrong-limit our their ∷ []) n p (lit≤ tt, lit≤ tt, tt) a)
+    (λ a. answers-fit last-number last-place front n p (lit≤ tt, lit≤ tt, (lit≤ tt, lit≤ tt, (lit≤ tt, lit≤ tt, tt))) a)
     (λ a.
     small-by f (past-header t ds) n p
     (λ low few.
-    table-fit t ds few
+    table-fit t ds few (rings-few f)
     (fit-join last-number last-place limits (bound-checks t) (limits-fit (fileLabelled f) our their low) (bound-fit t few)))
     (rw (append-assoc, append-assoc) at (a .1)))
-    (answers-split (wrong-limit our their ∷ []) (given-checks f ++ (line-checks t ++ ds)) n p r)
+    (answers-split front (given-checks f ++ (line-checks t ++ ds)) n p r)
 
 -- ---- of two rows, and of plans
 

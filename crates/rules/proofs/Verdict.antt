@@ -13,15 +13,17 @@ use lib.Dec.{T, ltb, lit<}
 use lib.ListN.{length}
 use Rattle.numbers.specs.Word.{bit}
 use Rattle.numbers.specs.Lists.{at, each}
-use Rattle.rules.specs.Bounds.{max-elements, max-rows, max-slots}
+use Rattle.rules.specs.Bounds.{max-elements, max-rows, max-rings, max-slots}
 use Rattle.rules.specs.Bus.{Table, Labelled, through, pasted}
-use Rattle.rules.specs.TableFile.{table-mark, version-1, version-2, headerSize, rowSize, mark, version, fileTable}
+use Rattle.rules.specs.TableFile.{table-mark, board-mark, version-1, version-2, headerSize, rowSize, mark, version}
+use Rattle.rules.specs.TableFile.{fileRings, fileTable}
 use Rattle.rules.specs.Line.{Sets}
 use Rattle.rules.specs.Loads.{hyperperiod, light, over}
 use Rattle.rules.specs.Parties.{ours, theirs, own, overLimit}
 use Rattle.rules.specs.Refusals.{
   Check,
   Answers,
+  unknown-mark,
   wrong-version,
   no-cut,
   over-bound,
@@ -30,6 +32,7 @@ use Rattle.rules.specs.Refusals.{
   file-checks,
   pasted-checks,
   given-checks,
+  cut-checks,
   line-checks,
   bound-checks,
   segment-checks,
@@ -76,18 +79,21 @@ tests-each (suc n) ts = tests-join (tests-each n ts) (ts n)
 abbrev pub in-test : (x a b : ℕ) → Test ((a ≤ x) × (x ≤ b))
 in-test x a b = and-test (le-test a x) (le-test x b)
 
-abbrev pub version-test : (v : ℕ) → Test (wrong-version v .applies)
-version-test v = and-test (not-test (eq-test v version-1)) (not-test (eq-test v version-2))
+abbrev pub mark-test : (m : List ℕ) → Test (unknown-mark m .applies)
+mark-test m = and-test (not-test (list-test m table-mark)) (not-test (list-test m board-mark))
+
+abbrev pub version-test : (r v : ℕ) → Test (wrong-version r v .applies)
+version-test r v = and-test (not-test (eq-test v version-1)) (or-test (not-test (eq-test v version-2)) (eq-test r max-rings))
 
 abbrev pub header-tests : (f : List ℕ) → Tests (header-checks f)
 unfolding header-checks
 header-tests f =
     lt-test (length f) headerSize
-    then not-test (list-test (mark f) table-mark)
-    then version-test (version f)
+    then mark-test (mark f)
+    then version-test (fileRings f) (version f)
     then not-test (in-test (fileTable f .elements) 2 max-elements)
     then not-test (in-test (fileTable f .rows) 1 max-rows)
-    then not-test (eq-test (length f) (headerSize + rowSize (version f) * fileTable f .rows))
+    then not-test (eq-test (length f) (headerSize + rowSize (fileRings f) (version f) * fileTable f .rows))
     then none
 
 module _ (t : Table) where
@@ -99,6 +105,7 @@ module _ (t : Table) where
       (or-test (not-test (in-test (t .second i) 1 (t .elements))) (eq-test (t .first i) (t .second i)))
       then not-test (in-test (t .period i) 1 max-slots)
       then not-test (in-test (t .cost i) 1 (t .period i))
+      then le-test (t .rings) (t .way i)
       then none)
 
   abbrev pub pasted-tests : Tests (pasted-checks t)
@@ -106,16 +113,21 @@ module _ (t : Table) where
   pasted-tests = tests-each (t .rows) (λ i. holds-test (pasted t i) then none)
 
   -- elements are numbered from 1
-  abbrev pub no-cut-test : Test (no-cut t .applies)
-  no-cut-test =
-      as-test (every-test (t .elements) (λ e. any-test (t .rows) (λ i. holds-test (through t i (suc e)))))
+  abbrev pub no-cut-test : (d : ℕ) → Test (no-cut t d .applies)
+  no-cut-test d =
+      as-test
+      (every-test (t .elements) (λ e. any-test (t .rows) (λ i. and-test (eq-test (t .way i) d) (holds-test (through t i (suc e))))))
       (λ h e b. let q : suc (e - 1) ≡ e = omega arith in
-      subst (λ (e : ℕ). (i : ℕ) × (i < t .rows) × T (through t i e)) q (h (e - 1) (omega arith)))
+      subst (λ (e : ℕ). (i : ℕ) × (i < t .rows) × ((t .way i ≡ d) × T (through t i e))) q (h (e - 1) (omega arith)))
       (λ h e l. h (suc e) (omega arith, l))
+
+  abbrev pub cut-tests : Tests (cut-checks t)
+  unfolding cut-checks
+  cut-tests = tests-each (t .rings) (λ d. no-cut-test d then none)
 
   abbrev pub line-tests : Tests (line-checks t)
   unfolding line-checks
-  line-tests = no-cut-test then lt-test max-slots (hyperperiod t) then none
+  line-tests = tests-join cut-tests (lt-test max-slots (hyperperiod t) then none)
 
   module _ (pos : 0 < t .rows) (ws : List ℕ) (A : Sets t ws) where
     abbrev pub over-test : (k : ℕ) → Test (over-bound t k .applies)

@@ -9,3 +9,7 @@ max-rows = 64
 
 abbrev pub max-slots : ℕ
 max-slots = 4096
+
+-- one each way (#112)
+abbrev pub max-rings : ℕ
+max-rings = 2

@@ -8,6 +8,7 @@
 --   Crowded             an overlap set's rows, and the segments that all of them use
 --   Ask                 what verdict and planner are asked about: a table, and the checks before their own
 --   fileAsk f           a file's table, and the verdict's checks
+--   oneRingAsk f        the same where a table of one ring alone is taken (#112)
 --   limitedAsk f x y    a file's table, and the checks of the verdict with limits (#108)
 --   Judged              the verdict
 --   Listed              the list of sets
@@ -22,15 +23,15 @@
 -- given; any other returned number is then 0.
 use mathlib.Core.Path.{_≡_}
 use mathlib.Core.Logic.{_≢_}
-use mathlib.Core.List.{List, _++_}
+use mathlib.Core.List.{List, [], _∷_, _++_}
 use Prim.Native.Nat.{ℕ, _+_, _*_, _≤_, _<_}
 use lib.IntN.{ℤ, pos}
 use lib.ListN.{length, drop}
 use Rattle.numbers.specs.Lists.{at}
 use Rattle.rules.specs.Bounds.{max-rows}
-use Rattle.rules.specs.Bus.{Table, shared, common}
-use Rattle.rules.specs.TableFile.{version, fileTable, fileLabelled, memoryLabelled, numbers, bytes}
-use Rattle.rules.specs.Line.{cut, setAt, Sets}
+use Rattle.rules.specs.Bus.{Table, clockwise, counterclockwise, shared, common}
+use Rattle.rules.specs.TableFile.{mark, version, ringsOf, fileTable, fileLabelled, memoryLabelledWith, numbers, bytes}
+use Rattle.rules.specs.Line.{boardCut, setAt, Sets}
 use Rattle.rules.specs.Loads.{hyperperiod, shortest, reported}
 use Rattle.rules.specs.ElementList.{ElementList, fileList, memoryList, listNumbers, listBytes, movesList}
 use Rattle.rules.specs.Planner.{Planner, standing, Step, WholePlan}
@@ -41,6 +42,7 @@ use Rattle.rules.specs.Refusals.{
   version-1-checks,
   writer-checks,
   shared-checks,
+  one-ring-checks,
   verdict-checks,
   limited-checks,
   sets-checks,
@@ -61,25 +63,29 @@ pub record Call (cs : List Check) (number place : ℕ) (Done Refused : Type 0) :
 unfoldable pub lent : List ℕ → List ℕ → List ℕ
 lent ws was = ws ++ drop (length ws) was
 
--- Returns the version, M and the row count, and fills a slice with five numbers a row. It refuses by the checks cs.
-abbrev pub ReadBy : (cs : List Check) (file was now : List ℕ) (number place version′ elements rows : ℕ) → Type 0
-ReadBy cs file was now number place version′ elements rows =
-    Call cs number place
-    ((version′ ≡ version file) × (elements ≡ fileTable file .elements) × (rows ≡ fileTable file .rows)
-    × (now ≡ lent (numbers (fileLabelled file)) was))
-    ((version′ ≡ 0) × (elements ≡ 0) × (rows ≡ 0) × (now ≡ was))
+-- the mark beside a refusal
+abbrev pub no-mark : List ℕ
+no-mark = 0 ∷ 0 ∷ 0 ∷ []
 
-abbrev pub Read : (file was now : List ℕ) (number place version′ elements rows : ℕ) → Type 0
+-- Returns the mark, the version, M and the row count, and fills a slice with five numbers a row. It refuses by the checks cs.
+abbrev pub ReadBy : (cs : List Check) (file was now : List ℕ) (number place : ℕ) (mark′ : List ℕ) (version′ elements rows : ℕ) → Type 0
+ReadBy cs file was now number place mark′ version′ elements rows =
+    Call cs number place
+    ((mark′ ≡ mark file) × (version′ ≡ version file) × (elements ≡ fileTable file .elements) × (rows ≡ fileTable file .rows)
+    × (now ≡ lent (numbers (fileLabelled file)) was))
+    ((mark′ ≡ no-mark) × (version′ ≡ 0) × (elements ≡ 0) × (rows ≡ 0) × (now ≡ was))
+
+abbrev pub Read : (file was now : List ℕ) (number place : ℕ) (mark′ : List ℕ) (version′ elements rows : ℕ) → Type 0
 Read file was now = ReadBy (reader-checks file (length was)) file was now
 
-abbrev pub ReadVersion1 : (file was now : List ℕ) (number place version′ elements rows : ℕ) → Type 0
+abbrev pub ReadVersion1 : (file was now : List ℕ) (number place : ℕ) (mark′ : List ℕ) (version′ elements rows : ℕ) → Type 0
 ReadVersion1 file was now = ReadBy (version-1-checks file (length was)) file was now
 
--- Takes the version to write, M, the row count and a slice of five numbers a row.
-abbrev pub Written : (version′ elements rows : ℕ) (xs was now : List ℕ) (number place : ℕ) → Type 0
-Written version′ elements rows xs was now number place =
-    Call (writer-checks version′ elements rows xs (length was)) number place
-    (now ≡ lent (bytes version′ (memoryLabelled elements rows xs)) was) (now ≡ was)
+-- Takes the mark and the version to write, M, the row count and a slice of five numbers a row.
+abbrev pub Written : (mark′ : List ℕ) (version′ elements rows : ℕ) (xs was now : List ℕ) (number place : ℕ) → Type 0
+Written mark′ version′ elements rows xs was now number place =
+    Call (writer-checks mark′ version′ elements rows xs (length was)) number place
+    (now ≡ lent (bytes version′ (memoryLabelledWith (ringsOf mark′) elements rows xs)) was) (now ≡ was)
 
 -- Returns the word of the segments that rows i and j share (#102).
 abbrev pub Met : (file : List ℕ) (i j number place word : ℕ) → Type 0
@@ -101,24 +107,30 @@ pub record Ask : Type 1 where
 abbrev pub fileAsk : List ℕ → Ask
 fileAsk f = record { checks = verdict-checks f; table = fileTable f }
 
+-- the same where a table of one ring alone is taken (#112)
+abbrev pub oneRingAsk : List ℕ → Ask
+oneRingAsk f = record { checks = one-ring-checks f (verdict-checks f); table = fileTable f }
+
 -- the same with a limit for each party (#108)
 abbrev pub limitedAsk : List ℕ → (our their : ℕ) → Ask
 limitedAsk f our their = record { checks = limited-checks f our their; table = fileTable f }
 
--- When admitted, the verdict also returns cut, L, h, reported load and the number of sets.
-pub record Admitted (t : Table) (cut′ interval hyper load sets : ℕ) : Type 0 where
+-- When admitted, the verdict also returns cut, L, h, reported load and the number of sets. A table with two rings has two cuts; the second
+-- of a table with one is 0 (#112).
+pub record Admitted (t : Table) (cut second interval hyper load sets : ℕ) : Type 0 where
   pub list : List ℕ
   pub listed : Sets t list
-  pub cut-is : cut′ ≡ cut t
+  pub cut-is : cut ≡ boardCut t clockwise
+  pub second-is : second ≡ boardCut t counterclockwise
   pub interval-is : interval ≡ shortest t
   pub hyper-is : hyper ≡ hyperperiod t
   pub load-is : load ≡ reported t list
   pub sets-is : sets ≡ length list
 
-abbrev pub Judged : (a : Ask) (number place cut interval hyper load sets : ℕ) → Type 0
-Judged a number place cut interval hyper load sets =
-    Call (a .checks) number place (Admitted (a .table) cut interval hyper load sets)
-    ((cut ≡ 0) × (interval ≡ 0) × (hyper ≡ 0) × (load ≡ 0) × (sets ≡ 0))
+abbrev pub Judged : (a : Ask) (number place cut second interval hyper load sets : ℕ) → Type 0
+Judged a number place cut second interval hyper load sets =
+    Call (a .checks) number place (Admitted (a .table) cut second interval hyper load sets)
+    ((cut ≡ 0) × (second ≡ 0) × (interval ≡ 0) × (hyper ≡ 0) × (load ≡ 0) × (sets ≡ 0))
 
 -- Returns the length of the list, and fills a slice with it.
 abbrev pub Listed : (file was now : List ℕ) (number place sets : ℕ) → Type 0

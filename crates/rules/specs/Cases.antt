@@ -8,9 +8,10 @@ use Prim.Native.Nat.{ℕ, _*_}
 use lib.IntN.{pos, negℤ}
 use Rattle.numbers.specs.Lists.{at, each}
 use Rattle.numbers.specs.Word.{bit}
-use Rattle.rules.specs.Bus.{Table, Labelled, unlabelled}
-use Rattle.rules.specs.TableFile.{version-1, version-2, memoryTable, memoryLabelled, bytes}
-use Rattle.rules.specs.Line.{cut, lineSecond, Sets}
+use Rattle.rules.specs.Bounds.{max-rings}
+use Rattle.rules.specs.Bus.{Table, Labelled, unlabelled, clockwise, counterclockwise}
+use Rattle.rules.specs.TableFile.{version-1, version-2, memoryTable, memoryWith, memoryLabelled, bytes}
+use Rattle.rules.specs.Line.{boardCut, lineSecond, Sets}
 use Rattle.rules.specs.Loads.{hyperperiod, end, intervals, shortest, load, light, over, reported}
 use Rattle.rules.specs.Interval.{lag, Qualify}
 use Rattle.rules.specs.Planner.{Stage, due, finished, Planner, fresh, Off, standing, Step, WholePlan}
@@ -62,6 +63,22 @@ uneven-with cost = memoryTable 4 3 (3 ∷ 12 ∷ 1 ∷ 2 ∷ 0 ∷ cost ∷ 20 �
 abbrev pub uneven : Table
 uneven = uneven-with 5
 
+-- M 4, rows (2,4,1,3), (1,4,2,4) clockwise and (2,4,3,1), (1,4,4,2) counterclockwise: a board with both rings busy (#112)
+abbrev pub board : Table
+board = memoryWith max-rings 4 4 (2 ∷ 4 ∷ 1 ∷ 3 ∷ 0 ∷ 1 ∷ 4 ∷ 2 ∷ 4 ∷ 0 ∷ 2 ∷ 4 ∷ 3 ∷ 1 ∷ 1 ∷ 1 ∷ 4 ∷ 4 ∷ 2 ∷ 1 ∷ [])
+
+-- M 3, rows (1,4,3,1), (1,4,2,3), with these directions
+abbrev pub turned-with : ℕ → ℕ → Table
+turned-with d e = memoryWith max-rings 3 2 (1 ∷ 4 ∷ 3 ∷ 1 ∷ d ∷ 1 ∷ 4 ∷ 2 ∷ 3 ∷ e ∷ [])
+
+-- M 3, P10's rows mirrored, all counterclockwise: (1,4,3,1), (1,4,2,3), (1,4,1,2)
+abbrev pub round-turned : Table
+round-turned = memoryWith max-rings 3 3 (1 ∷ 4 ∷ 3 ∷ 1 ∷ 1 ∷ 1 ∷ 4 ∷ 2 ∷ 3 ∷ 1 ∷ 1 ∷ 4 ∷ 1 ∷ 2 ∷ 1 ∷ [])
+
+-- M 3, a row (1,4,1,2) of direction d, then one of cost c and direction e with the same ends and period
+abbrev pub twice-with : (d c e : ℕ) → Table
+twice-with d c e = memoryWith max-rings 3 2 (1 ∷ 4 ∷ 1 ∷ 2 ∷ d ∷ c ∷ 4 ∷ 1 ∷ 2 ∷ e ∷ [])
+
 -- at first the rows have had no slots
 abbrev pub none-had : ℕ → ℕ
 none-had i = 0
@@ -79,7 +96,7 @@ pub record Cases : Type 0 where
   pub p1-bytes : bytes version-1 (unlabelled case-A)
       ≡ 0x52 ∷ 0x42 ∷ 0x54 ∷ 0x01 ∷ 0x00 ∷ 0x04 ∷ 0x03 ∷ 0x02 ∷ 0x00 ∷ 0x04 ∷ 0x00 ∷ 0x01 ∷ 0x03 ∷ 0x01 ∷ 0x00 ∷ 0x04 ∷ 0x00 ∷ 0x02 ∷ 0x04
       ∷ 0x02 ∷ 0x00 ∷ 0x04 ∷ 0x00 ∷ 0x03 ∷ 0x01 ∷ []
-  pub p1-cut : cut case-A ≡ 1
+  pub p1-cut : boardCut case-A clockwise ≡ 1
   -- row 2 ends at the cut: its second end on the line is M + 1
   pub p1-end : lineSecond case-A 2 ≡ 5
   pub p1-sets : (ws : List ℕ) → Sets case-A ws ↔ (ws ≡ 3 ∷ 6 ∷ [])
@@ -145,3 +162,24 @@ pub record Cases : Type 0 where
       ≡ 0x52 ∷ 0x42 ∷ 0x54 ∷ 0x02 ∷ 0x00 ∷ 0x04 ∷ 0x03 ∷ 0x02 ∷ 0x00 ∷ 0x04 ∷ 0x00 ∷ 0x01 ∷ 0x03 ∷ 0x00 ∷ 0x00 ∷ 0x01 ∷ 0x00 ∷ 0x04 ∷ 0x00
       ∷ 0x02 ∷ 0x04 ∷ 0x01 ∷ 0x00 ∷ 0x02 ∷ 0x00 ∷ 0x04 ∷ 0x00 ∷ 0x03 ∷ 0x01 ∷ 0xff ∷ 0xff ∷ []
   pub labels-verdict : Answers (verdict-checks (bytes version-2 case-A-labels)) 0 0
+  -- #112: a board's file has mark RB2 and seven bytes a row
+  pub board-bytes : bytes version-1 (unlabelled board)
+      ≡ 0x52 ∷ 0x42 ∷ 0x32 ∷ 0x01 ∷ 0x00 ∷ 0x04 ∷ 0x04 ∷ 0x02 ∷ 0x00 ∷ 0x04 ∷ 0x00 ∷ 0x01 ∷ 0x03 ∷ 0x00 ∷ 0x01 ∷ 0x00 ∷ 0x04 ∷ 0x00 ∷ 0x02
+      ∷ 0x04 ∷ 0x00 ∷ 0x02 ∷ 0x00 ∷ 0x04 ∷ 0x00 ∷ 0x03 ∷ 0x01 ∷ 0x01 ∷ 0x01 ∷ 0x00 ∷ 0x04 ∷ 0x00 ∷ 0x04 ∷ 0x02 ∷ 0x01 ∷ []
+  -- each ring has its own cut, the counterclockwise one is the highest element that no row goes through, and sets are numbered through
+  pub board-cuts : (boardCut board clockwise ≡ 1) × (boardCut board counterclockwise ≡ 4)
+  pub board-sets : (ws : List ℕ) → Sets board ws ↔ (ws ≡ 3 ∷ 12 ∷ [])
+  pub board-verdict : Verdict board 0 0
+  -- a ring with no rows has cut 1 and no sets, and a table with one ring has no second cut
+  pub clockwise-alone : (boardCut (turned-with 0 0) clockwise ≡ 1) × (boardCut (turned-with 0 0) counterclockwise ≡ 1)
+  pub turned-alone : (boardCut (turned-with 1 1) clockwise ≡ 1) × (boardCut (turned-with 1 1) counterclockwise ≡ 3)
+  pub turned-sets : (ws : List ℕ) → Sets (turned-with 1 1) ws ↔ (ws ≡ 3 ∷ [])
+  pub apart-sets : (ws : List ℕ) → Sets (turned-with 1 0) ws ↔ (ws ≡ 2 ∷ 1 ∷ [])
+  pub no-second : boardCut case-A counterclockwise ≡ 0
+  -- 10 says which ring, 18 needs equal directions, and 26 comes after 9 within the row
+  pub round-turned-verdict : Verdict round-turned 10 1
+  pub both-ways : Verdict (twice-with 0 1 1) 0 0
+  pub same-way : Verdict (twice-with 1 1 1) 18 1
+  pub third-way : Verdict (twice-with 0 1 2) 26 1
+  pub cost-first : Verdict (twice-with 0 0 2) 9 1
+  pub row-first : Verdict (twice-with 2 0 0) 26 0

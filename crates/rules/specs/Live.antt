@@ -29,8 +29,8 @@ use lib.ListN.{length}
 use Rattle.numbers.specs.Finite.{any, every, lowest, only, sumIn, count}
 use Rattle.numbers.specs.Divisors.{lcm}
 use Rattle.rules.specs.Bounds.{max-elements, max-rows, max-slots}
-use Rattle.rules.specs.Bus.{Table, Labelled, uses, pasted}
-use Rattle.rules.specs.TableFile.{numbers, bytes}
+use Rattle.rules.specs.Bus.{Table, Labelled, clockwise, uses, pasted}
+use Rattle.rules.specs.TableFile.{table-mark, numbers, bytes}
 use Rattle.rules.specs.Refusals.{Check, refuse, Answers, wrong-elements, faults, writer-checks}
 use Rattle.rules.specs.Calls.{Call, lent}
 
@@ -55,9 +55,18 @@ pub record Entry : Type 0 where
 abbrev pub vacant : Entry
 vacant = record { cost = 0; period = 0; first = 0; second = 0; label = 0 }
 
+-- A live table has one ring.
 abbrev pub places : Live → Table
-places l =
-    record { elements = l .elements; rows = max-rows; cost = l .cost; period = l .period; first = l .first; second = l .second }
+places l = record {
+  elements = l .elements;
+  rows = max-rows;
+  rings = 1;
+  cost = l .cost;
+  period = l .period;
+  first = l .first;
+  second = l .second;
+  way = λ i. clockwise;
+}
 
 -- A row has a period of 1 or more, and free places hold zeros.
 abbrev pub held : Live → ℕ → Bool
@@ -169,10 +178,12 @@ present l = record {
   table = record {
     elements = l .elements;
     rows = count max-rows (held l);
+    rings = 1;
     cost = λ j. l .cost (placeOf (held l) j);
     period = λ j. l .period (placeOf (held l) j);
     first = λ j. l .first (placeOf (held l) j);
     second = λ j. l .second (placeOf (held l) j);
+    way = λ j. clockwise;
   };
   label = λ j. l .label (placeOf (held l) j);
 }
@@ -188,10 +199,12 @@ abbrev pub alone : Live → Entry → Table
 alone l e = record {
   elements = l .elements;
   rows = 1;
+  rings = 1;
   cost = λ i. e .cost;
   period = λ i. e .period;
   first = λ i. e .first;
   second = λ i. e .second;
+  way = λ i. clockwise;
 }
 
 unfoldable pub repeated : Live → Entry → Bool
@@ -225,7 +238,7 @@ remove-checks l k = off-live l ∷ no-row-there l k ∷ []
 -- 15, then the writer's of the rows present
 abbrev pub rows-file-checks : (version : ℕ) → Live → (room : ℕ) → List Check
 rows-file-checks version l room =
-    off-live l ∷ writer-checks version (present l .table .elements) (present l .table .rows) (numbers (present l)) room
+    off-live l ∷ writer-checks table-mark version (present l .table .elements) (present l .table .rows) (numbers (present l)) room
 
 -- ---- the calls
 
@@ -241,7 +254,7 @@ Added l e m number place taken =
 abbrev pub Removed : (l : Live) (k : ℕ) (m : Live) (number place : ℕ) → Type 0
 Removed l k m number place = Call (remove-checks l k) number place (m ≡ put l k vacant) (m ≡ l)
 
--- The rows present are written as a table file, in the version that is told. The live table stays as it is.
+-- The rows present are written as a table file with mark RBT, in the version that is told. The live table stays as it is.
 abbrev pub Filed : (version : ℕ) (l : Live) (was now : List ℕ) (number place : ℕ) → Type 0
 Filed version l was now number place =
     Call (rows-file-checks version l (length was)) number place (now ≡ lent (bytes version (present l)) was) (now ≡ was)

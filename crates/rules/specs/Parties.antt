@@ -21,7 +21,7 @@ use Prim.Native.Nat.{ℕ, _*_}
 use lib.Dec.{ltb}
 use lib.ListN.{length}
 use Rattle.numbers.specs.Lists.{at, each}
-use Rattle.rules.specs.Bus.{Table, Labelled, uses}
+use Rattle.rules.specs.Bus.{Table, Labelled, clockwise, uses}
 use Rattle.rules.specs.Loads.{hyperperiod, load}
 
 abbrev pub max-limit : ℕ
@@ -45,15 +45,17 @@ rowsOf p t = each (t .table .rows) (λ i. cond (owns p (t .label i)) (i ∷ []) 
 abbrev pub ofRows : Party → Labelled → (Table → ℕ → ℕ) → List ℕ
 ofRows p t column = map (column (t .table)) (rowsOf p t)
 
--- Row k is the party's k-th, and past its last all is 0.
+-- Row k is the party's k-th, and past its last all is 0. All run clockwise: limits are for one ring, and two are refused (#112).
 unfoldable pub own : Party → Labelled → Table
 own p t = record {
   elements = t .table .elements;
   rows = length (rowsOf p t);
+  rings = 1;
   cost = at (ofRows p t (λ u. u .cost));
   period = at (ofRows p t (λ u. u .period));
   first = at (ofRows p t (λ u. u .first));
   second = at (ofRows p t (λ u. u .second));
+  way = λ k. clockwise;
 }
 
 abbrev pub segmentLoad : Table → ℕ → ℕ

@@ -1,7 +1,8 @@
 -- Document 01, "The program and one whole output", #102's program that says where rows meet, and #101's that shows a list of an element.
 --
 --   verdict, cut, interval, hyper, load, set, slot    the program's lines, each with its numbers
---   values c l h x     the lines of cut, L, h and reported load
+--   cut-lines t        the lines of the cuts, one for each ring, clockwise first (#112)
+--   values l h x       the lines of L, h and reported load
 --   set-lines ws       the lines of the overlap sets whose words are ws
 --   slot-lines ws      the lines of the slots whose words are ws
 --   max-input          it reads at most so many bytes
@@ -60,8 +61,11 @@ slot number word = says "slot" (number ∷ word ∷ [])
 
 -- ---- what it prints
 
-abbrev pub values : ℕ → ℕ → ℕ → ℕ → List Line
-values c l h x = cut c ∷ interval l ∷ hyper h ∷ load x ∷ []
+abbrev pub cut-lines : Table → List Line
+cut-lines t = each (t .rings) (λ d. cut (line.boardCut t d) ∷ [])
+
+abbrev pub values : ℕ → ℕ → ℕ → List Line
+values l h x = interval l ∷ hyper h ∷ load x ∷ []
 
 abbrev pub set-lines : List ℕ → List Line
 set-lines ws = each (length ws) (λ k. set (at ws k) ∷ [])
@@ -80,7 +84,8 @@ pub data Printed (input : List ℕ) : List Line → Type 0 where
   admitted : (t : Table) (sets plan : List ℕ) → t ≡ fileTable (take max-input input) → Answers (verdict-checks (take max-input input)) 0 0
       → Sets t sets → WholePlan t plan
       → Printed input
-      (verdict 0 0 ∷ (values (line.cut t) (shortest t) (hyperperiod t) (reported t sets) ++ (set-lines sets ++ slot-lines plan)))
+      (verdict 0 0
+      ∷ (cut-lines t ++ (values (shortest t) (hyperperiod t) (reported t sets) ++ (set-lines sets ++ slot-lines plan))))
 
 -- ---- where rows meet (#102): number and place, a line for each row of a set, and one for each segment that the rows share
 

@@ -23,7 +23,7 @@ use Rattle.numbers.specs.Lists.{each}
 use Rattle.rules.specs.Bus.{Table, Labelled}
 use Rattle.rules.specs.TableFile.{version, fileTable, fileLabelled, bytes}
 use Rattle.rules.specs.Loads.{light}
-use Rattle.rules.specs.Refusals.{Check, Answers, short-output, given-checks, line-checks, verdict-checks}
+use Rattle.rules.specs.Refusals.{Check, Answers, short-output, one-ring-checks, given-checks, line-checks, verdict-checks}
 use Rattle.rules.specs.Calls.{Call, lent}
 use Rattle.rules.specs.Text.{Line, says}
 use Rattle.rules.specs.Program.{verdict}
@@ -32,10 +32,12 @@ abbrev costing : Table → (ℕ → ℕ) → Table
 costing t cost = record {
   elements = t .elements;
   rows = t .rows;
+  rings = t .rings;
   cost = cost;
   period = t .period;
   first = t .first;
   second = t .second;
+  way = t .way;
 }
 
 abbrev pub priced : Table → ℕ → ℕ → Table
@@ -58,9 +60,9 @@ raisedLabelled t = record { table = raised (t .table); label = t .label }
 abbrev pub raisedFile : List ℕ → List ℕ
 raisedFile f = bytes (version f) (raisedLabelled (fileLabelled f))
 
--- 1 to 9, 18, 10 and 11
+-- 1 to 9, 18, 10 and 11; 2 for RB2 too (#112)
 abbrev pub before-13 : List ℕ → List Check
-before-13 f = given-checks f ++ line-checks (fileTable f)
+before-13 f = one-ring-checks f (given-checks f ++ line-checks (fileTable f))
 
 -- The raised file is as long as the file.
 unfoldable pub raise-checks : List ℕ → ℕ → List Check

@@ -12,10 +12,10 @@ use Prim.Native.Nat.{ℕ, suc, _+_, _-_, _*_, _%_, _≤_, _<_}
 use lib.Dec.{T}
 use lib.ListN.{length}
 use Rattle.numbers.specs.Lists.{at, each}
-use Rattle.rules.specs.Bounds.{max-elements, max-rows, max-slots}
+use Rattle.rules.specs.Bounds.{max-elements, max-rows, max-rings, max-slots}
 use Rattle.rules.specs.Bus.{Table, Labelled, through, pasted}
-use Rattle.rules.specs.TableFile.{table-mark, version-1, version-2, headerSize, rowSize, rowNumbers, mark, version, fileTable}
-use Rattle.rules.specs.TableFile.{fileLabelled, memoryTable, memoryLabelled}
+use Rattle.rules.specs.TableFile.{table-mark, board-mark, version-1, version-2, headerSize, rowSize, rowNumbers, mark, version}
+use Rattle.rules.specs.TableFile.{ringsOf, fileRings, fileTable, fileLabelled, memoryWith, memoryLabelledWith}
 use Rattle.rules.specs.Line.{setAt, Sets}
 use Rattle.rules.specs.Loads.{hyperperiod, start, end, light, over}
 use Rattle.rules.specs.Parties.{max-limit, ours, theirs, own, overLimit}
@@ -59,13 +59,17 @@ In x a b = (a ≤ x) × (x ≤ b)
 abbrev pub short-file : List ℕ → Check
 short-file f = refuse 1 0 (length f < headerSize)
 
--- mark wrong
+-- mark is neither RBT nor RB2 (#112)
+abbrev pub unknown-mark : List ℕ → Check
+unknown-mark m = refuse 2 0 ((m ≢ table-mark) × (m ≢ board-mark))
+
+-- mark is not RBT: where a table of one ring alone is taken
 abbrev pub wrong-mark : List ℕ → Check
 wrong-mark f = refuse 2 0 (mark f ≢ table-mark)
 
--- version is neither 1 nor 2 (#107)
-abbrev pub wrong-version : ℕ → Check
-wrong-version v = refuse 3 0 ((v ≢ version-1) × (v ≢ version-2))
+-- version is neither 1 nor, with one ring, 2 (#107, #112)
+abbrev pub wrong-version : (r v : ℕ) → Check
+wrong-version r v = refuse 3 0 ((v ≢ version-1) × ((v ≢ version-2) ⊎ (r ≡ max-rings)))
 
 -- version is not 1: where version 1 alone is taken
 abbrev pub not-version-1 : ℕ → Check
@@ -79,7 +83,7 @@ wrong-elements t = refuse 4 0 (¬ In (t .elements) 2 max-elements)
 abbrev pub wrong-rows : Table → Check
 wrong-rows t = refuse 5 0 (¬ In (t .rows) 1 max-rows)
 
--- file length is not 7 + 6 × rows, 7 + 8 × rows in version 2 (writer: slice length is not 5 × rows)
+-- file length is not 7 + 6 × rows, 7 + 8 × rows in version 2, 7 + 7 × rows with two rings (writer: slice length is not 5 × rows)
 abbrev pub wrong-length : ℕ → ℕ → Check
 wrong-length has wants = refuse 6 0 (has ≢ wants)
 
@@ -95,9 +99,13 @@ wrong-period t i = refuse 8 i (¬ In (t .period i) 1 max-slots)
 abbrev pub wrong-cost : Table → ℕ → Check
 wrong-cost t i = refuse 9 i (¬ In (t .cost i) 1 (t .period i))
 
--- every element has some row through it
-abbrev pub no-cut : Table → Check
-no-cut t = refuse 10 0 ((e : ℕ) → In e 1 (t .elements) → (i : ℕ) × (i < t .rows) × T (through t i e))
+-- the direction is none that the table has a ring for (#112)
+abbrev pub wrong-way : Table → ℕ → Check
+wrong-way t i = refuse 26 i (t .rings ≤ t .way i)
+
+-- every element has some row of ring d through it
+abbrev pub no-cut : Table → ℕ → Check
+no-cut t d = refuse 10 d ((e : ℕ) → In e 1 (t .elements) → (i : ℕ) × (i < t .rows) × ((t .way i ≡ d) × T (through t i e)))
 
 -- hyperperiod above 4096
 abbrev pub long-hyperperiod : Table → Check
@@ -165,30 +173,34 @@ no-row t place i = refuse 32 place (t .rows ≤ i)
 abbrev pub no-set : Table → ℕ → Check
 no-set t k = refuse 32 0 ((ws : List ℕ) × Sets t ws × (length ws ≤ k))
 
--- ---- the orders of checking: rows are taken in ascending order, within a row 7, 8, 9, and the lowest row or set is the place
+-- ---- the orders of checking: rows are taken in ascending order, within a row 7, 8, 9, 26, and the lowest row or set is the place
 
 -- 4 to 6, of a table whose file or slice has `has` places and is to have `wants`
 abbrev pub size-checks : Table → (has wants : ℕ) → List Check
 size-checks t has wants = wrong-elements t ∷ wrong-rows t ∷ wrong-length has wants ∷ []
 
+-- the checks cs where a table of one ring alone is taken: 2 for RB2 too (#112)
+abbrev pub one-ring-checks : List ℕ → List Check → List Check
+one-ring-checks f cs = short-file f ∷ wrong-mark f ∷ cs
+
 -- 1 to 6
 unfoldable pub header-checks : List ℕ → List Check
 header-checks f =
-    short-file f ∷ wrong-mark f ∷ wrong-version (version f)
-    ∷ size-checks (fileTable f) (length f) (headerSize + rowSize (version f) * fileTable f .rows)
+    short-file f ∷ unknown-mark (mark f) ∷ wrong-version (fileRings f) (version f)
+    ∷ size-checks (fileTable f) (length f) (headerSize + rowSize (fileRings f) (version f) * fileTable f .rows)
 
--- 7 to 9 of row i
+-- 7 to 9 of row i, then 26
 abbrev pub faults : Table → ℕ → List Check
-faults t i = wrong-ends t i ∷ wrong-period t i ∷ wrong-cost t i ∷ []
+faults t i = wrong-ends t i ∷ wrong-period t i ∷ wrong-cost t i ∷ wrong-way t i ∷ []
 
 unfoldable pub row-checks : Table → List Check
 row-checks t = each (t .rows) (faults t)
 
--- 1 to 9
+-- 1 to 9, 26
 unfoldable pub file-checks : List ℕ → List Check
 file-checks f = header-checks f ++ row-checks (fileTable f)
 
--- 18, after all of 7 to 9
+-- 18, after all of 7 to 9 and 26
 unfoldable pub pasted-checks : Table → List Check
 pasted-checks t = each (t .rows) (λ i. pasted-row t i ∷ [])
 
@@ -196,9 +208,13 @@ pasted-checks t = each (t .rows) (λ i. pasted-row t i ∷ [])
 unfoldable pub given-checks : List ℕ → List Check
 given-checks f = file-checks f ++ pasted-checks (fileTable f)
 
+-- 10 for each ring, clockwise first
+unfoldable pub cut-checks : Table → List Check
+cut-checks t = each (t .rings) (λ d. no-cut t d ∷ [])
+
 -- 10 and 11; 12, of two sets that tie, is retired (#106)
 unfoldable pub line-checks : Table → List Check
-line-checks t = no-cut t ∷ long-hyperperiod t ∷ []
+line-checks t = cut-checks t ++ (long-hyperperiod t ∷ [])
 
 -- 13 and 14. A table never has more overlap sets than rows.
 unfoldable pub bound-checks : Table → List Check
@@ -216,25 +232,27 @@ limit-checks t our their = segment-checks 21 (own ours t) our ++ segment-checks 
 unfoldable pub reader-checks : List ℕ → ℕ → List Check
 reader-checks f room = file-checks f ++ (short-output (room < rowNumbers * fileTable f .rows) ∷ [])
 
--- the reader that takes version 1 alone: 3 for version 2 too, and what the reader refuses beside (#107)
+-- the reader that takes RBT in version 1 alone: 2 for RB2, 3 for version 2 too, and what the reader refuses beside (#107, #112)
 unfoldable pub version-1-checks : List ℕ → ℕ → List Check
-version-1-checks f room = short-file f ∷ wrong-mark f ∷ not-version-1 (version f) ∷ reader-checks f room
+version-1-checks f room = one-ring-checks f (not-version-1 (version f) ∷ reader-checks f room)
 
--- 4 to 9, of a slice of numbers
-unfoldable pub memory-checks : ℕ → ℕ → List ℕ → List Check
-memory-checks M n xs = size-checks (memoryTable M n xs) (length xs) (rowNumbers * n) ++ row-checks (memoryTable M n xs)
+-- 4 to 9 and 26, of a slice of numbers
+unfoldable pub memory-checks : (r M n : ℕ) → List ℕ → List Check
+memory-checks r M n xs = size-checks (memoryWith r M n xs) (length xs) (rowNumbers * n) ++ row-checks (memoryWith r M n xs)
 
 -- 20, after all of 7 to 9
 unfoldable pub label-checks : ℕ → Labelled → List Check
 label-checks v t = each (t .table .rows) (λ i. lost-label v t i ∷ [])
 
--- 3, 4 to 9, then 20: what is refused of a slice of numbers that is to be written in version v
-unfoldable pub version-checks : ℕ → ℕ → ℕ → List ℕ → List Check
-version-checks v M n xs = wrong-version v ∷ (memory-checks M n xs ++ label-checks v (memoryLabelled M n xs))
+-- 3, 4 to 9, 26, then 20: what is refused of a slice of numbers that is to be written with r rings in version v
+unfoldable pub version-checks : (r v M n : ℕ) → List ℕ → List Check
+version-checks r v M n xs = wrong-version r v ∷ (memory-checks r M n xs ++ label-checks v (memoryLabelledWith r M n xs))
 
--- the writer these, then 17
-unfoldable pub writer-checks : ℕ → ℕ → ℕ → List ℕ → ℕ → List Check
-writer-checks v M n xs room = version-checks v M n xs ++ (short-output (room < headerSize + rowSize v * n) ∷ [])
+-- the writer 2, these, then 17
+unfoldable pub writer-checks : List ℕ → (v M n : ℕ) → List ℕ → ℕ → List Check
+writer-checks m v M n xs room =
+    let r : ℕ = ringsOf m in
+    unknown-mark m ∷ (version-checks r v M n xs ++ (short-output (room < headerSize + rowSize r v * n) ∷ []))
 
 -- the segments that rows i and j share: 1 to 9, then 32 (#102)
 unfoldable pub shared-checks : List ℕ → (i j : ℕ) → List Check
@@ -244,11 +262,12 @@ shared-checks f i j = file-checks f ++ (no-row (fileTable f) 0 i ∷ no-row (fil
 unfoldable pub verdict-checks : List ℕ → List Check
 verdict-checks f = given-checks f ++ line-checks (fileTable f) ++ bound-checks (fileTable f)
 
--- the verdict with limits 23, then 1 to 9, 18, 10, 11, 21, 22, 13, 14 (#108)
+-- the verdict with limits 23, then 1 to 9, 18, 10, 11, 21, 22, 13, 14 (#108); 2 for RB2 too (#112)
 unfoldable pub limited-checks : List ℕ → (our their : ℕ) → List Check
 limited-checks f our their =
     let t : Table = fileTable f in
-    wrong-limit our their ∷ (given-checks f ++ (line-checks t ++ (limit-checks (fileLabelled f) our their ++ bound-checks t)))
+    wrong-limit our their
+    ∷ one-ring-checks f (given-checks f ++ (line-checks t ++ (limit-checks (fileLabelled f) our their ++ bound-checks t)))
 
 -- the list of sets 1 to 9, 18, 10 and 11, then 17
 unfoldable pub sets-checks : List ℕ → ℕ → List Check

@@ -1,7 +1,7 @@
 -- Places of a live table, one by one and all together.
 use mathlib.Core.Path.{_≡_, refl, sym, ap, ap₂, _∙_}
 use mathlib.Core.Logic.{_⊎_, inl, inr, ⊎-elim, _≢_}
-use mathlib.Core.Bool.{Bool, true, false, _&&_}
+use mathlib.Core.Bool.{Bool, true, false, _&&_, and-true}
 use Prim.Native.Nat.{ℕ, _+_, _≤_, _<_}
 use native.Mathlib.Nat.{not-suc-le-zero}
 use native.Mathlib.Omega.{arith}
@@ -9,8 +9,9 @@ use borrow.Author.Count.{below-more}
 use lib.Dec.{eqb, ltb, eqb→eq, ltb→lt, lt→ltb}
 use Rattle.numbers.specs.Finite.{any}
 use Rattle.numbers.specs.Decides.{Decides}
+use Rattle.numbers.proofs.Finite.{any-eq}
 use Rattle.numbers.proofs.Truth.{is-true, is-false, eqb-of, of-true, of-false, decides-yes, decides-no}
-use Rattle.rules.specs.Bus.{Labelled, pasted}
+use Rattle.rules.specs.Bus.{unlabelled, pasted}
 use Rattle.rules.specs.Refusals.{Answers, faults}
 use Rattle.rules.specs.Live.{Live, Blank, places}
 use Rattle.rules.proofs.Answers.{answers-only, answered, none-of}
@@ -30,16 +31,16 @@ zeros-decided {row} c p f s = record {
 }
 
 -- a place that isn't free is right exactly if no number of 7 to 9 is found
-pub fault-decided : (M n : ℕ) (row : Row) → (Zeros row → ⊥) → Answers (faults (single M row) 0) n 0
-    → Decides (Zeros row ⊎ Answers (faults (single M row) 0) 0 0) (eqb n 0)
+pub fault-decided : (M n : ℕ) (row : Row) → (Zeros row → ⊥) → Answers (faults (single M 1 row) 0) n 0
+    → Decides (Zeros row ⊎ Answers (faults (single M 1 row) 0) 0 0) (eqb n 0)
 fault-decided M n row z a = record {
   holds = λ e. let q : n ≡ 0 = eqb→eq n 0 (of-true e) in inr (rw q at a);
-  fails = λ e. ⊎-elim z (λ b. of-false e (eqb-of n 0 (answers-only (faults (single M row) 0) n 0 0 0 a b .0)));
+  fails = λ e. ⊎-elim z (λ b. of-false e (eqb-of n 0 (answers-only (faults (single M 1 row) 0) n 0 0 0 a b .0)));
 }
 
 -- what is found of a row is so of the place that holds it
 module _ {l : Live} {i : ℕ} {row : Row} (R : IsRow (record { table = places l; label = l .label }) i row) where
-  pub seat-of : Zeros row ⊎ Answers (faults (single (l .elements) row) 0) 0 0 → Seat l i
+  pub seat-of : Zeros row ⊎ Answers (faults (single (l .elements) 1 row) 0) 0 0 → Seat l i
   seat-of =
       ⊎-elim
       (λ (z : Zeros row). inl (record {
@@ -49,9 +50,10 @@ module _ {l : Live} {i : ℕ} {row : Row} (R : IsRow (record { table = places l;
         second = sym (R .second) ∙ z .second;
         label = sym (R .label) ∙ z .label;
       }))
-      (λ a. inr (answered (faults (places l) i) (row-clean (l .elements) row (record { table = places l; label = l .label }) i refl R a)))
+      (λ a. inr (answered (faults (places l) i)
+      (row-clean (l .elements) 1 row (record { table = places l; label = l .label }) i refl refl R a)))
 
-  pub of-seat : Seat l i → Zeros row ⊎ Answers (faults (single (l .elements) row) 0) 0 0
+  pub of-seat : Seat l i → Zeros row ⊎ Answers (faults (single (l .elements) 1 row) 0) 0 0
   of-seat =
       ⊎-elim
       (λ (z : Blank l i). inl (record {
@@ -61,7 +63,7 @@ module _ {l : Live} {i : ℕ} {row : Row} (R : IsRow (record { table = places l;
         second = R .second ∙ z .second;
         label = R .label ∙ z .label;
       }))
-      (λ (a : Answers (faults (places l) i) 0 0). inr (answered (faults (single (l .elements) row) 0) (row-none _ 0
+      (λ (a : Answers (faults (places l) i) 0 0). inr (answered (faults (single (l .elements) 1 row) 0) (row-none _ 0
       (row-alone R (row-sound (places l) i (none-of (faults (places l) i) 0 (faults-numbered (places l) i) a))))))
 
 -- ---- equal rows
@@ -82,10 +84,11 @@ module _ (a b c x y z : ℕ) where
     third-decides f = sym (ap₂ (λ (t u : Bool). t && u && eqb c z) same-first (is-true (eqb b y) (eqb-of b y f)))
 
 -- an earlier place has the row of place i
-pub earlier-equal : {t : Labelled} {i : ℕ} {row : Row} → IsRow t i row
-    → any i (equal (t .table .period) (t .table .first) (t .table .second) row) ≡ pasted (t .table) i
+pub earlier-equal : (l : Live) {i : ℕ} {row : Row} → IsRow (unlabelled (places l)) i row
+    → any i (equal (l .period) (l .first) (l .second) row) ≡ pasted (places l) i
 unfolding pasted
-earlier-equal R = rw (R .period, R .first, R .second) refl
+earlier-equal l {i} R =
+    rw (R .period, R .first, R .second) (any-eq i _ _ (λ j k. sym (and-true _)))
 
 module _ (p : ℕ) (b : Bool) where
   pub free-single : p ≡ 0 → false ≡ (ltb 0 p && b)

@@ -16,8 +16,7 @@ ghost use Rattle.rules.specs.Bus.{pasted};
 ghost use Rattle.rules.specs.Refusals.{Answers, faults};
 ghost use Rattle.rules.specs.Live.{Seated};
 ghost use Rattle.table.specs.Rows.{single};
-ghost use Rattle.table.specs.Columns.{columnTable};
-ghost use Rattle.tally.specs.Tally.{columnLive};
+ghost use Rattle.tally.specs.Tally.{columnLive, columnPlaces};
 ghost use Rattle.seats.specs.Seats.{Zeros, Seat, equal};
 
 // A free place holds zeros, the label too.
@@ -40,15 +39,15 @@ fn is_free(row: Row) -> bool
 }
 
 fn is_seat(elements: usize, row: Row) -> bool
-    ensures { λ r. ⌜ Decides (Zeros row ⊎ Answers (faults (single elements row) 0) 0 0) r ⌝ }
+    ensures { λ r. ⌜ Decides (Zeros row ⊎ Answers (faults (single elements 1 row) 0) 0 0) r ⌝ }
 {
     if is_free(row) {
         return true;
     }
-    table::row_fault(elements, row) == Answer::DONE
+    table::row_fault(elements, 1, row) == Answer::DONE
 }
 
-// Each place is free, or holds a row that passes 7 to 9.
+// Each place is free, or holds a row that passes 7 to 9. A live table has one ring, so 26 never applies.
 fn are_seats<'a>(
     elements: usize,
     cost: &'a [u16; Table::ROWS],
@@ -66,7 +65,7 @@ fn are_seats<'a>(
     while i < Table::ROWS {
         if !is_seat(
             elements,
-            table::row_at(cost, period, first, second, label, i),
+            table::row_at(cost, period, first, second, i, 0, label[i]),
         ) {
             return false;
         }
@@ -122,13 +121,12 @@ fn is_repeated<'a>(
     period: &'a [u16; Table::ROWS],
     first: &'a [u8; Table::ROWS],
     second: &'a [u8; Table::ROWS],
-    label: &'a [u16; Table::ROWS],
     i: usize,
 ) -> bool
     requires { ⌜ i < max-rows ⌝ }
     ensures { λ r. ⌜ ((elements : ℕ) → r ≡ (ltb 0 (at (now (period .entry)) i)
         && pasted
-        (columnTable elements max-rows (now (cost .entry)) (now (period .entry)) (now (first .entry)) (now (second .entry))) i)) ⌝ }
+        (columnPlaces elements (now (cost .entry)) (now (period .entry)) (now (first .entry)) (now (second .entry))) i)) ⌝ }
 {
     if table::slots_at(period, i) == 0 {
         return false;
@@ -138,7 +136,7 @@ fn is_repeated<'a>(
         period,
         first,
         second,
-        table::row_at(cost, period, first, second, label, i),
+        table::row_at(cost, period, first, second, i, 0, 0),
     )
 }
 
@@ -148,16 +146,15 @@ fn are_single<'a>(
     period: &'a [u16; Table::ROWS],
     first: &'a [u8; Table::ROWS],
     second: &'a [u8; Table::ROWS],
-    label: &'a [u16; Table::ROWS],
 ) -> bool
     ensures { λ r. ⌜ ((elements : ℕ) → Decides ((i : ℕ) → i < max-rows → T (ltb 0 (at (now (period .entry)) i))
         → T (pasted
-        (columnTable elements max-rows (now (cost .entry)) (now (period .entry)) (now (first .entry)) (now (second .entry))) i) → ⊥)
+        (columnPlaces elements (now (cost .entry)) (now (period .entry)) (now (first .entry)) (now (second .entry))) i) → ⊥)
         r) ⌝ }
 {
     let mut i: usize = 0;
     while i < Table::ROWS {
-        if is_repeated(cost, period, first, second, label, i) {
+        if is_repeated(cost, period, first, second, i) {
             return false;
         }
         i += 1;
@@ -188,5 +185,5 @@ pub fn are_seated<'a>(
     if !are_seats(elements, cost, period, first, second, label) {
         return false;
     }
-    are_single(cost, period, first, second, label)
+    are_single(cost, period, first, second)
 }

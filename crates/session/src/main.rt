@@ -14,9 +14,9 @@ use cases::number_at;
 use cases::print;
 use libc::STDIN_FILENO;
 use libc::STDOUT_FILENO;
+use live::Entry;
 use live::Live;
 use table::Answer;
-use table::Row;
 use table::Table;
 
 // as many numbers as a line has at most
@@ -138,7 +138,7 @@ fn judge(bytes: &[u8], rows: usize) {
     if rows > Table::ROWS {
         return;
     }
-    let size = table::row_place(Table::VERSION_2, rows);
+    let size = table::row_place(1, Table::VERSION_2, rows);
     if size > bytes.len() {
         return;
     }
@@ -164,14 +164,14 @@ fn make(given: &[u64]) -> Live {
 }
 
 fn add(live: Live, given: &[u64]) -> Live {
-    let row = Row {
+    let entry = Entry {
         cost: small_at(given, 0),
         period: small_at(given, 1),
         first: small_at(given, 2),
         second: small_at(given, 3),
         label: small_at(given, 4),
     };
-    let after = Live::add(live, row);
+    let after = Live::add(live, entry);
     print_line(b"add", &[after.answer.number as u64, after.taken as u64]);
     after.live
 }

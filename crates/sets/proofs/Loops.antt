@@ -1,6 +1,6 @@
 -- What the loops keep: one pass over the rows by their ends, and the walk up the line.
 --
---   Filling i ends words                        the words of rows by their end, when i rows are in
+--   Filling s i ends words                      the words of rows by their end, one for each of s elements, when i rows are in
 --   Here n first second e starts ends w         what stands at element e: some row starts, some row ends, and the rows across it
 --   Walked n first second e was begun k words   the walk, when it has come to element e: k words of `was` are filled with sets
 --   Ended n first second e was begun k words    the walk at e, when the rows that end there are done and those that start there are not
@@ -31,17 +31,17 @@ use Rattle.sets.proofs.List.{acrossWord, setsTo, bit-across, setsTo-non
 
 -- ---- rows by their ends
 
-pub record Filling (n : ℕ) (ends : ℕ → ℕ) (words : List ℕ) : Type 0 where
-  pub size : length words ≡ line-size
-  pub held : (e : ℕ) → e < line-size → at words e ≡ word n (λ j. eqb (ends j) e)
+pub record Filling (s n : ℕ) (ends : ℕ → ℕ) (words : List ℕ) : Type 0 where
+  pub size : length words ≡ s
+  pub held : (e : ℕ) → e < s → at words e ≡ word n (λ j. eqb (ends j) e)
 
-pub filling-start : (ends : ℕ → ℕ) → Filling 0 ends (replicate line-size 0)
+pub filling-start : (s : ℕ) (ends : ℕ → ℕ) → Filling s 0 ends (replicate s 0)
 unfolding word
-filling-start ends = record { size = length-replicate {A = ℕ} line-size 0; held = λ e l. zeros-at line-size e }
+filling-start s ends = record { size = length-replicate {A = ℕ} s 0; held = λ e l. zeros-at s e }
 
-pub filling-next : {i : ℕ} {ends : ℕ → ℕ} {words : List ℕ} (d : ℕ) → Filling i ends words → i < max-rows → d ≡ ends i → d < line-size
-    → Filling (i + 1) ends (set words d (bitOr (at words d) (1 * 2 ^ i % 2 ^ 64)))
-filling-next {i} {ends} {words} d F l q h = record {
+pub filling-next : {s i : ℕ} {ends : ℕ → ℕ} {words : List ℕ} (d : ℕ) → Filling s i ends words → i < max-rows → d ≡ ends i → d < s
+    → Filling s (i + 1) ends (set words d (bitOr (at words d) (1 * 2 ^ i % 2 ^ 64)))
+filling-next {s} {i} {ends} {words} d F l q h = record {
   size = length-set words d _ ∙ F .size;
   held = λ e m.
       ⊎-elim
@@ -55,7 +55,7 @@ filling-next {i} {ends} {words} d F l q h = record {
       (decide (eqb e d));
 }
 
-pub filling-end : {n i : ℕ} {ends : ℕ → ℕ} {words : List ℕ} → i ≡ n → Filling i ends words → RowsAt n ends words
+pub filling-end : {n i : ℕ} {ends : ℕ → ℕ} {words : List ℕ} → i ≡ n → Filling line-size i ends words → RowsAt n ends words
 filling-end {n} {ends = ends} {words = words} q F = record {
   size = F .size;
   row = λ e k l.

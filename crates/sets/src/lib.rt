@@ -18,8 +18,8 @@ pub struct Sets {
 }
 
 impl Sets {
-    // A line's elements are 1 to M + 1, and an array by element has a place 0 too.
-    pub const LINE: usize = Table::ELEMENTS + 2;
+    // A line's elements are 1 to M + 1, two rings have two lines, and an array by element has a place 0 too.
+    pub const LINE: usize = Table::RINGS * (Table::ELEMENTS + 1) + 1;
 }
 
 // The overlap sets of the first `rows` rows, which run from first to second on a line whose last element is `top`.

@@ -9,13 +9,14 @@ use lib.ListN.{length, take, drop, length-append}
 use lib.Seq.{getD-take}
 use Rattle.numbers.specs.Lists.{at}
 use Rattle.rules.specs.Bus.{Table}
-use Rattle.rules.specs.TableFile.{fileTable}
+use Rattle.rules.specs.TableFile.{table-mark, mark, fileTable}
 use Rattle.rules.specs.Loads.{hyperperiod}
 use Rattle.rules.specs.ElementList.{listHeader, entrySize, listBytes, movesList, BadWord}
-use Rattle.rules.specs.Refusals.{short-output, verdict-checks, plan-checks}
-use Rattle.rules.specs.Calls.{fileAsk, lent}
+use Rattle.rules.specs.Refusals.{short-output, header-checks, file-checks, given-checks, verdict-checks, plan-checks}
+use Rattle.rules.specs.Calls.{oneRingAsk, lent}
 use Rattle.rules.proofs.Answers.{None, Numbered, none-of, none-left, numbered-join}
 use Rattle.rules.proofs.Calls.{lent-take, call-must}
+use Rattle.decoding.proofs.OneRing.{one-rings}
 use Rattle.verdict.proofs.Bound.{verdict-numbered, admissible-of}
 use Rattle.promises.specs.Demands.{Carries}
 use Rattle.promises.proofs.Demands.{plan-carries}
@@ -30,7 +31,7 @@ pub list-to-c-only : (f ws : List ℕ) (e : ℕ) (was now then : List ℕ) (r s 
 list-to-c-only f ws e was now then r s A B = (go (ℕ-discrete (A .number) 0), same .4)
   where
     same : (A .number ≡ B .number) × (A .place ≡ B .place) × (A .hyper ≡ B .hyper) × (A .entries ≡ B .entries) × (now ≡ then)
-    same = made-only (fileAsk f) ws e listBytes was now then _ _ _ _ _ _ _ _ (A .made) (B .made)
+    same = made-only (oneRingAsk f) ws e listBytes was now then _ _ _ _ _ _ _ _ (A .made) (B .made)
 
     go : Dec (A .number ≡ 0) → r ≡ s
     go (yes z) = A .size z ∙ ap (λ (k : ℕ). listHeader + entrySize * k) (same .3) ∙ sym (B .size (sym (same .0) ∙ z))
@@ -60,12 +61,17 @@ plan-admits : (f : List ℕ) (room : ℕ) → None (plan-checks (verdict-checks 
 unfolding plan-checks
 plan-admits f room a = none-left (verdict-checks f) (short-output (room < hyperperiod (fileTable f)) ∷ []) a
 
+-- a table with one ring that is admitted is admitted where one ring alone is taken
+own-none : (f : List ℕ) → mark f ≡ table-mark → None (verdict-checks f) → None (oneRingAsk f .checks)
+unfolding verdict-checks given-checks file-checks header-checks None
+own-none f m n = (n .0, (λ h. h m, n))
+
 lent-long : (ws was : List ℕ) → length ws ≤ length (lent ws was)
 unfolding lent
 lent-long ws was = omega (arith, length-append ws (drop (length ws) was))
 
 pub element-of-plan : Element-of-plan
-element-of-plan f plan plan′ e was now s r P z L there room =
+element-of-plan f plan plan′ e was now s r m P z L there room =
     let t : Table = fileTable f in
     let n : P .answer .number ≡ 0 = omega (arith, P .as-one) in
     let none = plan-admits f (length plan) (none-of _ _ (plan-numbered f (length plan)) (rw n at (P .planned .planned .answers))) in
@@ -78,8 +84,9 @@ element-of-plan f plan plan′ e was now s r P z L there room =
     λ k l. sym (getD-take (hyperperiod t) plan′ k 0 l) ∙ ap (λ (ws : List ℕ). at ws k) front in
     let clean = carried-clean t (w .0) plan′ C words in
     let size = bytes-length (movesList t e plan′) in
-    let least = few t e plan′ (A .sound) clean in
+    let own = own-none f m none in
+    let least = few t e plan′ (A .sound) (one-rings f (verdict-checks f) own) clean in
     let must = call-must
-    (maker-none (fileAsk f) plan′ e (length was) (length (listBytes (movesList t e plan′))) none there clean
+    (maker-none (oneRingAsk f) plan′ e (length was) (length (listBytes (movesList t e plan′))) own there clean
     (omega (arith, C .size, ap length (w .2), lent-long (w .0) plan)) (omega (arith, size, least, A .short, room))) (L .made) in
     (L .size (must .0) ∙ ap (λ (k : ℕ). listHeader + entrySize * k) (must .2 .1) ∙ sym size, must .2 .2)

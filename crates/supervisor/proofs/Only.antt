@@ -11,7 +11,7 @@ use Rattle.table.specs.declared.Answer.{Answer}
 use Rattle.outline.proofs.Listed.{listed-only}
 use Rattle.verdict.specs.declared.Verdict.{Verdict}
 use Rattle.verdict.specs.declared.Verdict.the-variants.{Admitted}
-use Rattle.verdict.specs.Verdict.{cutOf, intervalOf, hyperOf, loadOf, setsOf, IsVerdict}
+use Rattle.verdict.specs.Verdict.{cutOf, otherOf, intervalOf, hyperOf, loadOf, setsOf, IsVerdict}
 use Rattle.verdict.proofs.Judging.{judged-only}
 use Rattle.planner.proofs.Only.{plan-only}
 use Rattle.raising.proofs.Writing.{raised-only}
@@ -25,7 +25,7 @@ verdict-to-c-only a r s A B =
 
 -- values as the verdict that gives them
 abbrev verdictOf : {f was now : List ℕ} → Valued f was now → Verdict
-verdictOf d = Admitted (d .cut) (d .interval) (d .hyper) (d .load) (d .sets)
+verdictOf d = Admitted (d .cut) (d .other) (d .interval) (d .hyper) (d .load) (d .sets)
 
 pub values-to-c-only : (f was now then : List ℕ) (r s : ℕ) → ValuesToC f was now r → ValuesToC f was then s → (r ≡ s) × (now ≡ then)
 values-to-c-only f was now then r s A B =
@@ -49,7 +49,7 @@ values-to-c-only f was now then r s A B =
         let b = B .called .done (sym (same .0) ∙ z) in
         let e = judged-only f (verdictOf a) (verdictOf b) (is-verdict none a) (is-verdict none b) in
         a .written
-        ∙ ap (λ (v : Verdict). lent (values (cutOf v) (intervalOf v) (hyperOf v) (loadOf v) (setsOf v)) was) e
+        ∙ ap (λ (v : Verdict). lent (values (cutOf v) (otherOf v) (intervalOf v) (hyperOf v) (loadOf v) (setsOf v)) was) e
         ∙ sym (b .written)
     go (no z) = A .called .refused z ∙ sym (B .called .refused (λ e. z (same .0 ∙ e)))
 

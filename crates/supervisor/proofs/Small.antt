@@ -9,7 +9,7 @@ use lib.Dec.{lit≤}
 use lib.ListN.{length}
 use Rattle.rules.specs.TableFile.{fileTable}
 use Rattle.rules.specs.Line.{Sets}
-use Rattle.rules.specs.Refusals.{Answers, last-number, short-output, bound-checks, verdict-checks, sets-checks}
+use Rattle.rules.specs.Refusals.{Answers, last-number, short-file, wrong-mark, short-output, bound-checks, verdict-checks, sets-checks}
 use Rattle.rules.specs.Raising.{raise-checks}
 use Rattle.rules.proofs.Answers.{Fit, stopped, answered, none-of, answers-only, answers-split, answers-fit}
 use Rattle.rules.proofs.Small.{last-place, verdict-small}
@@ -39,5 +39,9 @@ module _ (f : List ℕ) where
   sets-small room n p r = room-small ((ws : List ℕ) × Sets (fileTable f) ws × (room < length ws)) n p r
 
   pub raise-small : (room n p : ℕ) → Answers (raise-checks f room) n p → (n ≤ last-number) × (p ≤ last-place)
-  unfolding raise-checks
-  raise-small room n p r = room-small (room < length f) n p r
+  unfolding raise-checks Fit
+  raise-small room n p r =
+      let front = short-file f ∷ wrong-mark f ∷ [] in
+      ⊎-elim (λ a. answers-fit last-number last-place front n p (lit≤ tt, lit≤ tt, (lit≤ tt, lit≤ tt, tt)) a)
+      (λ a. room-small (room < length f) n p (a .1))
+      (answers-split front (outline-checks f ++ (short-output (room < length f) ∷ [])) n p r)

@@ -55,8 +55,9 @@ module _ (f : List ℕ) where
           refused = λ z. refl;
         }
 
-    module _ (v : Verdict) (cut interval hyper load sets : ℕ) (Y : IsVerdict f v) (q : v ≡ Admitted cut interval hyper load sets) where
-      X : IsVerdict f (Admitted cut interval hyper load sets)
+    module _ (v : Verdict) (cut other interval hyper load sets : ℕ) (Y : IsVerdict f v)
+        (q : v ≡ Admitted cut other interval hyper load sets) where
+      X : IsVerdict f (Admitted cut other interval hyper load sets)
       X = subst (IsVerdict f) q Y
 
       none : None (verdict-checks f)
@@ -70,7 +71,7 @@ module _ (f : List ℕ) where
         refused = λ e. refl;
       }
 
-      pub values-done : (now : List ℕ) → value-count ≤ length was → now ≡ lent (values cut interval hyper load sets) was
+      pub values-done : (now : List ℕ) → value-count ≤ length was → now ≡ lent (values cut other interval hyper load sets) was
           → Call (values-checks f (length was)) 0 0 (Valued f was now) (now ≡ was)
       unfolding values-checks
       values-done now l e = record {
@@ -79,6 +80,7 @@ module _ (f : List ℕ) where
             (passed (no-room (length was)) [] 0 0 (λ (k : length was < value-count). omega arith) done);
         done = λ z. record {
           cut = cut;
+          other = other;
           interval = interval;
           hyper = hyper;
           load = load;

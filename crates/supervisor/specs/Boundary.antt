@@ -8,7 +8,7 @@
 --   Listed-by-value       the list of sets, with room for as many as the sixth value says
 --   max-list              the bytes of the longest list file
 --   Told-apart            ring_element_list answers below 2^32 exactly if it doesn't refuse, and then with at most max-list
---   Element-of-plan       it never refuses an element of the ring, a plan that ring_plan wrote, and room for max-list bytes
+--   Element-of-plan       of a table with one ring it never refuses an element, a plan that ring_plan wrote, and room for max-list bytes
 use mathlib.Core.Path.{_≡_}
 use mathlib.Core.Logic.{_≢_}
 use mathlib.Core.List.{List}
@@ -16,7 +16,7 @@ use Prim.Native.Nat.{ℕ, _+_, _*_, _≤_}
 use lib.ListN.{length}
 use Rattle.numbers.specs.Lists.{at}
 use Rattle.rules.specs.Bounds.{max-slots}
-use Rattle.rules.specs.TableFile.{fileTable}
+use Rattle.rules.specs.TableFile.{table-mark, mark, fileTable}
 use Rattle.rules.specs.Line.{Sets}
 use Rattle.rules.specs.Loads.{hyperperiod}
 use Rattle.rules.specs.ElementList.{listHeader, entrySize, listBytes, movesList}
@@ -65,8 +65,9 @@ Told-apart = (f ws : List ℕ) (e : ℕ) (was now : List ℕ) (r : ℕ) (L : Lis
     → (L .number ≡ 0 → r ≤ max-list) × (L .number ≢ 0 → 4294967296 ≤ r)
 
 abbrev pub Element-of-plan : Type 0
-Element-of-plan = (f plan plan′ : List ℕ) (e : ℕ) (was now : List ℕ) (s r : ℕ) → PlanToC (fileAsk f) plan plan′ s → s ≡ 0
-    → ListToC f plan′ e was now r → (1 ≤ e) × (e ≤ fileTable f .elements) → max-list ≤ length was
+Element-of-plan = (f plan plan′ : List ℕ) (e : ℕ) (was now : List ℕ) (s r : ℕ) → mark f ≡ table-mark
+    → PlanToC (fileAsk f) plan plan′ s → s ≡ 0 → ListToC f plan′ e was now r → (1 ≤ e) × (e ≤ fileTable f .elements)
+    → max-list ≤ length was
     → (r ≡ length (listBytes (movesList (fileTable f) e plan′))) × (now ≡ lent (listBytes (movesList (fileTable f) e plan′)) was)
 
 pub record Boundary : Type 0 where

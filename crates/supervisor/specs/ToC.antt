@@ -2,7 +2,7 @@
 -- one number; and the list of one element.
 --
 --   VerdictToC a r            r is the verdict on ask a
---   values c i h l s          the values of an admitted table in the order in which C gets them
+--   values c o i h l s        the values of an admitted table in the order in which C gets them
 --   values-checks f room      the checks of the values: the verdict's, then 17
 --   ValuesToC f was now r     r answers for the values of file f's table, and a slice that held `was` now holds `now`
 --   SharedToC f i j was now r   r answers for the segments that rows i and j share, and a number that was `was` is now `now`
@@ -22,7 +22,7 @@ use Rattle.rules.specs.TableFile.{fileTable}
 use Rattle.rules.specs.Bus.{shared}
 use Rattle.rules.specs.Refusals.{Check, Answers, short-output, shared-checks, verdict-checks}
 use Rattle.rules.specs.ElementList.{listHeader, entrySize, listBytes}
-use Rattle.rules.specs.Calls.{Call, lent, Ask, Admitted, Listed, ListMade, fileAsk, c-answer}
+use Rattle.rules.specs.Calls.{Call, lent, Ask, Admitted, Listed, ListMade, oneRingAsk, c-answer}
 use Rattle.rules.specs.Raising.{Raised}
 use Rattle.table.specs.declared.Answer.{Answer}
 use Rattle.planner.specs.Answers.{PlanAnswer}
@@ -35,9 +35,9 @@ pub record VerdictToC (a : Ask) (r : ℕ) : Type 0 where
 
 -- ---- the values of an admitted table
 
--- cut, second cut (0: a table of one ring has none), L, h, reported load, number of sets
-abbrev pub values : ℕ → ℕ → ℕ → ℕ → ℕ → List ℕ
-values cut interval hyper load sets = cut ∷ 0 ∷ interval ∷ hyper ∷ load ∷ sets ∷ []
+-- the cuts, clockwise first, L, h, reported load, number of sets
+abbrev pub values : (cut other interval hyper load sets : ℕ) → List ℕ
+values cut other interval hyper load sets = cut ∷ other ∷ interval ∷ hyper ∷ load ∷ sets ∷ []
 
 abbrev pub value-count : ℕ
 value-count = 6
@@ -48,12 +48,13 @@ values-checks f room = verdict-checks f ++ (short-output (room < value-count) �
 
 pub record Valued (f was now : List ℕ) : Type 0 where
   pub cut : ℕ
+  pub other : ℕ
   pub interval : ℕ
   pub hyper : ℕ
   pub load : ℕ
   pub sets : ℕ
-  pub admitted : Admitted (fileTable f) cut interval hyper load sets
-  pub written : now ≡ lent (values cut interval hyper load sets) was
+  pub admitted : Admitted (fileTable f) cut other interval hyper load sets
+  pub written : now ≡ lent (values cut other interval hyper load sets) was
 
 pub record ValuesToC (f was now : List ℕ) (r : ℕ) : Type 0 where
   pub number : ℕ
@@ -101,6 +102,6 @@ pub record ListToC (f ws : List ℕ) (e : ℕ) (was now : List ℕ) (r : ℕ) : 
   pub place : ℕ
   pub hyper : ℕ
   pub entries : ℕ
-  pub made : ListMade (fileAsk f) ws e listBytes was now number place hyper entries
+  pub made : ListMade (oneRingAsk f) ws e listBytes was now number place hyper entries
   pub size : number ≡ 0 → r ≡ listHeader + entrySize * entries
   pub refused : number ≢ 0 → r ≡ list-refusal number place

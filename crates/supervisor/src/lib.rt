@@ -34,13 +34,21 @@ pub extern "C" fn ring_verdict(file: &[u8]) -> u32
 // How many values there are.
 const VALUES: usize = 6;
 
-// The values, written to the front of `out` in the order in which C gets them. A table of one ring has no second cut.
-fn write_values(out: &mut [u32], cut: u32, interval: u32, hyper: u32, load: u32, sets: u32)
+// The values, written to the front of `out` in the order in which C gets them.
+fn write_values(
+    out: &mut [u32],
+    cut: u32,
+    other: u32,
+    interval: u32,
+    hyper: u32,
+    load: u32,
+    sets: u32,
+)
     requires { ⌜ value-count ≤ length (now out) ⌝ }
-    ensures { λ _. ⌜ now (out .exit) ≡ lent (values cut interval hyper load sets) (now (out .entry)) ⌝ }
+    ensures { λ _. ⌜ now (out .exit) ≡ lent (values cut other interval hyper load sets) (now (out .entry)) ⌝ }
 {
     out[0] = cut;
-    out[1] = 0;
+    out[1] = other;
     out[2] = interval;
     out[3] = hyper;
     out[4] = load;
@@ -55,6 +63,7 @@ pub extern "C" fn ring_values(file: &[u8], out: &mut [u32]) -> u32
     let answer = verdict::judge(file);
     let Verdict::Admitted {
         cut,
+        other,
         interval,
         hyper,
         load,
@@ -66,7 +75,7 @@ pub extern "C" fn ring_values(file: &[u8], out: &mut [u32]) -> u32
     if out.len() < VALUES {
         return joined(Answer::SHORT_OUTPUT, 0);
     }
-    write_values(out, cut, interval, hyper, load, sets);
+    write_values(out, cut, other, interval, hyper, load, sets);
     joined(Answer::DONE, 0)
 }
 

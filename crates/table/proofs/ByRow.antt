@@ -12,7 +12,9 @@ use Rattle.numbers.proofs.Truth.{le-or-lt}
 use Rattle.numbers.proofs.Finite.{below}
 use Rattle.numbers.proofs.Lists.{zeros-at}
 use Rattle.rules.specs.Bounds.{max-rows}
-use Rattle.table.specs.Columns.{ByRow}
+use Rattle.table.specs.declared.Row.{Row}
+use Rattle.table.specs.Rows.{IsRow}
+use Rattle.table.specs.Columns.{ByRow, columnLabelled, HasRow}
 
 pub by-row-only : {n : ℕ} {g : ℕ → ℕ} {xs ys : List ℕ} → ByRow n g xs → ByRow n g ys → xs ≡ ys
 by-row-only {n} {g} {xs} {ys} X Y =
@@ -38,6 +40,23 @@ by-row-put {i} {g} {xs} v B h e = record {
       (λ (m : j < i). getD-set-other xs i j v 0 (λ q. omega arith) ∙ B .row j m)
       (below (let z : j < suc i = omega arith in z));
   rest = λ j l m. getD-set-other xs i j v 0 (λ q. omega arith) ∙ B .rest j (omega arith) m;
+}
+
+-- an array of the same numbers, said otherwise
+pub by-row-eq : {n : ℕ} {g h : ℕ → ℕ} {xs : List ℕ} → ByRow n g xs → ((i : ℕ) → i < n → g i ≡ h i) → ByRow n h xs
+by-row-eq B e = record { size = B .size; row = λ i l. B .row i l ∙ e i l; rest = B .rest }
+
+-- a row of columns is the table's
+pub has-row : (M n k : ℕ) {cost period first second : List ℕ} (way label : List ℕ) {i x y : ℕ} {r : Row}
+    → HasRow cost period first second i x y r → x ≡ at way i → y ≡ at label i
+    → IsRow (columnLabelled M n k cost period first second way label) i r
+has-row M n k way label H x y = record {
+  cost = H .cost;
+  period = H .period;
+  first = H .first;
+  second = H .second;
+  way = H .way ∙ x;
+  label = H .label ∙ y;
 }
 
 -- ---- everywhere

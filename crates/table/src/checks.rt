@@ -34,9 +34,9 @@ pub fn size_fault(elements: usize, rows: usize, size: usize, front: usize, each:
     Answer::DONE
 }
 
-// Checks 7 to 9 of one row.
-pub fn row_fault(elements: usize, row: Row) -> u32
-    ensures { λ r. ⌜ Answers (faults (single elements row) 0) r 0 ⌝ }
+// Checks 7 to 9 and 26 of one row.
+pub fn row_fault(elements: usize, rings: usize, row: Row) -> u32
+    ensures { λ r. ⌜ Answers (faults (single elements rings row) 0) r 0 ⌝ }
 {
     if !within(row.first as usize, 1, elements) {
         return Answer::WRONG_ENDS;
@@ -52,6 +52,9 @@ pub fn row_fault(elements: usize, row: Row) -> u32
     }
     if !within(row.cost as usize, 1, row.period as usize) {
         return Answer::WRONG_COST;
+    }
+    if row.way >= rings {
+        return Answer::WRONG_WAY;
     }
     Answer::DONE
 }

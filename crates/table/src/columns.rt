@@ -4,20 +4,21 @@ use crate::Row;
 use crate::Table;
 use crate::wide;
 ghost use mathlib.Core.Path.{_≡_};
-ghost use Prim.Native.Nat.{ℕ, _<_};
+ghost use Prim.Native.Nat.{_<_};
 ghost use Rattle.numbers.specs.Lists.{at};
-ghost use Rattle.rules.specs.Bounds.{max-rows};
-ghost use Rattle.table.specs.Rows.{IsRow};
-ghost use Rattle.table.specs.Columns.{columnLabelled, noColumns};
+ghost use Rattle.rules.specs.Bounds.{max-rows, max-rings};
+ghost use Rattle.table.specs.Columns.{HasRow, noColumns};
 
 // Every column has 0 past the last row.
 pub struct Columns {
     pub elements: usize,
     pub rows: usize,
+    pub rings: usize,
     pub cost: [u16; Table::ROWS],
     pub period: [u16; Table::ROWS],
     pub first: [u8; Table::ROWS],
     pub second: [u8; Table::ROWS],
+    pub way: [u8; Table::ROWS],
 }
 
 // The columns of no table: what stands beside a refusal.
@@ -27,32 +28,35 @@ pub fn no_columns() -> Columns
     Columns {
         elements: 0,
         rows: 0,
+        rings: 0,
         cost: [0; Table::ROWS],
         period: [0; Table::ROWS],
         first: [0; Table::ROWS],
         second: [0; Table::ROWS],
+        way: [0; Table::ROWS],
     }
 }
 
-// Row `i` of a table in columns, with its label.
+// Row `i` of a table in columns, with this direction and this label.
 pub fn row_at<'a>(
     cost: &'a [u16; Table::ROWS],
     period: &'a [u16; Table::ROWS],
     first: &'a [u8; Table::ROWS],
     second: &'a [u8; Table::ROWS],
-    labels: &'a [u16; Table::ROWS],
     i: usize,
+    way: usize,
+    label: u16,
 ) -> Row
     requires { ⌜ i < max-rows ⌝ }
-    ensures { λ r. ⌜ ((M n : ℕ) → IsRow (columnLabelled M n (now (cost .entry)) (now (period .entry)) (now (first .entry))
-        (now (second .entry)) (now (labels .entry))) i r) ⌝ }
+    ensures { λ r. ⌜ HasRow (now (cost .entry)) (now (period .entry)) (now (first .entry)) (now (second .entry)) i way label r ⌝ }
 {
     Row {
         cost: cost[i],
         period: period[i],
         first: wide(first[i]),
         second: wide(second[i]),
-        label: labels[i],
+        way: way,
+        label: label,
     }
 }
 
@@ -74,6 +78,18 @@ pub fn end_at(ends: &[u8; Table::ROWS], i: usize) -> usize
     ensures { λ r. ⌜ r ≡ at (now (ends .entry)) i ⌝ }
 {
     byte_wide(ends[i])
+}
+
+// The direction of row `i`. With one ring it is not looked up: a loop over a plain table's rows then has no directions in it, and is
+// compiled as if there were none.
+pub fn way_at(way: &[u8; Table::ROWS], rings: usize, i: usize) -> usize
+    requires { ⌜ (i < max-rows) × (rings < max-rings → at (now way) i ≡ 0) ⌝ }
+    ensures { λ r. ⌜ r ≡ at (now (way .entry)) i ⌝ }
+{
+    if rings < Table::RINGS {
+        return 0;
+    }
+    end_at(way, i)
 }
 
 // The cost or the period of row `i`.

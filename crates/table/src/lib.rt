@@ -1,6 +1,7 @@
 // A table: its bounds, its columns in memory, and the checks that its reader and its writer share.
 mod checks;
 mod columns;
+mod marks;
 mod versions;
 
 pub use checks::row_fault;
@@ -10,14 +11,24 @@ pub use columns::end_at;
 pub use columns::no_columns;
 pub use columns::row_at;
 pub use columns::slots_at;
+pub use columns::way_at;
+pub use marks::begins;
+pub use marks::is_no_mark;
+pub use marks::is_plain;
+pub use marks::is_strange;
+pub use marks::mark_byte;
+pub use marks::rings_of;
 pub use versions::is_unknown;
+pub use versions::label_in;
+pub use versions::last_of;
 pub use versions::row_bytes;
 pub use versions::row_place;
 pub use versions::version_of;
+pub use versions::way_in;
 ghost use mathlib.Core.Path.{_≡_};
 ghost use Prim.Native.Nat.{_+_, _*_, _<_, _≤_};
 ghost use lib.ListN.{length};
-ghost use Rattle.rules.specs.Bounds.{max-elements, max-rows, max-slots};
+ghost use Rattle.rules.specs.Bounds.{max-elements, max-rows, max-rings, max-slots};
 ghost use Rattle.rules.specs.TableFile.{headerSize, rowNumbers};
 ghost use Rattle.table.specs.Rows.{IsHead};
 
@@ -33,20 +44,28 @@ impl Table {
     pub const ROWS: usize = 64;
 
     pub const SLOTS: usize = 4096;
-    // bytes before the first row, bytes of a row before its label, bytes of a label in version 2, numbers a row in memory
+
+    // one each way
+    pub const RINGS: usize = 2;
+
+    // bytes before the first row, of a row that all files have, of a label in version 2, of a direction, and numbers a row in memory
     pub const HEADER: usize = 7;
 
     pub const ROW_BYTES: usize = 6;
 
     pub const LABEL_BYTES: usize = 2;
 
+    pub const WAY_BYTES: usize = 1;
+
     pub const ROW_NUMBERS: usize = 5;
 
     // bytes of the longest file
     pub const FILE_BYTES: usize = Table::HEADER
         + (Table::ROW_BYTES + Table::LABEL_BYTES) * Table::ROWS;
-    // the header: the mark, and where the version, the elements and the rows stand
+    // the header: the mark, of one ring or of two, and where the version, the elements and the rows stand
     pub const MARK: [u8; 3] = [b'R', b'B', b'T'];
+
+    pub const BOARD: [u8; 3] = [b'R', b'B', b'2'];
 
     pub const VERSION_1: u64 = 1;
 
@@ -82,6 +101,12 @@ impl Table {
         Table::ROWS
     }
 
+    pub fn rings_limit() -> usize
+        ensures { λ r. ⌜ r ≡ max-rings ⌝ }
+    {
+        Table::RINGS
+    }
+
     pub fn slots_limit() -> usize
         ensures { λ r. ⌜ r ≡ max-slots ⌝ }
     {
@@ -101,12 +126,13 @@ impl Table {
     }
 }
 
-// One periodic transfer, with its label: 0 in version 1.
+// One periodic transfer, with its direction: 0 where there is one ring; and its label: 0 in version 1, and where there are two.
 pub struct Row {
     pub cost: u16,
     pub period: u16,
     pub first: u16,
     pub second: u16,
+    pub way: usize,
     pub label: u16,
 }
 
@@ -168,6 +194,8 @@ impl Answer {
     pub const NO_FREE_PLACE: u32 = 24;
 
     pub const NO_ROW_THERE: u32 = 25;
+
+    pub const WRONG_WAY: u32 = 26;
 
     pub const WRONG_ELEMENT: u32 = 29;
 

@@ -21,15 +21,16 @@ use Rattle.numbers.proofs.Lists.{zeros-at}
 use Rattle.numbers.proofs.Word.{bit-shr, bit-word}
 use Rattle.numbers.proofs.Divisors.{Positive, lcm-of-least, lcm-as-least}
 use Rattle.rules.specs.Bounds.{max-elements, max-rows, max-slots}
-use Rattle.rules.specs.Bus.{Table, Labelled, uses, routeUses}
+use Rattle.rules.specs.Bus.{Table, Labelled, clockwise, uses, routeUses}
 use Rattle.rules.specs.Live.{Live, places, commonOf, sumOver}
 use Rattle.table.specs.declared.Row.{Row}
 use Rattle.table.specs.Rows.{IsRow, single}
 use Rattle.table.specs.Sound.{SoundRow}
-use Rattle.table.specs.Columns.{ByRow}
+use Rattle.table.specs.Columns.{ByRow, HasRow}
 use Rattle.ring.specs.Route.{segments}
+use Rattle.ring.proofs.Mirror.{clockwise-uses}
 use Rattle.time.specs.Time.{Periods, Capped}
-use Rattle.tally.specs.Tally.{segmentLoad}
+use Rattle.tally.specs.Tally.{columnPlaces, segmentLoad}
 
 -- ---- the denominator
 
@@ -73,10 +74,13 @@ module _ (d : ℕ) (t : Table) (s : ℕ) where
         ltb→lt 0 (t .period 0) h,
       )))))
 
-  module _ (l : s < t .elements) (w : ℕ) (e : w ≡ segments (t .elements) (t .first 0) (t .second 0)) where
+  module _ (l : s < t .elements) (c : t .way 0 ≡ clockwise) (w : ℕ) (e : w ≡ segments (t .elements) (t .first 0) (t .second 0)) where
     used : uses t 0 (suc s) ≡ eqb (w / 2 ^ s % 2) 1
     unfolding uses
-    used = sym (bit-shr w s ∙ ap (λ (v : ℕ). bit v s) e ∙ segment-bit (t .elements) (t .first 0) (t .second 0) s l)
+    used =
+        let M = t .elements in
+        clockwise-uses M (t .first 0) (t .second 0) (suc s) c
+        ∙ sym (bit-shr w s ∙ ap (λ (v : ℕ). bit v s) e ∙ segment-bit M (t .first 0) (t .second 0) s l)
 
     pub apart-adds : w / 2 ^ s % 2 ≡ 0 → 0 ≡ segmentLoad d t s 0
     apart-adds z =
@@ -156,7 +160,21 @@ laid-end d l {n} {xs} L h =
 pub adds-little : (d p c : ℕ) → c ≤ p → d / p * c ≤ d
 adds-little d p c l = le-trans (mul-le-mul-left (d / p) l) (div-mul-le-self d p)
 
-pub row-alone : {t : Labelled} {i : ℕ} {r : Row} → IsRow t i r → SoundRow (t .table) i → SoundRow (single (t .table .elements) r) 0
+-- of the one ring
+pub place-row : (M : ℕ) (label : ℕ → ℕ) {cost period first second : List ℕ} {i : ℕ} {r : Row}
+    → HasRow cost period first second i clockwise (label i) r
+    → IsRow (record { table = columnPlaces M cost period first second; label = label }) i r
+place-row M label H = record {
+  cost = H .cost;
+  period = H .period;
+  first = H .first;
+  second = H .second;
+  way = H .way;
+  label = H .label;
+}
+
+pub row-alone : {t : Labelled} {i : ℕ} {r : Row} → IsRow t i r → SoundRow (t .table) i
+    → SoundRow (single (t .table .elements) (t .table .rings) r) 0
 row-alone q S = record {
   first-low = rw (q .first) (S .first-low);
   first-high = rw (q .first) (S .first-high);
@@ -167,12 +185,13 @@ row-alone q S = record {
   period-high = rw (q .period) (S .period-high);
   cost-low = rw (q .cost) (S .cost-low);
   cost-high = rw (q .cost, q .period) (S .cost-high);
+  way-known = rw (q .way) (S .way-known);
 }
 
 pub load-alone : (d s : ℕ) {t : Labelled} {i : ℕ} {r : Row} → IsRow t i r
-    → segmentLoad d (single (t .table .elements) r) s 0 ≡ segmentLoad d (t .table) s i
+    → segmentLoad d (single (t .table .elements) (t .table .rings) r) s 0 ≡ segmentLoad d (t .table) s i
 unfolding uses
-load-alone d s q = rw (q .cost, q .period, q .first, q .second) refl
+load-alone d s q = rw (q .cost, q .period, q .first, q .second, q .way) refl
 
 pub adding-end : (d : ℕ) (l : Live) {s i total : ℕ} → Adding d (places l) s i total → max-rows ≤ i → s < l .elements → total ≡ sumOver d l s
 unfolding sumOver

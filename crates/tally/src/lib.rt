@@ -3,16 +3,17 @@
 use table::Row;
 use table::Table;
 ghost use mathlib.Core.Path.{_≡_};
+ghost use mathlib.Core.List.{List};
 ghost use Prim.Native.Nat.{ℕ, _≤_, _<_, max};
 ghost use lib.ListN.{length};
 ghost use Rattle.numbers.specs.Lists.{at};
 ghost use Rattle.rules.specs.Bounds.{max-elements, max-rows, max-slots};
 ghost use Rattle.rules.specs.Live.{commonOf, sumOver};
 ghost use Rattle.table.specs.Rows.{single};
-ghost use Rattle.table.specs.Columns.{ByRow, columnTable};
+ghost use Rattle.table.specs.Columns.{ByRow};
 ghost use Rattle.table.specs.Sound.{SoundRow};
 ghost use Rattle.time.specs.Time.{Capped};
-ghost use Rattle.tally.specs.Tally.{columnLive, Passing, segmentLoad};
+ghost use Rattle.tally.specs.Tally.{columnLive, columnPlaces, Passing, segmentLoad};
 
 fn at_least_one(x: u16) -> u16
     ensures { λ r. ⌜ r ≡ max 1 x ⌝ }
@@ -45,10 +46,10 @@ pub fn denominator_of(period: &[u16; Table::ROWS]) -> u64
     time::hyperperiod_of(Table::ROWS, &all)
 }
 
-// What a row, or a free place, adds to the load of segment s + 1, in units of 1 / d.
+// What a row of the one ring, or a free place, adds to the load of segment s + 1, in units of 1 / d.
 fn load_of(elements: usize, d: u64, row: Row, s: usize) -> u64
-    requires { ⌜ (elements ≤ max-elements) × (d ≤ max-slots) × (s < elements) × (0 < row .period → SoundRow (single elements row) 0) ⌝ }
-    ensures { λ r. ⌜ (r ≡ segmentLoad d (single elements row) s 0) × (r ≤ max-slots) ⌝ }
+    requires { ⌜ (elements ≤ max-elements) × (d ≤ max-slots) × (s < elements) × (0 < row .period → SoundRow (single elements 1 row) 0) ⌝ }
+    ensures { λ r. ⌜ (r ≡ segmentLoad d (single elements 1 row) s 0) × (r ≤ max-slots) ⌝ }
 {
     if row.period == 0 {
         return 0;
@@ -60,7 +61,7 @@ fn load_of(elements: usize, d: u64, row: Row, s: usize) -> u64
     d / row.period as u64 * row.cost as u64
 }
 
-// The load of segment s + 1 from all the rows present, in units of 1 / d.
+// The load of segment s + 1 from all the rows present, in units of 1 / d. Labels say nothing of it.
 fn sum_of<'a>(
     elements: usize,
     d: u64,
@@ -68,14 +69,12 @@ fn sum_of<'a>(
     period: &'a [u16; Table::ROWS],
     first: &'a [u8; Table::ROWS],
     second: &'a [u8; Table::ROWS],
-    label: &'a [u16; Table::ROWS],
     s: usize,
 ) -> u64
     requires { ⌜ (d ≤ max-slots) × (s < elements)
-        × Passing (columnTable elements max-rows (now cost) (now period) (now first) (now second)) ⌝ }
-    ensures { λ r. ⌜ r
-        ≡ sumOver d (columnLive elements (now (cost .entry)) (now (period .entry)) (now (first .entry)) (now (second .entry))
-        (now (label .entry))) s ⌝ }
+        × Passing (columnPlaces elements (now cost) (now period) (now first) (now second)) ⌝ }
+    ensures { λ r. ⌜ ((label : List ℕ) → r
+        ≡ sumOver d (columnLive elements (now (cost .entry)) (now (period .entry)) (now (first .entry)) (now (second .entry)) label) s) ⌝ }
 {
     let mut total: u64 = 0;
     let mut i: usize = 0;
@@ -84,7 +83,7 @@ fn sum_of<'a>(
             + load_of(
                 elements,
                 d,
-                table::row_at(cost, period, first, second, label, i),
+                table::row_at(cost, period, first, second, i, 0, 0),
                 s,
             );
         i += 1;
@@ -100,18 +99,16 @@ pub fn sums_of<'a>(
     period: &'a [u16; Table::ROWS],
     first: &'a [u8; Table::ROWS],
     second: &'a [u8; Table::ROWS],
-    label: &'a [u16; Table::ROWS],
 ) -> [u64; Table::ELEMENTS]
-    requires { ⌜ (d ≤ max-slots) × Passing (columnTable elements max-rows (now cost) (now period) (now first) (now second)) ⌝ }
+    requires { ⌜ (d ≤ max-slots) × Passing (columnPlaces elements (now cost) (now period) (now first) (now second)) ⌝ }
     ensures { λ r. ⌜ (length r ≡ max-elements)
-        × (at r
-        ≡ sumOver d (columnLive elements (now (cost .entry)) (now (period .entry)) (now (first .entry)) (now (second .entry))
-        (now (label .entry)))) ⌝ }
+        × ((label : List ℕ) → at r
+        ≡ sumOver d (columnLive elements (now (cost .entry)) (now (period .entry)) (now (first .entry)) (now (second .entry)) label)) ⌝ }
 {
     let mut sums = [0u64; Table::ELEMENTS];
     let mut s: usize = 0;
     while s < elements {
-        sums[s] = sum_of(elements, d, cost, period, first, second, label, s);
+        sums[s] = sum_of(elements, d, cost, period, first, second, s);
         s += 1;
     }
     sums

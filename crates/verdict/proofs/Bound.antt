@@ -15,7 +15,7 @@ use Rattle.numbers.specs.Lists.{at, each}
 use Rattle.numbers.proofs.Finite.{sum-term}
 use Rattle.rules.specs.Bus.{Table, overlap}
 use Rattle.rules.specs.TableFile.{fileTable}
-use Rattle.rules.specs.Line.{cut, OverlapSet, Sets, lineFirst, lineSecond}
+use Rattle.rules.specs.Line.{HasCuts, OverlapSet, Sets, lineFirst, lineSecond}
 use Rattle.rules.specs.Loads.{light, over}
 use Rattle.rules.specs.Refusals.{Check, Answers, light-row, over-bound}
 use Rattle.rules.specs.Refusals.{given-checks, line-checks, bound-checks, verdict-checks}
@@ -100,7 +100,7 @@ verdict-numbered f =
 
 -- ---- nothing is refused
 
-pub sets-exist : (t : Table) → Sound t → cut t ≤ t .elements → (ws : List ℕ) × Sets t ws × (length ws ≤ t .rows)
+pub sets-exist : (t : Table) → Sound t → HasCuts t → (ws : List ℕ) × Sets t ws × (length ws ≤ t .rows)
 sets-exist t s c =
     let E = 1 + sum (t .rows) (lineSecond t) in
     let far : (i : ℕ) → i < t .rows → lineSecond t i < E = λ i l. omega (arith, sum-term (t .rows) (lineSecond t) i l) in

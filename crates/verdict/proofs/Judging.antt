@@ -9,12 +9,13 @@ use lib.ListN.{length, take}
 use Rattle.rules.specs.Bounds.{max-rows}
 use Rattle.rules.specs.Bus.{Table}
 use Rattle.rules.specs.TableFile.{fileTable}
-use Rattle.rules.specs.Loads.{reported}
+use Rattle.numbers.specs.Finite.{lowest}
+use Rattle.numbers.specs.Divisors.{lcm}
+use Rattle.rules.specs.Loads.{hyperperiod, reported}
 use Rattle.rules.specs.Refusals.{Check, Answers, given-checks, line-checks, bound-checks, verdict-checks}
 use Rattle.rules.specs.Calls as calls
 use Rattle.rules.proofs.Answers.{None, Numbered, none-of, stopped, joined, answered, answers-only, none-position, position-none}
 use Rattle.rules.proofs.Sets.{sets-only}
-use Rattle.ring.proofs.Cut.{cut-low}
 use Rattle.table.specs.declared.Answer.{Answer}
 use Rattle.outline.specs.declared.Layout.{Layout}
 use Rattle.outline.specs.declared.Outline.{Outline}
@@ -35,7 +36,7 @@ use Rattle.verdict.proofs.Weighing.{reported-small}
 
 pub judged-refused : {cs : List Check} {t : Table} (r : Answer) → r .number ≢ 0 → Answers cs (r .number) (r .place)
     → JudgedBy cs t (Refused r)
-judged-refused r h a = record { answers = a; done = λ e. absurd (h e); refused = λ e. (refl, refl, refl, refl, refl) }
+judged-refused r h a = record { answers = a; done = λ e. absurd (h e); refused = λ e. (refl, refl, refl, refl, refl, refl) }
 
 module _ {t : Table} {l : Layout} (A : LaidOut t l) where
   -- 10 or 11
@@ -59,7 +60,8 @@ module _ {t : Table} {l : Layout} (A : LaidOut t l) where
       none = table-none t none-line (w .answer) y (W .answers)
 
       -- none
-      pub judged-admitted : JudgedBy (table-checks t) t (Admitted (l .cut) (l .time .interval) (l .time .hyper) (w .load) (w .sets))
+      pub judged-admitted : JudgedBy (table-checks t) t
+          (Admitted (l .cut) (l .other) (l .time .interval) (l .time .hyper) (w .load) (w .sets))
       judged-admitted =
           let L = A .found z in
           let v = W .done y in
@@ -69,6 +71,7 @@ module _ {t : Table} {l : Layout} (A : LaidOut t l) where
               list = v .0;
               listed = v .1;
               cut-is = L .cut;
+              second-is = L .other;
               interval-is = L .timed .interval;
               hyper-is = L .timed .hyper;
               load-is = v .3;
@@ -92,13 +95,14 @@ module _ {t : Table} {a : Analysis} (F : Accepted t a) where
   abbrev found : Outline
   found = a .outline
 
-  pub accepted-values : calls.Admitted t (found .cut) (found .time .interval) (found .time .hyper) (a .load) (found .sets)
+  pub accepted-values : calls.Admitted t (found .cut) (found .other) (found .time .interval) (found .time .hyper) (a .load) (found .sets)
   accepted-values =
       let o = F .outline in
       record {
         list = take (a .outline .sets) (a .outline .words);
         listed = o .list;
         cut-is = o .cut;
+        second-is = o .other;
         interval-is = o .timed .interval;
         hyper-is = o .timed .hyper;
         load-is = F .load;
@@ -126,30 +130,36 @@ judged-past f p a r J = record { answers = given-passes f p a (numberOf r) (plac
 
 -- ---- only one verdict fits
 
+-- h is looked for above 0
+hyper-some : (t : Table) → 1 ≤ hyperperiod t
+unfolding hyperperiod lcm lowest
+hyper-some t = omega arith
+
 module _ {cs : List Check} {t : Table} where
-  -- a table that is admitted has a cut, so no refusal has the number 0
+  -- a table that is admitted has an h, so no refusal has the number 0
   pub refused-number : (r : Answer) → JudgedBy cs t (Refused r) → r .number ≢ 0
-  refused-number r X e = omega (arith, X .done e .cut-is, cut-low t)
+  refused-number r X e = omega (arith, X .done e .hyper-is, hyper-some t)
 
   module _ (some : None cs → 1 ≤ t .rows) (numbered : Numbered cs) where
-    admitted-only : (c i h l s c′ i′ h′ l′ s′ : ℕ) → JudgedBy cs t (Admitted c i h l s) → JudgedBy cs t (Admitted c′ i′ h′ l′ s′)
-        → Admitted c i h l s ≡ Admitted c′ i′ h′ l′ s′
-    admitted-only c i h l s c′ i′ h′ l′ s′ X Y =
+    admitted-only : (c o i h l s c′ o′ i′ h′ l′ s′ : ℕ) → JudgedBy cs t (Admitted c o i h l s)
+        → JudgedBy cs t (Admitted c′ o′ i′ h′ l′ s′) → Admitted c o i h l s ≡ Admitted c′ o′ i′ h′ l′ s′
+    admitted-only c o i h l s c′ o′ i′ h′ l′ s′ X Y =
         let A = X .done refl in
         let B = Y .done refl in
         let e : A .list ≡ B .list = sets-only (some (none-of cs 0 numbered (X .answers))) (A .listed) (B .listed) in
         λ k. Admitted
         ((A .cut-is ∙ sym (B .cut-is)) k)
+        ((A .second-is ∙ sym (B .second-is)) k)
         ((A .interval-is ∙ sym (B .interval-is)) k)
         ((A .hyper-is ∙ sym (B .hyper-is)) k)
         ((A .load-is ∙ ap (reported t) e ∙ sym (B .load-is)) k)
         ((A .sets-is ∙ ap length e ∙ sym (B .sets-is)) k)
 
     pub judged-by-only : (r s : Verdict) → JudgedBy cs t r → JudgedBy cs t s → r ≡ s
-    judged-by-only (Admitted c i h l n) (Admitted c′ i′ h′ l′ n′) X Y = admitted-only c i h l n c′ i′ h′ l′ n′ X Y
-    judged-by-only (Admitted c i h l n) (Refused r) X Y =
+    judged-by-only (Admitted c o i h l n) (Admitted c′ o′ i′ h′ l′ n′) X Y = admitted-only c o i h l n c′ o′ i′ h′ l′ n′ X Y
+    judged-by-only (Admitted c o i h l n) (Refused r) X Y =
         absurd (refused-number r Y (answers-only cs (r .number) 0 (r .place) 0 (Y .answers) (X .answers) .0))
-    judged-by-only (Refused r) (Admitted c i h l n) X Y =
+    judged-by-only (Refused r) (Admitted c o i h l n) X Y =
         absurd (refused-number r X (answers-only cs (r .number) 0 (r .place) 0 (X .answers) (Y .answers) .0))
     judged-by-only (Refused r) (Refused s) X Y = ap Refused (answer-only cs r s (X .answers) (Y .answers))
 

@@ -2,7 +2,7 @@
 use mathlib.Core.Path.{_≡_, sym, ap, _∙_}
 use mathlib.Core.Bool.{Bool}
 use mathlib.Core.List.{List}
-use Prim.Native.Nat.{ℕ, _+_, _*_, _≤_, _<_}
+use Prim.Native.Nat.{ℕ, _*_, _≤_, _<_}
 use native.Mathlib.Omega.{arith}
 use lib.Dec.{T, eqb}
 use lib.ListN.{length, take, length-take}
@@ -65,7 +65,7 @@ module _ (t : Table) (xs ws : List ℕ) (k a b : ℕ) (r : (i : ℕ) → i < t .
 
 -- ---- the table that is weighed
 
-module _ {t : Table} {c : Time} {first second xs : List ℕ} (A : Weighable t c first second xs) where
+module _ {t : Table} {c : Time} {top : ℕ} {first second xs : List ℕ} (A : Weighable t c top first second xs) where
   sound : Sound t
   sound = A .timed .sound
 
@@ -78,8 +78,8 @@ module _ {t : Table} {c : Time} {first second xs : List ℕ} (A : Weighable t c 
   ends : Ends t (at first) (at second)
   ends i l = (A .first .row i l, A .second .row i l)
 
-  pub weighable-on-line : OnLine (t .rows) (at first) (at second) (t .elements + 1)
-  weighable-on-line = ends-on-line t sound (A .clear) (at first) (at second) ends
+  pub weighable-on-line : OnLine (t .rows) (at first) (at second) top
+  weighable-on-line = rw (A .top-is) (ends-on-line t sound (A .clear) (at first) (at second) ends)
 
   -- ---- each outcome
 

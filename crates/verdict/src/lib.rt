@@ -4,17 +4,16 @@ use table::Answer;
 use table::Table;
 use time::Time;
 ghost use mathlib.Core.Path.{_≡_};
-ghost use mathlib.Core.List.{List};
-ghost use Prim.Native.Nat.{ℕ, _+_};
 ghost use Rattle.rules.specs.TableFile.{fileTable};
 ghost use Rattle.rules.specs.Bus as bus;
 ghost use Rattle.rules.specs.Refusals.{bound-checks, verdict-checks};
 ghost use Rattle.rules.specs.Calls.{fileAsk, Judged};
 ghost use Rattle.table.specs.Sound.{Sound};
 ghost use Rattle.table.specs.Columns.{columnTable};
-ghost use Rattle.verdict.specs.Weighing.{Weighable, Weighs};
+ghost use Rattle.verdict.specs.Weighing.{Rest, tableBy, Weighable, Weighs};
 ghost use Rattle.verdict.specs.Analysed.{table-checks, blank, Accepted, Rated, Analysed};
-ghost use Rattle.verdict.specs.Verdict.{numberOf, placeOf, cutOf, intervalOf, hyperOf, loadOf, setsOf, JudgedBy, VerdictOn};
+ghost use Rattle.verdict.specs.Verdict.{numberOf, placeOf, cutOf, otherOf, intervalOf, hyperOf, loadOf, setsOf};
+ghost use Rattle.verdict.specs.Verdict.{JudgedBy, VerdictOn};
 
 // ---- the analysis
 
@@ -35,10 +34,11 @@ fn unweighed(answer: Answer) -> Loaded
     }
 }
 
-// The rows and sets of a table weighed, whose time, line and rates are found. All periods are equal exactly if L is h.
+// The rows and sets of a table weighed, whose time, line and rates are found; `top` is where the line ends. All periods are equal exactly
+// if L is h.
 fn weigh<'a>(
-    elements: usize,
     rows: usize,
+    top: usize,
     time: Time,
     cost: &'a [u16; Table::ROWS],
     period: &'a [u16; Table::ROWS],
@@ -46,12 +46,11 @@ fn weigh<'a>(
     ends: &'a [u8; Table::ROWS],
     rate: &'a [u16; Table::ROWS],
 ) -> Loaded
-    requires { ⌜ ((first : List ℕ) × (second : List ℕ)
-        × Weighable (columnTable elements rows (now cost) (now period) first second) time (now starts) (now ends) (now rate)) ⌝ }
-    ensures { λ r. ⌜ ((first second : List ℕ)
-        → Weighable (columnTable elements rows (now (cost .entry)) (now (period .entry)) first second) time
+    requires { ⌜ ((b : Rest) × Weighable (tableBy b rows (now cost) (now period)) time top (now starts) (now ends) (now rate)) ⌝ }
+    ensures { λ r. ⌜ ((b : Rest)
+        → Weighable (tableBy b rows (now (cost .entry)) (now (period .entry))) time top
         (now (starts .entry)) (now (ends .entry)) (now (rate .entry))
-        → Weighs (columnTable elements rows (now (cost .entry)) (now (period .entry)) first second) r) ⌝ }
+        → Weighs (tableBy b rows (now (cost .entry)) (now (period .entry))) r) ⌝ }
 {
     let light = weights::lowest_light(
         rows,
@@ -63,15 +62,7 @@ fn weigh<'a>(
     if light < rows {
         return unweighed(Answer::at(Answer::LIGHT_ROW, light));
     }
-    let found = weights::weigh_line(
-        rows,
-        elements + 1,
-        starts,
-        ends,
-        rate,
-        time.hyper,
-        time.interval,
-    );
+    let found = weights::weigh_line(rows, top, starts, ends, rate, time.hyper, time.interval);
     if found.over < found.sets {
         return unweighed(Answer::at(Answer::OVER_BOUND, found.over));
     }
@@ -104,24 +95,21 @@ impl Analysis {
 
 // The analysis of a table whose outline and rates are found: 13, then 14.
 pub fn weighed<'a>(
-    elements: usize,
     rows: usize,
     cost: &'a [u16; Table::ROWS],
     period: &'a [u16; Table::ROWS],
     outline: Outline,
     rate: [u16; Table::ROWS],
 ) -> Analysis
-    requires { ⌜ ((first : List ℕ) × (second : List ℕ)
-        × Rated (columnTable elements rows (now cost) (now period) first second) outline rate) ⌝ }
-    ensures { λ r. ⌜ ((first second : List ℕ)
-        → Rated (columnTable elements rows (now (cost .entry)) (now (period .entry)) first second) outline rate
+    requires { ⌜ ((b : Rest) × Rated (tableBy b rows (now cost) (now period)) outline rate) ⌝ }
+    ensures { λ r. ⌜ ((b : Rest) → Rated (tableBy b rows (now (cost .entry)) (now (period .entry))) outline rate
         → Analysed
-        (bound-checks (columnTable elements rows (now (cost .entry)) (now (period .entry)) first second))
-        (columnTable elements rows (now (cost .entry)) (now (period .entry)) first second) r) ⌝ }
+        (bound-checks (tableBy b rows (now (cost .entry)) (now (period .entry)))) (tableBy b rows (now (cost .entry)) (now (period .entry)))
+        r) ⌝ }
 {
     let weighing = weigh(
-        elements,
         rows,
+        outline.top,
         outline.time,
         cost,
         period,
@@ -144,27 +132,31 @@ pub fn weighed<'a>(
 pub fn analysis_of<'a>(
     elements: usize,
     rows: usize,
+    rings: usize,
     cost: &'a [u16; Table::ROWS],
     period: &'a [u16; Table::ROWS],
     first: &'a [u8; Table::ROWS],
     second: &'a [u8; Table::ROWS],
+    way: &'a [u8; Table::ROWS],
 ) -> Analysis
-    requires { ⌜ Sound (columnTable elements rows (now cost) (now period) (now first) (now second)) ⌝ }
+    requires { ⌜ Sound (columnTable elements rows rings (now cost) (now period) (now first) (now second) (now way)) ⌝ }
     ensures { λ r. ⌜ Analysed
         (table-checks
-        (columnTable elements rows (now (cost .entry)) (now (period .entry)) (now (first .entry)) (now (second .entry))))
-        (columnTable elements rows (now (cost .entry)) (now (period .entry)) (now (first .entry)) (now (second .entry))) r ⌝ }
+        (columnTable elements rows rings (now (cost .entry)) (now (period .entry)) (now (first .entry)) (now (second .entry))
+        (now (way .entry))))
+        (columnTable elements rows rings (now (cost .entry)) (now (period .entry)) (now (first .entry)) (now (second .entry))
+        (now (way .entry))) r ⌝ }
 {
-    let outline = outline::outline_of(elements, rows, period, first, second);
+    let outline = outline::outline_of(elements, rows, rings, period, first, second, way);
     let answer = outline.answer;
     if answer.number != Answer::DONE {
         return Analysis::refused(answer);
     }
     let rate = weights::rates(rows, outline.time.hyper, cost, period);
-    weighed(elements, rows, cost, period, outline, rate)
+    weighed(rows, cost, period, outline, rate)
 }
 
-// The analysis of a file's table, or the first refusal of 1 to 9, 18, 10 to 14.
+// The analysis of a file's table, or the first refusal of 1 to 9, 26, 18, 10 to 14.
 pub fn analyse(file: &[u8]) -> Analysis
     ensures { λ r. ⌜ Analysed (verdict-checks (now (file .entry))) (fileTable (now (file .entry))) r ⌝ }
 {
@@ -176,19 +168,23 @@ pub fn analyse(file: &[u8]) -> Analysis
     analysis_of(
         found.columns.elements,
         found.columns.rows,
+        found.columns.rings,
         &found.columns.cost,
         &found.columns.period,
         &found.columns.first,
         &found.columns.second,
+        &found.columns.way,
     )
 }
 
 // ---- the verdict
 
-// The verdict on a table: what it is on the line and in time, or why it is refused.
+// The verdict on a table: what it is on the line and in time, or why it is refused. `other` is the cut of the other ring, 0 where there is
+// one ring.
 pub enum Verdict {
     Admitted {
         cut: u32,
+        other: u32,
         interval: u32,
         hyper: u32,
         load: u32,
@@ -204,6 +200,7 @@ impl Verdict {
         match self {
             Verdict::Admitted {
                 cut: _,
+                other: _,
                 interval: _,
                 hyper: _,
                 load: _,
@@ -219,6 +216,7 @@ impl Verdict {
         match self {
             Verdict::Admitted {
                 cut: _,
+                other: _,
                 interval: _,
                 hyper: _,
                 load: _,
@@ -233,18 +231,22 @@ impl Verdict {
 fn judge_table<'a>(
     elements: usize,
     rows: usize,
+    rings: usize,
     cost: &'a [u16; Table::ROWS],
     period: &'a [u16; Table::ROWS],
     first: &'a [u8; Table::ROWS],
     second: &'a [u8; Table::ROWS],
+    way: &'a [u8; Table::ROWS],
 ) -> Verdict
-    requires { ⌜ Sound (columnTable elements rows (now cost) (now period) (now first) (now second)) ⌝ }
+    requires { ⌜ Sound (columnTable elements rows rings (now cost) (now period) (now first) (now second) (now way)) ⌝ }
     ensures { λ r. ⌜ JudgedBy
         (table-checks
-        (columnTable elements rows (now (cost .entry)) (now (period .entry)) (now (first .entry)) (now (second .entry))))
-        (columnTable elements rows (now (cost .entry)) (now (period .entry)) (now (first .entry)) (now (second .entry))) r ⌝ }
+        (columnTable elements rows rings (now (cost .entry)) (now (period .entry)) (now (first .entry)) (now (second .entry))
+        (now (way .entry))))
+        (columnTable elements rows rings (now (cost .entry)) (now (period .entry)) (now (first .entry)) (now (second .entry))
+        (now (way .entry))) r ⌝ }
 {
-    let laid = outline::layout_of(elements, rows, period, first, second);
+    let laid = outline::layout_of(elements, rows, rings, period, first, second, way);
     let answer = laid.answer;
     if answer.number != Answer::DONE {
         return Verdict::Refused(answer);
@@ -252,8 +254,8 @@ fn judge_table<'a>(
     let time = laid.time;
     let rate = weights::rates(rows, time.hyper, cost, period);
     let weighing = weigh(
-        elements,
         rows,
+        laid.top,
         time,
         cost,
         period,
@@ -267,6 +269,7 @@ fn judge_table<'a>(
     }
     Verdict::Admitted {
         cut: laid.cut as u32,
+        other: laid.other as u32,
         interval: time.interval as u32,
         hyper: time.hyper as u32,
         load: weighing.load as u32,
@@ -285,6 +288,7 @@ pub fn verdict_of(table: Analysis) -> Verdict
     }
     Verdict::Admitted {
         cut: table.outline.cut as u32,
+        other: table.outline.other as u32,
         interval: table.outline.time.interval as u32,
         hyper: table.outline.time.hyper as u32,
         load: table.load as u32,
@@ -295,7 +299,7 @@ pub fn verdict_of(table: Analysis) -> Verdict
 // Whether the bus can carry the table of a file.
 pub fn judge(file: &[u8]) -> Verdict
     ensures { λ r. ⌜ Judged (fileAsk (now (file .entry))) (numberOf r) (placeOf r)
-        (cutOf r) (intervalOf r) (hyperOf r) (loadOf r) (setsOf r) ⌝ }
+        (cutOf r) (otherOf r) (intervalOf r) (hyperOf r) (loadOf r) (setsOf r) ⌝ }
 {
     let found = pasted::given(file);
     let answer = found.answer;
@@ -305,9 +309,11 @@ pub fn judge(file: &[u8]) -> Verdict
     judge_table(
         found.columns.elements,
         found.columns.rows,
+        found.columns.rings,
         &found.columns.cost,
         &found.columns.period,
         &found.columns.first,
         &found.columns.second,
+        &found.columns.way,
     )
 }

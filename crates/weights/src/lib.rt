@@ -172,7 +172,7 @@ fn rates_at(
     ends: &[u8; Table::ROWS],
     rows: usize,
     rate: &[u16; Table::ROWS],
-    sums: &mut [u64; Sets::LINE],
+    sums: &mut [u32; Sets::LINE],
 )
     requires { ⌜ Rates (now rate) rows × ((i : ℕ) → i < rows → at (now ends) i < line-size)
         × (now sums ≡ replicate line-size 0) ⌝ }
@@ -181,7 +181,7 @@ fn rates_at(
     let mut i: usize = 0;
     while i < rows {
         let e = table::end_at(ends, i);
-        sums[e] = sums[e] + table::slots_at(rate, i);
+        sums[e] = sums[e] + table::slots_at(rate, i) as u32;
         i += 1;
     }
 }
@@ -201,9 +201,9 @@ pub fn weigh_line<'a>(
     ensures { λ r. ⌜ ((ws : List ℕ) × SetWords rows (at (now (first .entry))) (at (now (second .entry))) (r .sets) ws
         × Weighed rows (now (rate .entry)) (r .sets) ws (eqb interval hyper) hyper interval (r .over) (r .largest)) ⌝ }
 {
-    let mut joining = [0u64; Sets::LINE];
+    let mut joining = [0u32; Sets::LINE];
     rates_at(first, rows, rate, &mut joining);
-    let mut leaving = [0u64; Sets::LINE];
+    let mut leaving = [0u32; Sets::LINE];
     rates_at(second, rows, rate, &mut leaving);
     let mut found = Weights {
         sets: 0,
@@ -214,8 +214,8 @@ pub fn weigh_line<'a>(
     let mut load: u64 = 0;
     let mut e: usize = 0;
     while e <= top {
-        let starting = joining[e];
-        let ending = leaving[e];
+        let starting = joining[e] as u64;
+        let ending = leaving[e] as u64;
         found = weigh_set(found, closes(started, ending != 0), load, hyper, interval);
         started = goes_on(started, starting != 0, ending != 0);
         load = load - ending + starting;

@@ -8,7 +8,7 @@ use Rattle.rules.specs.Bus.{Table}
 use Rattle.rules.specs.Loads.{end}
 use Rattle.interval.specs.Ready.{Due}
 use Rattle.course.specs.Plannable.{Plannable}
-use Rattle.course.proofs.Accepted.{timed, few-rows, few-elements}
+use Rattle.course.proofs.Accepted.{timed, few-rows, few-sets}
 use Rattle.course.proofs.Laying.{low-sets, firsts-low, ready-of}
 use Rattle.course.proofs.Course.{Planning, planning-start, planning-begins, planning-due, planning-low, planning-room}
 use Rattle.course.proofs.Course.{planning-next, planning-end}
@@ -16,26 +16,34 @@ use Rattle.course.proofs.plan_intervals.Statement.{statement}
 use Rattle.course.proofs.plan_intervals.Tie as tie
 
 abbrev Inv-loop : tie.InvT-loop
-Inv-loop plain from until plan₀ table rows sets top time places size load₀ part₀ after₀ slot₀ at₀ plan load part after slot at =
+Inv-loop plain from until plan₀ table rows top time words folded places size load₀ part₀ after₀ slot₀ at₀ plan load part after slot at =
     (length load ≡ max-rows) × (length part ≡ max-rows)
     × ((t : Table) (k m : ℕ) → Plannable t table k m from until after₀ (length plan₀) → Planning t k m after₀ plan₀ slot at after plan)
 
 abbrev μ-loop : tie.MeasureT-loop
-μ-loop plain from until plan₀ table rows sets top time places size load₀ part₀ after₀ slot₀ at₀ plan load part after slot at = until - slot
+μ-loop plain from until plan₀ table rows top time words folded places size load₀ part₀ after₀ slot₀ at₀ plan load part after slot at =
+    until - slot
 
 -- ---- what the intervals share
 
 -- the function's entry, from where it is laid out
 abbrev entry : tie.After-lay Inv-loop μ-loop → tie.Start Inv-loop μ-loop
-entry c = c .before .before .before .before .before .before
+entry c = c .before .before .before .before .before .before .before .before .before .before .before
 
-add-top : tie.Need-add-top Inv-loop μ-loop
-add-top c = record { fits = omega (arith, few-elements (c .before .pre .3 .accepted)) }
+-- where the sets are folded
+abbrev folding : tie.After-lay Inv-loop μ-loop → tie.After-fold-sets Inv-loop μ-loop
+folding c = c .before .before .before .before
+
+fold-sets-requires : tie.Need-fold-sets-requires Inv-loop μ-loop
+fold-sets-requires c κs =
+    let A = c .before .before .before .before .before .before .pre .3 .accepted in
+    (few-rows A, few-sets A, A .outline .size)
 
 lay-requires : tie.Need-lay-requires Inv-loop μ-loop
 lay-requires c κs =
-    let A = c .before .before .before .before .before .pre .3 .accepted in
-    (few-rows A, low-sets A, firsts-low A)
+    let f = c .before .before .before in
+    let A = f .before .before .before .before .before .before .before .pre .3 .accepted in
+    (few-rows A, low-sets A (f .fold-sets .ensures), firsts-low A)
 
 -- ---- where the loop begins
 
@@ -109,7 +117,7 @@ advance-requires c κs =
       (
         begun (I .before) .pre .0,
         done I P .number,
-        ready-of (P .accepted) (N .lay .ensures),
+        ready-of (P .accepted) (folding N .fold-sets .ensures) (N .lay .ensures),
         due I P,
       ),
       I .before .before .loop .inv .0,
@@ -136,12 +144,13 @@ loop-again c =
     let I = turn c in
     let N = I .before .before .before in
     let D = c .before .before .advance in
-    let last = D .last .1 .1 .1 .1 .1 .1 .1 .1 .1 .1 .1 .1 .1 .1 .1 .1 .1 in (
+    let last = D .last .1 .1 .1 .1 .1 .1 .1 .1 .1 .1 .1 .1 .1 .1 .1 .1 .1 .1 in (
       D .ensures .0,
       D .ensures .1,
       λ t k m P.
           planning-next (begun (I .before) .args .plan .now) P (done I P) (I .before .loop-test .taken) _ (ends I P) (last .0)
-          (last .1 .0) (D .ensures .2 t (done I P .number) (ready-of (P .accepted) (N .lay .ensures)) (due I P)),
+          (last .1 .0)
+          (D .ensures .2 t (done I P .number) (ready-of (P .accepted) (folding N .fold-sets .ensures) (N .lay .ensures)) (due I P)),
     )
 
 -- ---- the end
@@ -160,7 +169,7 @@ plan-intervals-spec =
     (tie.spec
     Inv-loop
     μ-loop
-    add-top
+    fold-sets-requires
     lay-requires
     loop-holds
     next-end-requires

@@ -22,7 +22,7 @@ abbrev bytes : tie.After-given → List ℕ
 bytes g = entry g .args .file .now
 
 abbrev passed : tie.After-outline-of → tie.Else1
-passed o = o .before .before .before .before .before
+passed o = o .before .before .before .before .before .before
 
 abbrev placed : tie.Else2 → tie.After-outline-of
 placed l = l .before .before .before
@@ -51,7 +51,7 @@ returns c =
 
 outline-of-requires : tie.Need-outline-of-requires
 outline-of-requires c κs =
-    let e = c .before .before .before .before in
+    let e = c .before .before .before .before .before in
     let g = taken e in (
       at (g .given .result .columns .cost),
       crowd-sound (bytes g) (entry g .args .k) (g .given .result) (g .given .ensures) (e .if1 .left),
@@ -104,7 +104,7 @@ array-read-set c = omega (arith, few (c .before), c .before .if3 .left)
 
 lay-segments-requires : tie.Need-lay-segments-requires
 lay-segments-requires c κs =
-    let e = passed (placed (c .before .before .before .before .before .before)) in
+    let e = passed (placed (c .before .before .before .before .before .before .before)) in
     let g = taken e in
     crowd-routes (bytes g) (entry g .args .k) (g .given .result) (g .given .ensures) (e .if1 .left)
 
@@ -113,7 +113,7 @@ done-requires c κs = search needs
 
 common-requires : tie.Need-common-requires
 common-requires c κs =
-    let e = passed (placed (c .before .before .before .before .before .before .before .before .before)) in
+    let e = passed (placed (c .before .before .before .before .before .before .before .before .before .before)) in
     let g = taken e in
     let R = crowd-routes (bytes g) (entry g .args .k) (g .given .result) (g .given .ensures) (e .if1 .left) in
     (R .small, R .few)
@@ -122,7 +122,7 @@ returns-4 : tie.Need-returns-4
 returns-4 c =
     let d = c .before .before in
     let s = d .before in
-    let m = s .before .before .before .before .before in
+    let m = s .before .before .before .before .before .before in
     let l = m .before .before in
     let o = placed l in
     let e = passed o in

@@ -1,21 +1,29 @@
 -- `decoding::check_rows` meets its contract. The loop's invariant: the rows before row `i` have no fault.
-use mathlib.Core.Path.{refl}
+use mathlib.Core.Path.{refl, sym}
 use Prim.Native.Nat.{_-_}
 use native.Mathlib.Omega.{arith}
 use borrow.Author.Needs.{needs}
-use Rattle.table.specs.Columns.{columnTable}
+use Rattle.numbers.proofs.Lists.{zeros-at}
+use Rattle.rules.specs.Bounds.{max-rows}
+use Rattle.table.specs.Columns.{columnTable, noLabels}
+use Rattle.table.proofs.ByRow.{has-row}
 use Rattle.table.proofs.Faults.{Checked, checked-start, checked-next, checked-stop, checked-end}
 use Rattle.decoding.proofs.check_rows.Statement.{statement}
 use Rattle.decoding.proofs.check_rows.Tie as tie
 
 abbrev Inv-loop : tie.InvT-loop
-Inv-loop elements rows cost period first second labels i₀ i = Checked (columnTable elements rows cost period first second) i
+Inv-loop elements rows rings cost period first second way i₀ i = Checked (columnTable elements rows rings cost period first second way) i
 
 abbrev μ-loop : tie.MeasureT-loop
-μ-loop elements rows cost period first second labels i₀ i = rows - i
+μ-loop elements rows rings cost period first second way i₀ i = rows - i
 
 loop-holds : tie.Need-loop-holds Inv-loop μ-loop
 loop-holds c = checked-start _
+
+way-at-requires : tie.Need-way-at-requires Inv-loop μ-loop
+way-at-requires c κs =
+    let l = c .before in
+    (omega arith, λ r. l .before .pre .1 r (l .loop .i) (omega arith))
 
 row-at-requires : tie.Need-row-at-requires Inv-loop μ-loop
 row-at-requires c κs = omega arith
@@ -28,10 +36,14 @@ at-requires c κs = omega arith
 
 returns : tie.Need-returns Inv-loop μ-loop
 returns c =
-    let a = c .before .before .before .before .before .before .args in
+    let r = c .before .before .before in
+    let a = r .before .before .before .before .args in
     rw (c .at .ensures .0, c .at .ensures .1)
-    (checked-stop _ _ refl (c .before .before .before .row-at .ensures (a .elements) (a .rows)) (c .before .before .row-fault .ensures)
-    (c .before .before .before .before .before .loop .inv) (c .before .before .before .before .loop-test .taken) (c .before .if1 .taken))
+    (checked-stop _ _ _ refl refl
+    (has-row (a .elements) (a .rows) (a .rings) (a .way .now) noLabels (r .row-at .ensures) (r .before .way-at .ensures)
+    (sym (zeros-at max-rows (r .before .before .before .loop .i))))
+    (c .before .before .row-fault .ensures)
+    (r .before .before .before .loop .inv) (r .before .before .loop-test .taken) (c .before .if1 .taken))
 
 add-i : tie.Need-add-i Inv-loop μ-loop
 add-i c = search needs
@@ -41,9 +53,13 @@ loop-less c = search needs
 
 loop-again : tie.Need-loop-again Inv-loop μ-loop
 loop-again c =
-    let a = c .before .before .before .before .before .args in
-    checked-next _ _ refl (c .before .before .row-at .ensures (a .elements) (a .rows)) (c .before .row-fault .ensures)
-    (c .before .before .before .before .loop .inv) (c .before .before .before .loop-test .taken) (c .if1 .left)
+    let r = c .before .before in
+    let a = r .before .before .before .before .args in
+    checked-next _ _ _ refl refl
+    (has-row (a .elements) (a .rows) (a .rings) (a .way .now) noLabels (r .row-at .ensures) (r .before .way-at .ensures)
+    (sym (zeros-at max-rows (r .before .before .before .loop .i))))
+    (c .before .row-fault .ensures)
+    (r .before .before .before .loop .inv) (r .before .before .loop-test .taken) (c .if1 .left)
 
 done-requires : tie.Need-done-requires Inv-loop μ-loop
 done-requires c κs = search needs
@@ -58,6 +74,7 @@ check-rows-spec =
     Inv-loop
     μ-loop
     loop-holds
+    way-at-requires
     row-at-requires
     row-fault-requires
     at-requires

@@ -80,11 +80,19 @@ loop-again c =
           (ap (λ (k : ℕ). at f (k + 4)) e) (ap (λ (k : ℕ). at f (k + 5)) e),
     )
 
+rings-of-requires : tie.Need-rings-of-requires Inv-loop μ-loop
+rings-of-requires c κs = omega arith
+
+ways-of-requires : tie.Need-ways-of-requires Inv-loop μ-loop
+ways-of-requires c κs = c .before .before .before .before .before .before .pre
+
 returns : tie.Need-returns Inv-loop μ-loop
 returns c =
-    let of = c .before .before .before .of .ensures in
-    let e : c .before .before .loop .i ≡ c .before .before .before .of .result .rows = omega arith in
-    decoding-end _ (c .before .before .before .before .before .pre) (of .elements) (of .rows) (rw e at (c .before .before .loop .inv .1))
+    let y = c .before .before .before .before in
+    let of = y .before .of .ensures in
+    let e : y .loop .i ≡ y .before .of .result .rows = omega arith in
+    decoding-end _ (y .before .before .before .pre) (of .elements) (of .rows) (c .before .rings-of .ensures) (rw e at (y .loop .inv .1))
+    (c .ways-of .ensures)
 
 pub columns-of-spec : {M : Type 1} → statement M
 columns-of-spec =
@@ -111,4 +119,6 @@ columns-of-spec =
     add-i
     loop-less
     loop-again
+    rings-of-requires
+    ways-of-requires
     returns)

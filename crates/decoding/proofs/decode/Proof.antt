@@ -1,5 +1,5 @@
 -- `decoding::decode` meets its contract.
-use mathlib.Core.Path.{ap}
+use mathlib.Core.Path.{sym, ap, subst}
 use mathlib.Core.List.{List}
 use Prim.Native.Nat.{ℕ}
 use native.Mathlib.Omega.{arith}
@@ -8,8 +8,9 @@ use Rattle.rules.specs.Bus.{Table}
 use Rattle.rules.specs.TableFile.{fileTable}
 use Rattle.rules.specs.Refusals.{Answers, header-checks, row-checks}
 use Rattle.rules.proofs.Answers.{None, none-of}
+use Rattle.table.specs.Columns.{OneWay}
 use Rattle.table.proofs.Faults.{header-numbered, header-whole}
-use Rattle.decoding.proofs.Decoding.{decodes-header, decodes-row, decodes-all}
+use Rattle.decoding.proofs.Decoding.{file-one-way, decodes-header, decodes-row, decodes-all}
 use Rattle.decoding.proofs.decode.Statement.{statement}
 use Rattle.decoding.proofs.decode.Tie as tie
 
@@ -58,7 +59,10 @@ check-rows-requires : tie.Need-check-rows-requires
 check-rows-requires c κs =
     let z = c .before .before .before .before .before .before .before in
     let e = ap (λ (t : Table). t .rows) (z .columns-of .ensures .table) in
-    omega (arith, e, header-whole _ (none (z .before)) .few)
+    let f = bytes (z .before) in (
+      omega (arith, e, header-whole _ (none (z .before)) .few),
+      subst (λ (t : Table). OneWay (t .rings) (t .rows) (t .way)) (sym (z .columns-of .ensures .table)) (file-one-way f),
+    )
 
 refused-requires-2 : tie.Need-refused-requires-2
 refused-requires-2 c κs = search needs

@@ -9,11 +9,11 @@ use Rattle.decoding.proofs.is_labelled.Tie as tie
 returns : tie.Need-returns
 returns c = decides-no (λ w. let z : ⊥ = omega (arith, w .0, c .if1 .taken) in z)
 
-is-marked-requires : tie.Need-is-marked-requires
-is-marked-requires c κs = search needs
+is-plain-requires : tie.Need-is-plain-requires
+is-plain-requires c κs = search needs
 
 returns-2 : tie.Need-returns-2
-returns-2 c = decides-no (λ w. denied (c .before .is-marked .ensures) (c .if2 .taken) (w .1))
+returns-2 c = decides-no (λ w. denied (c .before .is-plain .ensures) (c .if2 .taken) (w .1))
 
 version-of-requires : tie.Need-version-of-requires
 version-of-requires c κs = search needs
@@ -23,7 +23,7 @@ returns-3 c =
     let z = c .before .before in
     decides-yes (
       z .before .before .if1 .left,
-      granted (z .before .is-marked .ensures) (z .if2 .left),
+      granted (z .before .is-plain .ensures) (z .if2 .left),
       sym (c .before .version-of .ensures) ∙ c .if3 .taken,
     )
 
@@ -33,4 +33,4 @@ returns-4 c = decides-no (λ w. c .if3 .left (c .before .version-of .ensures ∙
 pub is-labelled-spec : {M : Type 1} → statement M
 is-labelled-spec =
     tie.close
-    (tie.spec returns is-marked-requires returns-2 version-of-requires returns-3 returns-4)
+    (tie.spec returns is-plain-requires returns-2 version-of-requires returns-3 returns-4)

@@ -8,7 +8,8 @@ use Rattle.numbers.specs.Lists.{at}
 use Rattle.rules.specs.Bounds.{max-rows}
 use Rattle.flow.proofs.Network.{put-set-is}
 use Rattle.loads.specs.Loads.{digit}
-use Rattle.interval.proofs.Fill.{Giving, giving-none, giving-next, digit-is}
+use Rattle.fold.proofs.Product.{digit-is}
+use Rattle.interval.proofs.Fill.{Giving, giving-none, giving-next}
 use Rattle.interval.proofs.give.Statement.{statement}
 use Rattle.interval.proofs.give.Tie as tie
 

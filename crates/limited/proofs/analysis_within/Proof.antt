@@ -10,6 +10,7 @@ use Rattle.ring.proofs.Rows.{sound-routes}
 use Rattle.outline.specs.Outlined.{Outlined}
 use Rattle.weights.proofs.Weighing.{times-of, rates-are}
 use Rattle.limits.specs.Limits.{labelled, Limited}
+use Rattle.verdict.specs.Weighing.{Rest}
 use Rattle.verdict.specs.Analysed.{Rated}
 use Rattle.limited.proofs.Checked.{within-line, within-limit, within-bound}
 use Rattle.limited.proofs.analysis_within.Statement.{statement}
@@ -18,7 +19,13 @@ use Rattle.limited.proofs.analysis_within.Tie as tie
 abbrev table : tie.After-outline-of → Table
 table d =
     let a = d .before .args in
-    columnTable (a .elements) (a .rows) (a .cost .now) (a .period .now) (a .first .now) (a .second .now)
+    columnTable (a .elements) (a .rows) 1 (a .cost .now) (a .period .now) (a .first .now) (a .second .now) (a .way .now)
+
+-- what weighing does not look at of it
+abbrev rest : tie.After-outline-of → Rest
+rest d =
+    let t = table d in
+    record { elements = t .elements; rings = t .rings; first = t .first; second = t .second; way = t .way }
 
 outlined : (d : tie.After-outline-of) → Outlined (line-checks (table d)) (table d) (d .outline-of .result)
 outlined d = d .outline-of .ensures (at (d .before .args .cost .now)) (d .before .pre .0)
@@ -68,6 +75,7 @@ limited s =
     let T = outlined (asked e) .found (e .if1 .left) .timed in
     record {
       sound = T .sound;
+      one-ring = refl;
       elements-is = refl;
       rows-is = refl;
       hyper-is = T .hyper;
@@ -107,10 +115,7 @@ returns-2 c =
     (c .before .if2 .taken))
 
 weighed-requires : tie.Need-weighed-requires
-weighed-requires c κs =
-    let k = c .before .before in
-    let a = found k .before .args in
-    (a .first .now, a .second .now, rated (laid k .before))
+weighed-requires c κs = let k = c .before .before in (rest (found k), rated (laid k .before))
 
 returns-3 : tie.Need-returns-3
 returns-3 c =
@@ -118,7 +123,7 @@ returns-3 c =
     let a = found k .before .args in
     let R = rated (laid k .before) in
     within-bound (table (found k)) (a .label .now) (a .limits .ours) (a .limits .theirs) R _ (within k) (c .before .if2 .left)
-    (c .weighed .ensures (a .first .now) (a .second .now) R)
+    (c .weighed .ensures (rest (found k)) R)
 
 pub analysis-within-spec : {M : Type 1} → statement M
 analysis-within-spec =

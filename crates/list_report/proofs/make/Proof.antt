@@ -11,7 +11,10 @@ use Rattle.list_report.proofs.make.Tie as tie
 
 -- a list that was made is short
 few : (c : tie.Else1) → c .before .before .before .before .make-file .result .entries ≤ 2 * max-slots
-few c = let m = c .before .before .before .before in made-entries _ _ _ listBytes _ _ _ _ _ _ (c .if1 .left) (m .make-file .ensures)
+few c =
+    let m = c .before .before .before .before in
+    let z = m .before .before .before .before .before .before .before .before in
+    made-entries (z .args .file .now) _ _ listBytes _ _ _ _ _ _ (c .if1 .left) (m .make-file .ensures)
 
 slice-aggregate-whole-plan : tie.Need-slice-aggregate-whole-plan
 slice-aggregate-whole-plan c = search needs

@@ -10,13 +10,16 @@ use Rattle.lists.proofs.head_fault.Tie as tie
 returns : tie.Need-returns
 returns c = applied _ _ 1 0 (c .if1 .taken) refl refl
 
-is-marked-requires : tie.Need-is-marked-requires
-is-marked-requires c κs = search needs
+array-read-begins : tie.Need-array-read-begins
+array-read-begins c = search needs
+
+begins-requires : tie.Need-begins-requires
+begins-requires c κs = search needs
 
 returns-2 : tie.Need-returns-2
 returns-2 c =
     passed _ _ 2 0 (λ l. let z : ⊥ = omega arith in z)
-    (applied _ _ 2 0 (denied (c .before .is-marked .ensures) (c .if2 .taken)) refl refl)
+    (applied _ _ 2 0 (denied (c .before .begins .ensures) (c .if2 .taken)) refl refl)
 
 read16-requires : tie.Need-read16-requires
 read16-requires c κs = search needs
@@ -24,7 +27,7 @@ read16-requires c κs = search needs
 returns-3 : tie.Need-returns-3
 returns-3 c =
     passed _ _ 3 0 (λ l. let z : ⊥ = omega arith in z)
-    (passed _ _ 3 0 (λ h. h (granted (c .before .before .before .is-marked .ensures) (c .before .before .if2 .left)))
+    (passed _ _ 3 0 (λ h. h (granted (c .before .before .before .begins .ensures) (c .before .before .if2 .left)))
     (applied _ _ 3 0 (λ e. c .if3 .taken (c .before .read16 .ensures ∙ e)) refl refl))
 
 sub-if4 : tie.Need-sub-if4
@@ -34,7 +37,7 @@ returns-4 : tie.Need-returns-4
 returns-4 c =
     let z = c .before .before .before .before in
     passed _ _ 6 0 (λ l. let y : ⊥ = omega arith in y)
-    (passed _ _ 6 0 (λ h. h (granted (z .is-marked .ensures) (c .before .before .before .if2 .left)))
+    (passed _ _ 6 0 (λ h. h (granted (z .begins .ensures) (c .before .before .before .if2 .left)))
     (passed _ _ 6 0 (λ h. h (sym (c .before .before .read16 .ensures) ∙ c .before .if3 .left))
     (applied _ _ 6 0 (c .if4 .taken) refl refl)))
 
@@ -49,7 +52,7 @@ returns-5 c =
     let z = c .before .before .before .before .before .before in
     let o = c .before .of .ensures in
     passed _ _ _ 0 (λ l. let y : ⊥ = omega arith in y)
-    (passed _ _ _ 0 (λ h. h (granted (z .is-marked .ensures) (c .before .before .before .before .before .if2 .left)))
+    (passed _ _ _ 0 (λ h. h (granted (z .begins .ensures) (c .before .before .before .before .before .if2 .left)))
     (passed _ _ _ 0 (λ h. h (sym (c .before .before .before .before .read16 .ensures) ∙ c .before .before .before .if3 .left))
     (passed _ _ _ 0 (λ h. h (c .before .before .if4 .left)) (rw (o .element, o .hyper) at (c .bounds-fault .ensures)))))
 
@@ -58,7 +61,8 @@ head-fault-spec =
     tie.close
     (tie.spec
     returns
-    is-marked-requires
+    array-read-begins
+    begins-requires
     returns-2
     read16-requires
     returns-3

@@ -21,15 +21,21 @@ loop-holds c = packing-start _
 slots-at-requires : tie.Need-slots-at-requires Inv-loop μ-loop
 slots-at-requires c κs = search needs
 
+mul-row-at : tie.Need-mul-row-at Inv-loop μ-loop
+mul-row-at c = search needs
+
+element-copy-out-row-at : tie.Need-element-copy-out-row-at Inv-loop μ-loop
+element-copy-out-row-at c = omega arith
+
 row-at-requires : tie.Need-row-at-requires Inv-loop μ-loop
 row-at-requires c κs = search needs
 
 mul-put-numbers : tie.Need-mul-put-numbers Inv-loop μ-loop
-mul-put-numbers c = let P = c .before .before .before .before .loop .inv in omega (arith, P .few, P .fewer)
+mul-put-numbers c = let P = c .before .before .before .before .before .loop .inv in omega (arith, P .few, P .fewer)
 
 put-numbers-requires : tie.Need-put-numbers-requires Inv-loop μ-loop
 put-numbers-requires c κs =
-    let u = c .before .before .before .before .before in
+    let u = c .before .before .before .before .before .before in
     omega (arith, u .loop .inv .fewer, u .loop .inv .filled .same, u .before .before .pre)
 
 add-rows : tie.Need-add-rows Inv-loop μ-loop
@@ -46,8 +52,8 @@ loop-again c =
     let s = c .before in
     let u = s .before .before in
     ⊎-elim
-    (λ w. rw (w .6, w .7) (packing-held (u .loop .inv) (omega arith) (λ e. w .0 .taken (s .slots-at .ensures ∙ e)) (u .before .before .pre)
-    (w .1 .ensures 0 max-rows) (w .3 .ensures)))
+    (λ w. rw (w .7, w .8) (packing-held (u .loop .inv) (omega arith) (λ e. w .0 .taken (s .slots-at .ensures ∙ e)) (u .before .before .pre)
+    (w .2 .ensures) (w .4 .ensures)))
     (λ w. rw (w .1, w .2) (packing-free (u .loop .inv) (omega arith) (sym (s .slots-at .ensures) ∙ w .0 .left)))
     (c .if1 .came)
 
@@ -65,6 +71,8 @@ put-present-spec =
     μ-loop
     loop-holds
     slots-at-requires
+    mul-row-at
+    element-copy-out-row-at
     row-at-requires
     mul-put-numbers
     put-numbers-requires

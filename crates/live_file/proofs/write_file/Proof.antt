@@ -34,11 +34,11 @@ mul-size c = omega (arith, present-few (c .before .put-present .ensures))
 array-share-prefix-numbers : tie.Need-array-share-prefix-numbers
 array-share-prefix-numbers c = omega (arith, present-few (c .before .put-present .ensures))
 
-slice-aggregate-write : tie.Need-slice-aggregate-write
-slice-aggregate-write c = sym (present-length (c .before .before .put-present .ensures))
+slice-aggregate-write-plain : tie.Need-slice-aggregate-write-plain
+slice-aggregate-write-plain c = sym (present-length (c .before .before .put-present .ensures))
 
-write-requires : tie.Need-write-requires
-write-requires c κs = search needs
+write-plain-requires : tie.Need-write-plain-requires
+write-plain-requires c κs = search needs
 
 same-length : tie.Need-same-length
 same-length c = search needs
@@ -53,7 +53,7 @@ returns-2 c =
     let z = i .before .before .args in
     file-written (z .version) (liveOf (z .t1)) (z .out .now) (p .put-present .result) _ _ _ _
     (granted (i .is-in-order .ensures) (e .if1 .left)) (p .put-present .ensures .rows) (present-numbers (p .put-present .ensures))
-    (w .write .ensures)
+    (w .write-plain .ensures)
 
 pub write-file-spec : {M : Type 1} → statement M
 write-file-spec =
@@ -66,7 +66,7 @@ write-file-spec =
     put-present-requires
     mul-size
     array-share-prefix-numbers
-    slice-aggregate-write
-    write-requires
+    slice-aggregate-write-plain
+    write-plain-requires
     same-length
     returns-2)

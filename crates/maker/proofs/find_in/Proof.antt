@@ -2,18 +2,39 @@
 use mathlib.Core.List.{List}
 use Prim.Native.Nat.{ℕ}
 use borrow.Author.Needs.{needs}
-use Rattle.rules.specs.Refusals.{verdict-checks}
+use Rattle.rules.specs.Calls.{oneRingAsk}
 use Rattle.rules.proofs.Answers.{None}
-use Rattle.maker.proofs.Finding.{admitted-finds}
+use Rattle.decoding.proofs.OneRing.{OtherMark}
+use Rattle.maker.proofs.Finding.{mark-stops, admitted-finds}
 use Rattle.maker.proofs.Judged.{judged-refused, judged-none, judged-table}
 use Rattle.maker.proofs.find_in.Statement.{statement}
 use Rattle.maker.proofs.find_in.Tie as tie
 
 abbrev start : tie.After-judge → tie.Start
-start c = c .before .before .before
+start c = c .before .before .before .before .before
 
 abbrev bytes : tie.After-judge → List ℕ
 bytes c = start c .args .file .now
+
+-- the file has no other mark
+own : (c : tie.After-judge) → OtherMark (bytes c) → ⊥
+own c = c .before .before .has-other-mark .ensures .fails (c .before .if1 .left)
+
+has-other-mark-requires : tie.Need-has-other-mark-requires
+has-other-mark-requires c κs = search needs
+
+at-requires : tie.Need-at-requires
+at-requires c κs = search needs
+
+nothing-requires : tie.Need-nothing-requires
+nothing-requires c κs = search needs
+
+returns : tie.Need-returns
+returns c =
+    let m = c .before .before in
+    let a = m .before .before .before .before .args in
+    mark-stops (a .file .now) (a .plan .now) (a .element) (c .before .at .result) (c .nothing .result) (c .nothing .ensures)
+    (c .before .at .ensures) (m .before .has-other-mark .ensures .holds (m .if1 .taken))
 
 judge-requires : tie.Need-judge-requires
 judge-requires c κs = search needs
@@ -30,16 +51,16 @@ number-requires c κs = search needs
 place-requires : tie.Need-place-requires
 place-requires c κs = search needs
 
-nothing-requires : tie.Need-nothing-requires
-nothing-requires c κs = search needs
+nothing-requires-2 : tie.Need-nothing-requires-2
+nothing-requires-2 c κs = search needs
 
-returns : tie.Need-returns
-returns c =
+returns-2 : tie.Need-returns-2
+returns-2 c =
     let j = c .before .before .before .before .before in
     let a = start j .args in
-    judged-refused (bytes j) (a .plan .now) (a .element) (j .judge .result) _ (j .judge .ensures)
+    judged-refused (bytes j) (a .plan .now) (a .element) (j .judge .result) _ (own j) (j .judge .ensures)
     (c .before .before .before .enum-told .given .1)
-    _ _ (c .before .before .number .ensures) (c .before .place .ensures) (c .nothing .result) (c .nothing .ensures)
+    _ _ (c .before .before .number .ensures) (c .before .place .ensures) (c .nothing2 .result) (c .nothing2 .ensures)
 
 decode-requires : tie.Need-decode-requires
 decode-requires c κs = search needs
@@ -47,10 +68,10 @@ decode-requires c κs = search needs
 -- the verdict admits
 admitted : (c : tie.After-decode)
     → let j = c .before .before .before .before in
-    None (verdict-checks (bytes j))
+    None (oneRingAsk (bytes j) .checks)
 admitted c =
     let j = c .before .before .before .before in
-    judged-none (bytes j) (j .judge .result) _ _ _ _ _ (j .judge .ensures) (c .before .before .verdict .given .1)
+    judged-none (bytes j) (j .judge .result) _ _ _ _ _ _ (own j) (j .judge .ensures) (c .before .before .verdict .given .1)
 
 cast-find-on : tie.Need-cast-find-on
 cast-find-on c = search needs
@@ -58,11 +79,12 @@ cast-find-on c = search needs
 find-on-requires : tie.Need-find-on-requires
 find-on-requires c κs =
     let j = c .before .before .before .before in
-    judged-table (bytes j) (j .judge .result) _ _ _ _ _ (j .judge .ensures) (c .before .before .verdict .given .1) (c .decode .result)
+    judged-table (bytes j) (j .judge .result) _ _ _ _ _ _ (own j) (j .judge .ensures)
+    (c .before .before .verdict .given .1) (c .decode .result)
     (c .decode .ensures)
 
-returns-2 : tie.Need-returns-2
-returns-2 c =
+returns-3 : tie.Need-returns-3
+returns-3 c =
     let d = c .before in
     let j = d .before .before .before .before in
     let a = start j .args in
@@ -73,14 +95,18 @@ pub find-in-spec : {M : Type 1} → statement M
 find-in-spec =
     tie.close
     (tie.spec
+    has-other-mark-requires
+    at-requires
+    nothing-requires
+    returns
     judge-requires
     enum-known-verdict
     enum-told
     number-requires
     place-requires
-    nothing-requires
-    returns
+    nothing-requires-2
+    returns-2
     decode-requires
     cast-find-on
     find-on-requires
-    returns-2)
+    returns-3)

@@ -14,7 +14,7 @@ use Rattle.maker.proofs.find_on.Statement.{statement}
 use Rattle.maker.proofs.find_on.Tie as tie
 
 abbrev start : tie.After-fault → tie.Start
-start c = c .before .before .before .before .before .before .before .before
+start c = c .before .before .before .before .before .before .before .before .before
 
 abbrev table : tie.Start → Table
 table c = tableOf (c .args .t1)
@@ -25,7 +25,8 @@ checked : (c : tie.After-fault)
     Answers (early-checks [] (table s) (s .args .plan .now) (s .args .element)) (c .fault .result .number) (c .fault .result .place)
 checked c =
     let s = start c in
-    let low = c .before .lowest-bad .ensures (table s) refl (laid-of (table s) _ (c .before .before .before .lay-segments .ensures)) in
+    let low = c .before .lowest-bad .ensures (table s) refl
+    (laid-of _ (s .pre .0) (s .pre .3) (c .before .before .before .lay-segments .ensures)) in
     c .fault .ensures (table s) (s .args .plan .now) refl refl (s .pre .1) low
 
 abbrev faulted : tie.Else1 → tie.After-fault
@@ -36,7 +37,7 @@ none : (c : tie.Else1)
 none c = let s = start (faulted c) in found-none (table s) (s .args .plan .now) (s .args .element) _ _ (c .if1 .left) (checked (faulted c))
 
 lay-segments-requires : tie.Need-lay-segments-requires
-lay-segments-requires c κs = sound-routes {t = table (c .before .before .before .before)} (c .before .before .before .before .pre .0)
+lay-segments-requires c κs = let s = c .before .before .before .before .before in sound-routes {t = table s} (s .pre .0)
 
 lowest-bad-requires : tie.Need-lowest-bad-requires
 lowest-bad-requires c κs = search needs
@@ -66,14 +67,14 @@ count-requires c κs =
       omega (arith, s .pre .1, long-of (s .pre .0) (s .args .plan .now) (s .args .element) n),
       s .pre .2,
       rw (s .pre .1, c .ending-at2 .ensures, c .before .before .before .ending-at .ensures)
-          (clear-of (s .pre .0) (s .args .plan .now) (s .args .element) n),
+          (clear-of (s .pre .0) (s .args .plan .now) (s .args .element) (s .pre .3) n),
     )
 
 returns-2 : tie.Need-returns-2
 returns-2 c =
     let e = c .before .before .before .before .before .before .before in
     let s = start (faulted e) in
-    found-ready (s .pre .0) (s .args .plan .now) (s .args .element) _ (none e) (checked (faulted e)) (s .pre .1) (s .pre .2)
+    found-ready (s .pre .0) (s .args .plan .now) (s .args .element) _ (s .pre .3) (none e) (checked (faulted e)) (s .pre .1) (s .pre .2)
     (c .before .before .before .before .ending-at .ensures) (c .before .ending-at2 .ensures) (c .count .ensures .0) (c .count .ensures .1)
 
 pub find-on-spec : {M : Type 1} → statement M

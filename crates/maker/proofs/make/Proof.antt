@@ -7,11 +7,11 @@ use lib.ListN.{length}
 use borrow.Author.Needs.{needs}
 use Rattle.rules.specs.TableFile.{fileTable}
 use Rattle.rules.specs.ElementList.{inMemory, listNumbers, movesList}
-use Rattle.rules.specs.Calls.{fileAsk, lent}
+use Rattle.rules.specs.Calls.{oneRingAsk, lent}
 use Rattle.lists.proofs.RoundTrip.{numbers-length}
 use Rattle.moves.specs.Words.{flat}
-use Rattle.verdict.proofs.Bound.{verdict-numbered}
 use Rattle.maker.specs.Finding.{Ready}
+use Rattle.maker.proofs.Finding.{judged-numbered}
 use Rattle.maker.proofs.Answered.{numbers-are, made-refused, made-short, made-done}
 use Rattle.maker.proofs.make.Statement.{statement}
 use Rattle.maker.proofs.make.Tie as tie
@@ -52,7 +52,7 @@ returns c =
     let a = start f .args in
     let r = c .refused .ensures in
     rw (r .0, r .1, r .2)
-    (made-refused (fileAsk (bytes f)) (verdict-numbered (bytes f)) (a .plan .now) (a .element) listNumbers (a .out .now) _ _
+    (made-refused (oneRingAsk (bytes f)) (judged-numbered (bytes f)) (a .plan .now) (a .element) listNumbers (a .out .now) _ _
     (f .find-in .ensures .answers) (c .before .if1 .taken))
 
 mul-if2 : tie.Need-mul-if2
@@ -72,7 +72,7 @@ returns-2 c =
     let r = c .refused2 .ensures in
     let o = c .before .at .ensures in
     rw (r .0, r .1, r .2, o .0, o .1)
-    (made-short (fileAsk (bytes f)) (verdict-numbered (bytes f)) (a .plan .now) (a .element) listNumbers (a .out .now) _ _
+    (made-short (oneRingAsk (bytes f)) (judged-numbered (bytes f)) (a .plan .now) (a .element) listNumbers (a .out .now) _ _
     (f .find-in .ensures .answers) (z .if1 .left) (omega (arith, wanted z, c .before .before .if2 .taken)))
 
 put-numbers-requires : tie.Need-put-numbers-requires
@@ -92,7 +92,7 @@ returns-3 c =
     let f = found z in
     let a = start f .args in
     let R = ready z in
-    made-done (fileAsk (bytes f)) (verdict-numbered (bytes f)) (a .plan .now) (a .element) listNumbers (a .out .now) _ _ _ _ _
+    made-done (oneRingAsk (bytes f)) (judged-numbered (bytes f)) (a .plan .now) (a .element) listNumbers (a .out .now) _ _ _ _ _
     (f .find-in .ensures .answers) (z .if1 .left) (λ m. omega (arith, wanted z, l .if2 .left)) (
       R .hyper,
       R .entries,

@@ -9,12 +9,12 @@ use borrow.Author.Needs.{needs}
 use Rattle.rules.specs.TableFile.{fileTable}
 use Rattle.rules.specs.Loads.{hyperperiod}
 use Rattle.rules.specs.ElementList.{listHeader, inFile, fileHead, elementMoves, listBytes, movesList}
-use Rattle.rules.specs.Calls.{fileAsk, lent}
+use Rattle.rules.specs.Calls.{oneRingAsk, lent}
 use Rattle.rules.proofs.Calls.{lent-headed}
 use Rattle.lists.proofs.RoundTrip.{bytes-length}
 use Rattle.moves.specs.Words.{flat}
-use Rattle.verdict.proofs.Bound.{verdict-numbered}
 use Rattle.maker.specs.Finding.{Ready}
+use Rattle.maker.proofs.Finding.{judged-numbered}
 use Rattle.maker.proofs.Answered.{bytes-are, made-refused, made-short, made-done}
 use Rattle.maker.proofs.make_file.Statement.{statement}
 use Rattle.maker.proofs.make_file.Tie as tie
@@ -55,7 +55,7 @@ returns c =
     let a = start f .args in
     let r = c .refused .ensures in
     rw (r .0, r .1, r .2)
-    (made-refused (fileAsk (bytes f)) (verdict-numbered (bytes f)) (a .plan .now) (a .element) listBytes (a .out .now) _ _
+    (made-refused (oneRingAsk (bytes f)) (judged-numbered (bytes f)) (a .plan .now) (a .element) listBytes (a .out .now) _ _
     (f .find-in .ensures .answers) (c .before .if1 .taken))
 
 mul-if2 : tie.Need-mul-if2
@@ -78,7 +78,7 @@ returns-2 c =
     let r = c .refused2 .ensures in
     let o = c .before .at .ensures in
     rw (r .0, r .1, r .2, o .0, o .1)
-    (made-short (fileAsk (bytes f)) (verdict-numbered (bytes f)) (a .plan .now) (a .element) listBytes (a .out .now) _ _
+    (made-short (oneRingAsk (bytes f)) (judged-numbered (bytes f)) (a .plan .now) (a .element) listBytes (a .out .now) _ _
     (f .find-in .ensures .answers) (z .if1 .left) (omega (arith, wanted z, c .before .before .if2 .taken)))
 
 cast-put-head : tie.Need-cast-put-head
@@ -114,7 +114,7 @@ returns-3 c =
     let R = ready z in
     let h = c .before .before .before .before .before .before .put-head .ensures in
     let all = c .before .before .put-bytes .ensures in
-    made-done (fileAsk (bytes f)) (verdict-numbered (bytes f)) (a .plan .now) (a .element) listBytes (a .out .now) _ _ _ _ _
+    made-done (oneRingAsk (bytes f)) (judged-numbered (bytes f)) (a .plan .now) (a .element) listBytes (a .out .now) _ _ _ _ _
     (f .find-in .ensures .answers) (z .if1 .left) (λ m. omega (arith, wanted z, l .if2 .left)) (
       R .hyper,
       R .entries,

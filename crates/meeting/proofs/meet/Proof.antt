@@ -49,7 +49,7 @@ done-requires c κs = search needs
 
 shared-requires : tie.Need-shared-requires
 shared-requires c κs =
-    let k = c .before .before .before .before in
+    let k = c .before .before .before .before .before in
     let e = k .before .before in
     let d = decoded e in (
       met-routes (bytes d) (entry d .args .i) (entry d .args .j) (d .decode .result) (d .decode .ensures) (e .if1 .left),
@@ -59,7 +59,7 @@ shared-requires c κs =
 
 returns-4 : tie.Need-returns-4
 returns-4 c =
-    let n = c .before .before .before .before in
+    let n = c .before .before .before .before .before in
     let k = n .before in
     let l = k .before in
     let e = l .before in

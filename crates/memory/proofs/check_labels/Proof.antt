@@ -7,10 +7,10 @@ use Rattle.memory.proofs.check_labels.Statement.{statement}
 use Rattle.memory.proofs.check_labels.Tie as tie
 
 abbrev Inv-loop : tie.InvT-loop
-Inv-loop version rows numbers i₀ i = (i ≤ rows) × Bare numbers i
+Inv-loop rings version rows numbers i₀ i = (i ≤ rows) × Bare rings numbers i
 
 abbrev μ-loop : tie.MeasureT-loop
-μ-loop version rows numbers i₀ i = rows - i
+μ-loop rings version rows numbers i₀ i = rows - i
 
 done-requires : tie.Need-done-requires Inv-loop μ-loop
 done-requires c κs = omega arith
@@ -18,31 +18,37 @@ done-requires c κs = omega arith
 returns : tie.Need-returns Inv-loop μ-loop
 returns c =
     λ M.
-    rw (c .done .ensures .0, c .done .ensures .1) (labels-held _ _ (c .before .before .before .args .numbers .now) M (c .before .if1 .taken))
+    rw (c .done .ensures .0, c .done .ensures .1)
+    (labels-held _ _ _ (c .before .before .before .args .numbers .now) M (c .before .if1 .taken))
 
 loop-holds : tie.Need-loop-holds Inv-loop μ-loop
-loop-holds c = (omega arith, bare-start _)
+loop-holds c = (omega arith, bare-start _ _)
 
-mul-if2 : tie.Need-mul-if2 Inv-loop μ-loop
-mul-if2 c = omega arith
+mul-label-in : tie.Need-mul-label-in Inv-loop μ-loop
+mul-label-in c = omega arith
 
-add-if2 : tie.Need-add-if2 Inv-loop μ-loop
-add-if2 c = omega arith
+add-label-in : tie.Need-add-label-in Inv-loop μ-loop
+add-label-in c = omega arith
 
-mul-if2-2 : tie.Need-mul-if2-2 Inv-loop μ-loop
-mul-if2-2 c = omega arith
+mul-label-in-2 : tie.Need-mul-label-in-2 Inv-loop μ-loop
+mul-label-in-2 c = omega arith
 
-shared-slice-read-if2 : tie.Need-shared-slice-read-if2 Inv-loop μ-loop
-shared-slice-read-if2 c = omega arith
+shared-slice-read-label-in : tie.Need-shared-slice-read-label-in Inv-loop μ-loop
+shared-slice-read-label-in c = omega arith
+
+label-in-requires : tie.Need-label-in-requires Inv-loop μ-loop
+label-in-requires c κs = omega arith
 
 at-requires : tie.Need-at-requires Inv-loop μ-loop
 at-requires c κs = omega arith
 
 returns-2 : tie.Need-returns-2 Inv-loop μ-loop
 returns-2 c =
-    let z = c .before .before .before in
+    let l = c .before .before in
+    let z = l .before .before in
     λ M. rw (c .at .ensures .0, c .at .ensures .1)
-    (labels-lost _ _ _ M (z .before .before .if1 .left) _ (z .loop-test .taken) (z .before .loop .inv .1) (c .before .if2 .taken))
+    (labels-lost _ _ _ _ M (z .before .before .if1 .left) _ (z .loop-test .taken) (z .before .loop .inv .1)
+    (rw (l .label-in .ensures) at (c .before .if2 .taken)))
 
 add-i : tie.Need-add-i Inv-loop μ-loop
 add-i c = omega arith
@@ -51,7 +57,9 @@ loop-less : tie.Need-loop-less Inv-loop μ-loop
 loop-less c = omega arith
 
 loop-again : tie.Need-loop-again Inv-loop μ-loop
-loop-again c = (omega arith, bare-next (c .before .before .before .loop .inv .1) (c .if2 .left))
+loop-again c =
+    let l = c .before in
+    (omega arith, bare-next (l .before .before .before .loop .inv .1) (rw (l .label-in .ensures) at (c .if2 .left)))
 
 done-requires-2 : tie.Need-done-requires-2 Inv-loop μ-loop
 done-requires-2 c κs = omega arith
@@ -61,7 +69,7 @@ returns-3 c =
     let a = c .before .before .before .before .before .args in
     let e : c .before .before .loop .i ≡ a .rows = omega arith in
     λ M. rw (c .done2 .ensures .0, c .done2 .ensures .1)
-    (labels-bare (a .version) (a .rows) (a .numbers .now) M (rw e at (c .before .before .loop .inv .1)))
+    (labels-bare (a .rings) (a .version) (a .rows) (a .numbers .now) M (rw e at (c .before .before .loop .inv .1)))
 
 pub check-labels-spec : {M : Type 1} → statement M
 check-labels-spec =
@@ -72,10 +80,11 @@ check-labels-spec =
     done-requires
     returns
     loop-holds
-    mul-if2
-    add-if2
-    mul-if2-2
-    shared-slice-read-if2
+    mul-label-in
+    add-label-in
+    mul-label-in-2
+    shared-slice-read-label-in
+    label-in-requires
     at-requires
     returns-2
     add-i

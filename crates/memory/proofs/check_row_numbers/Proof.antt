@@ -3,16 +3,16 @@ use mathlib.Core.Path.{refl}
 use Prim.Native.Nat.{_-_}
 use native.Mathlib.Omega.{arith}
 use borrow.Author.Needs.{needs}
-use Rattle.rules.specs.TableFile.{memoryTable}
+use Rattle.rules.specs.TableFile.{memoryWith}
 use Rattle.table.proofs.Faults.{Checked, checked-start, checked-next, checked-stop, checked-end}
 use Rattle.memory.proofs.check_row_numbers.Statement.{statement}
 use Rattle.memory.proofs.check_row_numbers.Tie as tie
 
 abbrev Inv-loop : tie.InvT-loop
-Inv-loop elements rows numbers i₀ i = Checked (memoryTable elements rows numbers) i
+Inv-loop rings elements rows numbers i₀ i = Checked (memoryWith rings elements rows numbers) i
 
 abbrev μ-loop : tie.MeasureT-loop
-μ-loop elements rows numbers i₀ i = rows - i
+μ-loop rings elements rows numbers i₀ i = rows - i
 
 loop-holds : tie.Need-loop-holds Inv-loop μ-loop
 loop-holds c = checked-start _
@@ -30,7 +30,8 @@ returns : tie.Need-returns Inv-loop μ-loop
 returns c =
     let a = c .before .before .before .before .before .before .before .args in
     rw (c .at .ensures .0, c .at .ensures .1)
-    (checked-stop _ _ refl (c .before .before .before .row-of .ensures (a .elements) (a .rows)) (c .before .before .row-fault .ensures)
+    (checked-stop _ _ _ refl refl (c .before .before .before .row-of .ensures (a .elements) (a .rows))
+    (c .before .before .row-fault .ensures)
     (c .before .before .before .before .before .loop .inv) (c .before .before .before .before .loop-test .taken) (c .before .if1 .taken))
 
 add-i : tie.Need-add-i Inv-loop μ-loop
@@ -42,7 +43,7 @@ loop-less c = search needs
 loop-again : tie.Need-loop-again Inv-loop μ-loop
 loop-again c =
     let a = c .before .before .before .before .before .before .args in
-    checked-next _ _ refl (c .before .before .row-of .ensures (a .elements) (a .rows)) (c .before .row-fault .ensures)
+    checked-next _ _ _ refl refl (c .before .before .row-of .ensures (a .elements) (a .rows)) (c .before .row-fault .ensures)
     (c .before .before .before .before .loop .inv) (c .before .before .before .loop-test .taken) (c .if1 .left)
 
 done-requires : tie.Need-done-requires Inv-loop μ-loop

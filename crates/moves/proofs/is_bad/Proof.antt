@@ -1,7 +1,8 @@
 -- `moves::is_bad` meets its contract.
 use mathlib.Core.Path.{_≡_, sym, ap, _∙_}
 use mathlib.Core.Logic.{inl, ⊎-elim}
-use Prim.Native.Nat.{_-_, _≤_}
+use mathlib.Core.List.{List}
+use Prim.Native.Nat.{ℕ, _-_, _≤_, _<_}
 use native.Mathlib.Omega.{arith}
 use lib.Bits.{bitAnd, bitOr}
 use borrow.Author.Needs.{needs}
@@ -18,6 +19,10 @@ Inv-loop rows routes word used₀ i₀ used i = (i ≤ rows) × ((t : Table) →
 
 abbrev μ-loop : tie.MeasureT-loop
 μ-loop rows routes word used₀ i₀ used i = rows - i
+
+-- its rows run one way
+ways : {t : Table} {xs : List ℕ} → Laid t xs → (i : ℕ) → i < t .rows → (j : ℕ) → j < i → t .way j ≡ t .way i
+ways L i l j k = L .way j (omega (arith, l, k)) ∙ sym (L .way i l)
 
 past-last-requires : tie.Need-past-last-requires Inv-loop μ-loop
 past-last-requires c κs = search needs
@@ -42,7 +47,8 @@ returns-2 c t e l =
     let m = c .before .before .before .loop-test .taken in
     let g = c .before .segments-at .ensures ∙ l .row (u .i) (omega (arith, e, m)) in
     let a = c .before .before .before .before .before .before .before .args in
-    decides-yes (used-stop (u .inv .1 t e l) (bit-is (a .word) (u .i) (c .before .before .if2 .taken)) (omega (arith, e, m))
+    decides-yes (used-stop (u .inv .1 t e l) (bit-is (a .word) (u .i) (c .before .before .if2 .taken)) (ways l (u .i) (omega (arith, e, m)))
+    (omega (arith, e, m))
     (λ z. c .if3 .taken (ap (bitAnd (u .used)) g ∙ z)))
 
 add-i : tie.Need-add-i Inv-loop μ-loop
@@ -62,7 +68,8 @@ loop-again c =
           (λ w.
           let g = w .1 .ensures ∙ l .row (u .i) (omega (arith, e, m)) in
           rw (w .3 ∙ ap (bitOr (u .used)) g)
-          (used-add (u .inv .1 t e l) (bit-is (a .word) (u .i) (w .0 .taken)) (ap (bitAnd (u .used)) (sym g) ∙ w .2 .left)))
+          (used-add (u .inv .1 t e l) (bit-is (a .word) (u .i) (w .0 .taken)) (ways l (u .i) (omega (arith, e, m)))
+          (ap (bitAnd (u .used)) (sym g) ∙ w .2 .left)))
           (λ w. rw (w .1) (used-skip (u .inv .1 t e l) (bit-is-not (a .word) (u .i) (w .0 .left))))
           (c .if2 .came),
     )

@@ -1,31 +1,49 @@
 -- layout_of: each refusal stands as its check gives it, and what is left is found.
-use mathlib.Core.Path.{_≡_, _∙_}
-use Prim.Native.Nat.{ℕ, _≤_}
+use mathlib.Core.Path.{_≡_, refl, _∙_}
+use Prim.Native.Nat.{ℕ}
 use native.Mathlib.Omega.{arith}
 use borrow.Author.Needs.{needs}
-use Rattle.rules.specs.Bus.{Table}
-use Rattle.rules.specs.Line.{cut}
-use Rattle.ring.proofs.Rows.{sound-routes, ring-cut, laid-first, laid-second}
-use Rattle.ring.proofs.Cut.{cut-low}
+use Rattle.rules.specs.Bus.{Table, clockwise, counterclockwise}
+use Rattle.rules.specs.Line.{cut, HasCuts}
+use Rattle.table.specs.Sound.{Sound}
+use Rattle.ring.specs.Route.{Element}
+use Rattle.ring.proofs.Rows.{sound-routes, sound-one-way, laid-first, laid-second}
+use Rattle.ring.proofs.OnLine.{line-short}
 use Rattle.numbers.proofs.Divisors.{least-gcd-only}
 use Rattle.lags.proofs.Intervals.{hyperperiod-positive, shortest-gcd}
 use Rattle.outline.specs.Layout.{tableWith}
 use Rattle.time.proofs.Periods.{periods-of, capped-hyper, capped-some, capped-none}
-use Rattle.outline.proofs.Outlined.{cut-refused, long-refused, answers-at}
+use Rattle.outline.proofs.Outlined.{long-refused, answers-at}
+use Rattle.outline.proofs.Cuts.{cut-searched, uncut-refused, all-cut, cut-element, other-element, cut-board}
 use Rattle.outline.proofs.Laying.{laid-refused, laid-found}
 use Rattle.outline.proofs.layout_of.Statement.{statement}
 use Rattle.outline.proofs.layout_of.Tie as tie
 
--- the table, whatever its costs, and its cut
+-- the table, whatever its costs
 abbrev table : tie.Start → (ℕ → ℕ) → Table
 table z cost =
-    tableWith cost (z .args .elements) (z .args .rows) (z .args .period .now) (z .args .first .now) (z .args .second .now)
+    let a = z .args in
+    tableWith cost (a .elements) (a .rows) (a .rings) (a .period .now) (a .first .now) (a .second .now) (a .way .now)
 
-is-cut : (d : tie.After-find-cut) (cost : ℕ → ℕ) → d .find-cut .result ≡ cut (table (d .before) cost)
-is-cut d cost = d .find-cut .ensures ∙ ring-cut (table (d .before) cost)
+abbrev entry : tie.After-lowest-uncut → tie.Start
+entry u = u .before .before .before
 
-find-cut-requires : tie.Need-find-cut-requires
-find-cut-requires c κs = sound-routes (c .pre .1)
+-- its cuts
+module _ (u : tie.After-lowest-uncut) (cost : ℕ → ℕ) (s : Sound (table (entry u) cost)) where
+  is-cut : u .before .before .cut-on .result ≡ cut (table (entry u) cost) clockwise
+  is-cut = cut-searched s clockwise (u .before .before .cut-on .ensures)
+
+  is-other : u .before .cut-on2 .result ≡ cut (table (entry u) cost) counterclockwise
+  is-other = cut-searched s counterclockwise (u .before .cut-on2 .ensures)
+
+cut-on-requires : tie.Need-cut-on-requires
+cut-on-requires c κs = (sound-routes (c .pre .1), sound-one-way (c .pre .1))
+
+cut-on-requires-2 : tie.Need-cut-on-requires-2
+cut-on-requires-2 c κs = (sound-routes (c .before .pre .1), sound-one-way (c .before .pre .1))
+
+lowest-uncut-requires : tie.Need-lowest-uncut-requires
+lowest-uncut-requires c κs = search needs
 
 at-requires : tie.Need-at-requires
 at-requires c κs = search needs
@@ -35,14 +53,14 @@ refused-requires c κs = search needs
 
 returns : tie.Need-returns
 returns c cost s =
-    let d = c .before .before .before in
-    let t = table (d .before) cost in
+    let u = c .before .before .before in
     rw (c .refused .ensures)
     (laid-refused _ (λ q. omega (arith, c .before .at .ensures .0))
-    (answers-at _ _ _ _ (c .before .at .ensures) (cut-refused t (omega (arith, is-cut d cost, c .before .before .if1 .taken)))))
+    (answers-at _ _ _ _ (c .before .at .ensures)
+    (uncut-refused s (is-cut u cost s) (is-other u cost s) (u .lowest-uncut .ensures) (c .before .before .if1 .taken))))
 
 hyperperiod-of-requires : tie.Need-hyperperiod-of-requires
-hyperperiod-of-requires c κs = periods-of (c .before .before .pre .1)
+hyperperiod-of-requires c κs = periods-of (entry (c .before) .pre .1)
 
 at-requires-2 : tie.Need-at-requires-2
 at-requires-2 c κs = search needs
@@ -50,48 +68,81 @@ at-requires-2 c κs = search needs
 refused-requires-2 : tie.Need-refused-requires-2
 refused-requires-2 c κs = search needs
 
+-- past the first test each ring has a cut
+module _ (e : tie.Else1) (cost : ℕ → ℕ) (s : Sound (table (entry (e .before)) cost)) where
+  has-cuts : HasCuts (table (entry (e .before)) cost)
+  has-cuts =
+      let u = e .before in
+      all-cut s (is-cut u cost s) (is-other u cost s) (u .lowest-uncut .ensures) (e .if1 .left)
+
+  has-cut : Element (entry (e .before) .args .elements) (e .before .before .before .cut-on .result)
+  has-cut =
+      let u = e .before in
+      cut-element s (is-cut u cost s) (is-other u cost s) (u .lowest-uncut .ensures) (e .if1 .left)
+
+  has-other : Element (entry (e .before) .args .elements) (e .before .before .cut-on2 .result)
+  has-other =
+      let u = e .before in
+      other-element s (is-cut u cost s) (is-other u cost s) (u .lowest-uncut .ensures) (e .if1 .left)
+
 returns-2 : tie.Need-returns-2
 returns-2 c cost s =
     let h = c .before .before .before in
-    let d = h .before .before in
-    let t = table (d .before) cost in
+    let t = table (entry (h .before .before)) cost in
     let long = capped-none (capped-hyper t (h .hyperperiod-of .ensures)) (c .before .before .if2 .taken) (hyperperiod-positive s) in
     rw (c .refused2 .ensures)
     (laid-refused _ (λ q. omega (arith, c .before .at2 .ensures .0))
-    (answers-at _ _ _ _ (c .before .at2 .ensures) (long-refused t (omega (arith, is-cut d cost, h .before .if1 .left)) long)))
+    (answers-at _ _ _ _ (c .before .at2 .ensures) (long-refused t (has-cuts (h .before) cost s) long)))
 
 -- ---- past both tests all is found
 
-abbrev at-cut : tie.Else2 → tie.After-find-cut
-at-cut e = e .before .before .before
+abbrev asked : tie.After-done → tie.Else1
+asked d = d .before .before .before
 
-abbrev entry : tie.Else2 → tie.Start
-entry e = at-cut e .before
-
-module _ (e : tie.Else2) (cost : ℕ → ℕ) where
-  clear : cut (table (entry e) cost) ≤ table (entry e) cost .elements
-  clear = omega (arith, is-cut (at-cut e) cost, e .before .before .if1 .left)
+abbrev start : tie.After-done → tie.Start
+start d = entry (asked d .before)
 
 done-requires : tie.Need-done-requires
 done-requires c κs = search needs
 
+board-cut-requires : tie.Need-board-cut-requires
+board-cut-requires c κs =
+    let p = start c .pre in
+    (p .1 .rows-high, p .1 .elements-high, has-cut (asked c) (p .0) (p .1))
+
+board-cut-requires-2 : tie.Need-board-cut-requires-2
+board-cut-requires-2 c κs =
+    let p = start (c .before) .pre in
+    (p .1 .rows-high, p .1 .elements-high, has-other (asked (c .before)) (p .0) (p .1))
+
+add-t18 : tie.Need-add-t18
+add-t18 c = search needs
+
+mul-t19 : tie.Need-mul-t19
+mul-t19 c =
+    let d = c .before .before in
+    let p = start d .pre in
+    omega (arith, line-short (table (start d) (p .0)) (p .1) (has-cuts (asked d) (p .0) (p .1)))
+
 of-requires : tie.Need-of-requires
-of-requires c κs = periods-of (entry (c .before) .pre .1)
+of-requires c κs = periods-of (start (c .before .before) .pre .1)
 
 lay-requires : tie.Need-lay-requires
 lay-requires c κs =
-    let e = c .before .before in
-    let p = entry e .pre in
-    (sound-routes (p .1), omega (arith, is-cut (at-cut e) (p .0), clear e (p .0), cut-low (table (entry e) (p .0))))
+    let d = c .before .before .before in
+    let p = start d .pre in
+    (sound-routes (p .1), sound-one-way (p .1), has-cut (asked d) (p .0) (p .1), has-other (asked d) (p .0) (p .1))
 
 returns-3 : tie.Need-returns-3
 returns-3 c cost z =
-    let e = c .before .before .before in
-    let t = table (entry e) cost in
-    let q = is-cut (at-cut e) cost in
-    let h = capped-some (capped-hyper t (e .before .hyperperiod-of .ensures)) (e .if2 .left) in
+    let d = c .before .before .before .before in
+    let u = asked d .before in
+    let t = table (start d) cost in
+    let q = is-cut u cost z in
+    let o = is-other u cost z in
+    let h = capped-some (capped-hyper t (d .before .before .hyperperiod-of .ensures)) (d .before .if2 .left) in
     let C = c .before .of .ensures in
-    laid-found t _ (c .before .before .done .ensures)
+    laid-found t _ (d .done .ensures)
     (record {
       timed = record {
         sound = z;
@@ -100,17 +151,21 @@ returns-3 c cost z =
         interval = least-gcd-only (C .interval) (shortest-gcd z);
         leads = C .leads;
       };
-      clear = clear e cost;
-      cut = q;
-      first = laid-first t q (c .lay .ensures);
-      second = laid-second t q (c .lay .ensures);
+      clear = has-cuts (asked d) cost z;
+      cut = cut-board z clockwise q (c .before .before .before .board-cut .ensures);
+      other = cut-board z counterclockwise o (c .before .before .board-cut2 .ensures);
+      top = refl;
+      first = laid-first t (sound-routes z .ways) q o (c .lay .ensures);
+      second = laid-second t (sound-routes z .ways) q o (c .lay .ensures);
     })
 
 pub layout-of-spec : {M : Type 1} → statement M
 layout-of-spec =
     tie.close
     (tie.spec
-    find-cut-requires
+    cut-on-requires
+    cut-on-requires-2
+    lowest-uncut-requires
     at-requires
     refused-requires
     returns
@@ -119,6 +174,10 @@ layout-of-spec =
     refused-requires-2
     returns-2
     done-requires
+    board-cut-requires
+    board-cut-requires-2
+    add-t18
+    mul-t19
     of-requires
     lay-requires
     returns-3)

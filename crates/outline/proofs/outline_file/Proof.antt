@@ -40,11 +40,11 @@ returns c =
     rw (c .refused .ensures) (outlined-given _ (a .result .answer) (c .before .if1 .taken) (a .ensures .answers))
 
 outline-of-requires : tie.Need-outline-of-requires
-outline-of-requires c κs = let e = c .before .before .before .before in (at (taken e .given .result .columns .cost), sound e)
+outline-of-requires c κs = let e = c .before .before .before .before .before in (at (taken e .given .result .columns .cost), sound e)
 
 returns-2 : tie.Need-returns-2
 returns-2 c =
-    let e = c .before .before .before .before .before in
+    let e = c .before .before .before .before .before .before in
     outlined-past (bytes e) _ (checked e)
     (rw (held e) at (c .outline-of .ensures (at (taken e .given .result .columns .cost)) (sound e)))
 

@@ -12,7 +12,7 @@ use Rattle.outline.proofs.outline_of.Tie as tie
 abbrev table : tie.After-layout-of → (ℕ → ℕ) → Table
 table d cost =
     let a = d .before .args in
-    tableWith cost (a .elements) (a .rows) (a .period .now) (a .first .now) (a .second .now)
+    tableWith cost (a .elements) (a .rows) (a .rings) (a .period .now) (a .first .now) (a .second .now) (a .way .now)
 
 layout-of-requires : tie.Need-layout-of-requires
 layout-of-requires c κs = c .pre
@@ -30,9 +30,6 @@ returns c cost s =
 
 abbrev unrefused : tie.After-line-second2 → tie.Else1
 unrefused c = c .before .before .before .before
-
-add-list-sets : tie.Need-add-list-sets
-add-list-sets c = let s = taken (unrefused c) .before .pre .1 in omega arith
 
 list-sets-requires : tie.Need-list-sets-requires
 list-sets-requires c κs =
@@ -54,6 +51,5 @@ outline-of-spec =
     layout-of-requires
     refused-requires
     returns
-    add-list-sets
     list-sets-requires
     returns-2)

@@ -23,13 +23,13 @@ returns c =
 
 lowest-pasted-requires : tie.Need-lowest-pasted-requires
 lowest-pasted-requires c κs =
-    let e = c .before .before .before .before in
+    let e = c .before .before .before .before .before in
     let d = decoded e in
     given-ends (bytes d) (d .decode .result) (d .decode .ensures) (e .if1 .left)
 
 at-requires : tie.Need-at-requires
 at-requires c κs =
-    let e = c .before .before .before .before .before .before in
+    let e = c .before .before .before .before .before .before .before in
     let d = decoded e in
     omega (arith, c .if2 .taken, given-ends (bytes d) (d .decode .result) (d .decode .ensures) (e .if1 .left) .0)
 
@@ -39,22 +39,22 @@ refused-requires c κs = search needs
 returns-2 : tie.Need-returns-2
 returns-2 c =
     let p = c .before .before .before in
-    let e = p .before .before .before .before .before in
+    let e = p .before .before .before .before .before .before in
     let d = decoded e in
     let columns = d .decode .result .columns in
     rw (c .refused .ensures)
     (given-pasted (bytes d) (d .decode .result) (d .decode .ensures) (e .if1 .left) _
-    (p .lowest-pasted .ensures (columns .elements) (columns .cost)) (c .before .before .if2 .taken) (c .before .at .result)
+    (p .lowest-pasted .ensures (columns .elements) (columns .rings) (columns .cost)) (c .before .before .if2 .taken) (c .before .at .result)
     (c .before .at .ensures))
 
 returns-3 : tie.Need-returns-3
 returns-3 c =
     let p = c .before in
-    let e = p .before .before .before .before .before in
+    let e = p .before .before .before .before .before .before in
     let d = decoded e in
     let columns = d .decode .result .columns in
     given-whole (bytes d) (d .decode .result) (d .decode .ensures) (e .if1 .left) _
-    (p .lowest-pasted .ensures (columns .elements) (columns .cost)) (omega (arith, c .if2 .left))
+    (p .lowest-pasted .ensures (columns .elements) (columns .rings) (columns .cost)) (omega (arith, c .if2 .left))
 
 pub given-spec : {M : Type 1} → statement M
 given-spec =

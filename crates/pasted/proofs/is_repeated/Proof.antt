@@ -17,12 +17,12 @@ use Rattle.pasted.proofs.is_repeated.Statement.{statement}
 use Rattle.pasted.proofs.is_repeated.Tie as tie
 
 abbrev Inv-loop : tie.InvT-loop
-Inv-loop rows period second i left₀ left =
-    any max-rows (λ j. bit left j && alike (at period) (at second) i j)
-    ≡ any max-rows (λ j. bit rows j && alike (at period) (at second) i j)
+Inv-loop rows period second way i left₀ left =
+    any max-rows (λ j. bit left j && alike (at period) (at second) (at way) i j)
+    ≡ any max-rows (λ j. bit rows j && alike (at period) (at second) (at way) i j)
 
 abbrev μ-loop : tie.MeasureT-loop
-μ-loop rows period second i left₀ left = count 64 (bit left)
+μ-loop rows period second way i left₀ left = count 64 (bit left)
 
 loop-holds : tie.Need-loop-holds Inv-loop μ-loop
 loop-holds c = refl
@@ -57,7 +57,8 @@ loop-again c =
     let d = c .before .before in
     let z = d .before .before in
     let a = z .before .args in
-    left-out (z .loop .left) (d .lowest-row .result) (alike (at (a .period .now)) (at (a .second .now)) (a .i)) (d .lowest-row .ensures .0)
+    left-out (z .loop .left) (d .lowest-row .result)
+    (alike (at (a .period .now)) (at (a .second .now)) (at (a .way .now)) (a .i)) (d .lowest-row .ensures .0)
     (sym (c .before .is-alike .ensures) ∙ c .if1 .left)
     ∙ z .loop .inv
 

@@ -1,39 +1,39 @@
 -- lowest_pasted: row after row has no earlier one with its ends and period.
 use mathlib.Core.Path.{_≡_, sym, ap, _∙_}
 use mathlib.Core.List.{List, []}
-use Prim.Native.Nat.{ℕ, _-_, _<_}
+use Prim.Native.Nat.{ℕ, _+_, _-_, _<_}
 use native.Mathlib.Omega.{arith}
 use lib.Dec.{eqb}
 use Rattle.numbers.specs.Lists.{at}
 use Rattle.numbers.specs.Word.{word}
 use Rattle.numbers.proofs.Finite.{Sought, sought-start, sought-next, sought-found, sought-end}
+use Rattle.rules.specs.Bounds.{max-elements}
 use Rattle.rules.specs.Bus.{Table, pasted}
 use Rattle.table.specs.Columns.{columnTable}
-use Rattle.sets.specs.Walk.{line-size}
 use Rattle.sets.proofs.Loops.{Filling, filling-start, filling-next}
 use Rattle.pasted.proofs.AsGiven.{earlier-pasted}
 use Rattle.pasted.proofs.lowest_pasted.Statement.{statement}
 use Rattle.pasted.proofs.lowest_pasted.Tie as tie
 
 -- costs and the ring's size say nothing of it
-abbrev plain : (rows : ℕ) (period first second : List ℕ) → Table
-plain rows period first second = columnTable 0 rows [] period first second
+abbrev plain : (rows : ℕ) (period first second way : List ℕ) → Table
+plain rows period first second way = columnTable 0 rows 0 [] period first second way
 
 abbrev Inv-loop : tie.InvT-loop
-Inv-loop rows period first second starts₀ i₀ starts i =
-    Sought rows (pasted (plain rows period first second)) i × Filling i (at first) starts
+Inv-loop rows period first second way starts₀ i₀ starts i =
+    Sought rows (pasted (plain rows period first second way)) i × Filling (max-elements + 1) i (at first) starts
 
 abbrev μ-loop : tie.MeasureT-loop
-μ-loop rows period first second starts₀ i₀ starts i = rows - i
+μ-loop rows period first second way starts₀ i₀ starts i = rows - i
 
 -- the row's first end is on the ring
-on-ring : (c : tie.After-end-at Inv-loop μ-loop) → c .end-at .result < line-size
+on-ring : (c : tie.After-end-at Inv-loop μ-loop) → c .end-at .result < max-elements + 1
 on-ring c =
     let u = c .before .before in
     omega (arith, c .end-at .ensures, u .before .pre .1 (u .loop .i) (omega arith))
 
 loop-holds : tie.Need-loop-holds Inv-loop μ-loop
-loop-holds c = (sought-start, filling-start _)
+loop-holds c = (sought-start, filling-start (max-elements + 1) _)
 
 end-at-requires : tie.Need-end-at-requires Inv-loop μ-loop
 end-at-requires c κs = omega (arith, c .before .before .pre .0)
@@ -51,19 +51,20 @@ is-repeated-requires c κs = omega (arith, c .before .before .before .pre .0)
 found : (c : tie.After-is-repeated Inv-loop μ-loop)
     → (let u = c .before .before .before in
     let z = u .before .args in
-    pasted (plain (z .rows) (z .period .now) (z .first .now) (z .second .now)) (u .loop .i) ≡ c .is-repeated .result)
+    pasted (plain (z .rows) (z .period .now) (z .first .now) (z .second .now) (z .way .now)) (u .loop .i) ≡ c .is-repeated .result)
 found c =
     let u = c .before .before .before in
     let z = u .before .args in
     let d = c .before .end-at in
     sym (c .is-repeated .ensures
-    ∙ earlier-pasted (plain (z .rows) (z .period .now) (z .first .now) (z .second .now)) _ (u .loop .i) (omega (arith, u .before .pre .0))
+    ∙ earlier-pasted (plain (z .rows) (z .period .now) (z .first .now) (z .second .now) (z .way .now)) _ (u .loop .i)
+    (omega (arith, u .before .pre .0))
     (u .loop .inv .1 .held (d .result) (on-ring (c .before))
     ∙ ap (λ (e : ℕ). word (u .loop .i) (λ j. eqb (at (z .first .now) j) e)) (d .ensures)))
 
 returns : tie.Need-returns Inv-loop μ-loop
 unfolding pasted
-returns c elements cost =
+returns c elements rings cost =
     let d = c .before in
     sought-found (d .before .before .before .loop .inv .0) (omega arith) (found d ∙ c .if1 .taken)
 
@@ -92,7 +93,7 @@ loop-again c =
 
 returns-2 : tie.Need-returns-2 Inv-loop μ-loop
 unfolding pasted
-returns-2 c elements cost = sought-end (c .before .loop .inv .0) (omega arith)
+returns-2 c elements rings cost = sought-end (c .before .loop .inv .0) (omega arith)
 
 pub lowest-pasted-spec : {M : Type 1} → statement M
 lowest-pasted-spec =

@@ -53,8 +53,8 @@ put-plan-requires : tie.Need-put-plan-requires
 put-plan-requires c κs =
     let d = c .before .before in
     let z = judged d in (
-      admits (file z) (z .judge .result) (z .judge .ensures) _ _ _ _ _ (d .answer .given .1),
-      hyper-is (file z) (z .judge .result) (z .judge .ensures) _ _ _ _ _ (d .answer .given .1),
+      admits (file z) (z .judge .result) (z .judge .ensures) _ _ _ _ _ _ (d .answer .given .1),
+      hyper-is (file z) (z .judge .result) (z .judge .ensures) _ _ _ _ _ _ (d .answer .given .1),
       omega arith,
     )
 
@@ -63,8 +63,8 @@ put-plan-requires-2 c κs =
     let l = c .before .before .before in
     let d = opened l in
     let z = judged d in (
-      admits (file z) (z .judge .result) (z .judge .ensures) _ _ _ _ _ (d .answer .given .1),
-      hyper-is (file z) (z .judge .result) (z .judge .ensures) _ _ _ _ _ (d .answer .given .1),
+      admits (file z) (z .judge .result) (z .judge .ensures) _ _ _ _ _ _ (d .answer .given .1),
+      hyper-is (file z) (z .judge .result) (z .judge .ensures) _ _ _ _ _ _ (d .answer .given .1),
       omega (arith, l .put-plan .ensures .2 .1),
     )
 
@@ -77,7 +77,7 @@ returns-2 c =
     let l = m .before .before .before .before in
     let d = opened l in
     let z = judged d in
-    rendered-admitted (file z) (z .judge .result) (z .judge .ensures) _ _ _ _ _ (d .answer .given .1) (l .put-plan .ensures)
+    rendered-admitted (file z) (z .judge .result) (z .judge .ensures) _ _ _ _ _ _ (d .answer .given .1) (l .put-plan .ensures)
     (m .put-plan2 .ensures)
 
 pub render-spec : {M : Type 1} → statement M

@@ -71,11 +71,11 @@ fit c = omega (
 array-share-prefix-numbers : tie.Need-array-share-prefix-numbers
 array-share-prefix-numbers c = fit c
 
-slice-aggregate-write : tie.Need-slice-aggregate-write
-slice-aggregate-write c = sym (length-take-le _ _ (fit (c .before)))
+slice-aggregate-write-plain : tie.Need-slice-aggregate-write-plain
+slice-aggregate-write-plain c = sym (length-take-le _ _ (fit (c .before)))
 
-write-requires : tie.Need-write-requires
-write-requires c κs = search needs
+write-plain-requires : tie.Need-write-plain-requires
+write-plain-requires c κs = search needs
 
 same-length : tie.Need-same-length
 same-length c = search needs
@@ -93,7 +93,7 @@ returns-2 c =
     ≡ numbers (raisedLabelled (fileLabelled (bytes g))) =
     ap (take (rowNumbers * x .given .columns .rows)) (v .before .before .put-all-numbers .ensures) ∙ numbers-are (bytes g) a x R z _ in
     raise-written (bytes g) a (v .version-of .ensures) (elements-are (bytes g) a x R z) (rows-are (bytes g) a x R z) xs
-    (c .before .before .write .ensures)
+    (c .before .before .write-plain .ensures)
 
 pub raise-spec : {M : Type 1} → statement M
 raise-spec =
@@ -106,7 +106,7 @@ raise-spec =
     version-of-requires
     mul-numbers
     array-share-prefix-numbers
-    slice-aggregate-write
-    write-requires
+    slice-aggregate-write-plain
+    write-plain-requires
     same-length
     returns-2)

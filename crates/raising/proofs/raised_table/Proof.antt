@@ -9,27 +9,27 @@ use Rattle.raising.proofs.Asked.{raising-given, raising-sound, raising-
 use Rattle.raising.proofs.raised_table.Statement.{statement}
 use Rattle.raising.proofs.raised_table.Tie as tie
 
-abbrev taken : tie.Else1 → tie.After-given
+abbrev taken : tie.Else1 → tie.After-given-one-ring
 taken e = e .before .before .before
 
-abbrev bytes : tie.After-given → List ℕ
+abbrev bytes : tie.After-given-one-ring → List ℕ
 bytes g = g .before .before .args .file .now
 
 abbrev passed : tie.After-layout-of → tie.Else1
-passed o = o .before .before .before .before .before
+passed o = o .before .before .before .before .before .before
 
 abbrev placed : tie.Else2 → tie.After-layout-of
 placed l = l .before .before .before
 
-laid : (o : tie.After-layout-of) → LaidOut (tableOf (taken (passed o) .given .result .columns)) (o .layout-of .result)
+laid : (o : tie.After-layout-of) → LaidOut (tableOf (taken (passed o) .given-one-ring .result .columns)) (o .layout-of .result)
 laid o =
     let e = passed o in
     let g = taken e in
-    o .layout-of .ensures (at (g .given .result .columns .cost))
-    (raising-sound (bytes g) (g .given .result) (g .given .ensures) (e .if1 .left))
+    o .layout-of .ensures (at (g .given-one-ring .result .columns .cost))
+    (raising-sound (bytes g) (g .given-one-ring .result) (g .given-one-ring .ensures) (e .if1 .left))
 
-given-requires : tie.Need-given-requires
-given-requires c κs = search needs
+given-one-ring-requires : tie.Need-given-one-ring-requires
+given-one-ring-requires c κs = search needs
 
 refused-requires : tie.Need-refused-requires
 refused-requires c κs = search needs
@@ -37,13 +37,15 @@ refused-requires c κs = search needs
 returns : tie.Need-returns
 returns c =
     let g = c .before .before .before .before in
-    rw (c .refused .ensures) (raising-given (bytes g) (g .given .result) (g .given .ensures) (c .before .if1 .taken))
+    rw (c .refused .ensures) (raising-given (bytes g) (g .given-one-ring .result) (g .given-one-ring .ensures) (c .before .if1 .taken))
 
 layout-of-requires : tie.Need-layout-of-requires
 layout-of-requires c κs =
-    let e = c .before .before .before .before in
-    let g = taken e in
-    (at (g .given .result .columns .cost), raising-sound (bytes g) (g .given .result) (g .given .ensures) (e .if1 .left))
+    let e = c .before .before .before .before .before in
+    let g = taken e in (
+      at (g .given-one-ring .result .columns .cost),
+      raising-sound (bytes g) (g .given-one-ring .result) (g .given-one-ring .ensures) (e .if1 .left),
+    )
 
 refused-requires-2 : tie.Need-refused-requires-2
 refused-requires-2 c κs = search needs
@@ -54,7 +56,8 @@ returns-2 c =
     let e = passed o in
     let g = taken e in
     rw (c .refused2 .ensures)
-    (raising-line (bytes g) (g .given .result) (g .given .ensures) (e .if1 .left) (o .layout-of .result) (laid o) (c .before .if2 .taken))
+    (raising-line (bytes g) (g .given-one-ring .result) (g .given-one-ring .ensures) (e .if1 .left)
+    (o .layout-of .result) (laid o) (c .before .if2 .taken))
 
 raised-costs-requires : tie.Need-raised-costs-requires
 raised-costs-requires c κs =
@@ -62,9 +65,9 @@ raised-costs-requires c κs =
     let o = placed l in
     let e = passed o in
     let g = taken e in
-    let I = raising-interval (bytes g) (g .given .result) (g .given .ensures) (e .if1 .left)
+    let I = raising-interval (bytes g) (g .given-one-ring .result) (g .given-one-ring .ensures) (e .if1 .left)
     (o .layout-of .result) (laid o) (l .if2 .left) in
-    (raising-times (bytes g) (g .given .result) (g .given .ensures) (e .if1 .left), I .0, I .1)
+    (raising-times (bytes g) (g .given-one-ring .result) (g .given-one-ring .ensures) (e .if1 .left), I .0, I .1)
 
 returns-3 : tie.Need-returns-3
 returns-3 c =
@@ -72,10 +75,12 @@ returns-3 c =
     let o = placed l in
     let e = passed o in
     let g = taken e in
-    raising-done (bytes g) (g .given .result) (g .given .ensures) (e .if1 .left) (o .layout-of .result) (laid o) (l .if2 .left) _
+    raising-done (bytes g) (g .given-one-ring .result) (g .given-one-ring .ensures) (e .if1 .left)
+    (o .layout-of .result) (laid o) (l .if2 .left) _
     (c .raised-costs .ensures)
 
 pub raised-table-spec : {M : Type 1} → statement M
 raised-table-spec =
     tie.close
-    (tie.spec given-requires refused-requires returns layout-of-requires refused-requires-2 returns-2 raised-costs-requires returns-3)
+    (tie.spec given-one-ring-requires refused-requires returns layout-of-requires refused-requires-2 returns-2
+    raised-costs-requires returns-3)

@@ -2,6 +2,7 @@
 use native.Mathlib.Omega.{arith}
 use native.Mathlib.Numerals.{towards-suc}
 use lib.ListN.{length-set}
+use Rattle.rules.specs.TableFile.{lastOf}
 use borrow.Author.Needs.{needs}
 use Rattle.reader.proofs.put_numbers.Statement.{statement}
 use Rattle.reader.proofs.put_numbers.Tie as tie
@@ -52,6 +53,7 @@ same-length : tie.Need-same-length
 same-length c = search needs
 
 returns : tie.Need-returns
+unfolding lastOf
 returns c = simp towards-suc
 
 pub put-numbers-spec : {M : Type 1} → statement M

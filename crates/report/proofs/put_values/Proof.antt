@@ -1,4 +1,4 @@
--- put_values: the four lines, one after the other.
+-- put_values: the three lines, one after the other.
 use borrow.Author.Needs.{needs}
 use native.Mathlib.Omega.{arith}
 use Rattle.rules.specs.Text.{text}
@@ -24,24 +24,17 @@ slice-aggregate-put-value-3 c = search needs
 put-value-requires-3 : tie.Need-put-value-requires-3
 put-value-requires-3 c κs = search needs
 
-slice-aggregate-put-value-4 : tie.Need-slice-aggregate-put-value-4
-slice-aggregate-put-value-4 c = search needs
-
-put-value-requires-4 : tie.Need-put-value-requires-4
-put-value-requires-4 c κs = search needs
-
 same-length : tie.Need-same-length
 same-length c = search needs
 
 returns : tie.Need-returns
 unfolding text
 returns c =
-    let D = c .before .before .put-value4 .ensures in
-    let d = c .before .before .before .before .before .before .before in
-    let b = d .before .before .before .before .before in
+    let D = c .before .before .put-value3 .ensures in
+    let b = c .before .before .before .before .before .before .before in
     let A = b .before .before .before .before .before .put-value .ensures in (
-      puts-more (A .0) (puts-more (b .put-value2 .ensures .0) (puts-more (d .put-value3 .ensures .0) (puts-more (D .0) (puts-none _ _)))),
-      omega (arith, A .1, b .put-value2 .ensures .1, d .put-value3 .ensures .1, D .1),
+      puts-more (A .0) (puts-more (b .put-value2 .ensures .0) (puts-more (D .0) (puts-none _ _))),
+      omega (arith, A .1, b .put-value2 .ensures .1, D .1),
     )
 
 pub put-values-spec : {M : Type 1} → statement M
@@ -54,7 +47,5 @@ put-values-spec =
     put-value-requires-2
     slice-aggregate-put-value-3
     put-value-requires-3
-    slice-aggregate-put-value-4
-    put-value-requires-4
     same-length
     returns)

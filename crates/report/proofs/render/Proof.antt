@@ -60,28 +60,38 @@ returns c =
     rendered-refused (file z) (z .judge .result) (z .judge .ensures) (input z) i (n .number .result) (p .place .result)
     (n .number .ensures) (p .place .ensures) (v .put-verdict .ensures) _ (c .enum-told .given .1)
 
+put-cuts-requires : tie.Need-put-cuts-requires
+put-cuts-requires c κs = search needs
+
 put-values-requires : tie.Need-put-values-requires
 put-values-requires c κs = search needs
 
+-- where the cuts are written
+abbrev told : tie.After-put-cuts → tie.After-answer
+told q = q .before .before .before
+
 put-list-requires : tie.Need-put-list-requires
 put-list-requires c κs =
-    let d = c .before .before .before .before .before .before in
+    let w = c .before .before .before in
+    let q = w .before .before .before .before in
+    let d = told q in
     let z = judged d in
     let v = d .before .before .before .before in (
-      admits (file z) (z .judge .result) (z .judge .ensures) _ _ _ _ _ (d .answer .given .1),
-      omega (arith, c .before .before .before .put-values .ensures .1, v .put-verdict .ensures .1),
+      admits (file z) (z .judge .result) (z .judge .ensures) _ _ _ _ _ _ (d .answer .given .1),
+      omega (arith, w .put-values .ensures .1, q .put-cuts .ensures .1, v .put-verdict .ensures .1),
     )
 
 put-plan-requires : tie.Need-put-plan-requires
 put-plan-requires c κs =
     let l = c .before .before .before in
     let w = l .before .before .before .before in
-    let d = w .before .before .before in
+    let q = w .before .before .before .before in
+    let d = told q in
     let z = judged d in
     let v = d .before .before .before .before in (
-      admits (file z) (z .judge .result) (z .judge .ensures) _ _ _ _ _ (d .answer .given .1),
-      hyper-is (file z) (z .judge .result) (z .judge .ensures) _ _ _ _ _ (d .answer .given .1),
-      omega (arith, l .put-list .ensures .2 .1, w .put-values .ensures .1, v .put-verdict .ensures .1),
+      admits (file z) (z .judge .result) (z .judge .ensures) _ _ _ _ _ _ (d .answer .given .1),
+      hyper-is (file z) (z .judge .result) (z .judge .ensures) _ _ _ _ _ _ (d .answer .given .1),
+      omega (arith, l .put-list .ensures .2 .1, w .put-values .ensures .1, q .put-cuts .ensures .1, v .put-verdict .ensures .1),
     )
 
 same-length-2 : tie.Need-same-length-2
@@ -91,15 +101,16 @@ returns-2 : tie.Need-returns-2
 returns-2 c =
     let l = c .before .before .before .before .before .before in
     let w = l .before .before .before .before in
-    let d = w .before .before .before in
+    let q = w .before .before .before .before in
+    let d = told q in
     let v = d .before .before .before .before in
     let p = v .before .before in
     let n = p .before in
     let z = n .before in
     let i = read-input (input z) _ (z .before .before .least .ensures) in
     rendered-admitted (file z) (z .judge .result) (z .judge .ensures) (input z) i (n .number .result) (p .place .result)
-    (n .number .ensures) (p .place .ensures) (v .put-verdict .ensures) _ _ _ _ _ (d .answer .given .1)
-    (w .put-values .ensures) (l .put-list .ensures) (c .before .before .put-plan .ensures)
+    (n .number .ensures) (p .place .ensures) (v .put-verdict .ensures) _ _ _ _ _ _ (d .answer .given .1)
+    (q .put-cuts .ensures) (w .put-values .ensures) (l .put-list .ensures) (c .before .before .put-plan .ensures)
 
 pub render-spec : {M : Type 1} → statement M
 render-spec =
@@ -115,6 +126,7 @@ render-spec =
     enum-told
     same-length
     returns
+    put-cuts-requires
     put-values-requires
     put-list-requires
     put-plan-requires

@@ -14,16 +14,16 @@ use Rattle.ring.proofs.find_cut.Statement.{statement}
 use Rattle.ring.proofs.find_cut.Tie as tie
 
 abbrev Inv-loop : tie.InvT-loop
-Inv-loop elements rows first second word e₀ e = Searched (onRing elements rows (at first) (at second)) e
+Inv-loop elements rows rings first second way d word e₀ e = Searched (onRing elements rows (at first) (at second) (at way)) d e
 
 abbrev μ-loop : tie.MeasureT-loop
-μ-loop elements rows first second word e₀ e = elements + 1 - e
+μ-loop elements rows rings first second way d word e₀ e = elements + 1 - e
 
 through-rows-requires : tie.Need-through-rows-requires Inv-loop μ-loop
 through-rows-requires c κs = search needs
 
 loop-holds : tie.Need-loop-holds Inv-loop μ-loop
-loop-holds c = searched-start _
+loop-holds c = searched-start _ _
 
 shr-if1 : tie.Need-shr-if1 Inv-loop μ-loop
 shr-if1 c = omega arith
@@ -47,7 +47,8 @@ unfolding bit
 loop-again c =
     let loop = c .before .before .loop in
     let z = c .before .before .before .through-rows in
-    let one : z .result / 2 ^ loop .e % 2 ≡ 1 = omega (arith, c .if1 .left, mod-lt (z .result / 2 ^ loop .e) (let z : 0 < 2 = omega arith in z)) in
+    let one : z .result / 2 ^ loop .e % 2 ≡ 1 =
+    omega (arith, c .if1 .left, mod-lt (z .result / 2 ^ loop .e) (let z : 0 < 2 = omega arith in z)) in
     let taken = ap (λ (x : ℕ). not (eqb x 1)) one in
     searched-next (loop .inv) (omega arith) (sym (z .ensures _ (record { low = loop .inv .low; high = omega arith })) ∙ taken)
 

@@ -1,29 +1,49 @@
 -- `ring::lay` meets its contract. The loop's invariant: the rows before row `i` are laid.
-use mathlib.Core.Path.{_≡_, ap, _∙_}
+use mathlib.Core.Path.{_≡_, _∙_}
 use Prim.Native.Nat.{_-_, _≤_}
 use native.Mathlib.Omega.{arith}
 use Rattle.numbers.specs.Lists.{at}
 use Rattle.table.specs.Columns.{ByRow}
 use Rattle.table.proofs.ByRow.{by-row-start, by-row-put}
 use Rattle.ring.specs.Route as route
+use Rattle.ring.specs.Rows.{cutOf}
+use Rattle.ring.proofs.Rows.{cut-element}
 use Rattle.ring.proofs.lay.Statement.{statement}
 use Rattle.ring.proofs.lay.Tie as tie
 
 abbrev Inv-loop : tie.InvT-loop
-Inv-loop elements rows first second cut start₀ end₀ i₀ start end i =
-    (i ≤ rows) × ByRow i (λ k. route.lineElement elements cut (at first k)) start × ByRow i (λ k. route.lineEnd elements cut (at second k)) end
+Inv-loop elements rows rings first second way cut other start₀ end₀ i₀ start end i =
+    (i ≤ rows) × ByRow i (λ k. route.rowElement elements (at way k) (cutOf cut other (at way k)) (at first k)) start
+    × ByRow i (λ k. route.rowEnd elements (at way k) (cutOf cut other (at way k)) (at second k)) end
 
 abbrev μ-loop : tie.MeasureT-loop
-μ-loop elements rows first second cut start₀ end₀ i₀ start end i = rows - i
+μ-loop elements rows rings first second way cut other start₀ end₀ i₀ start end i = rows - i
 
 loop-holds : tie.Need-loop-holds Inv-loop μ-loop
 loop-holds c = (omega arith, by-row-start _, by-row-start _)
 
+way-at-requires : tie.Need-way-at-requires Inv-loop μ-loop
+way-at-requires c κs =
+    let l = c .before in
+    (omega arith, λ r. l .before .pre .1 r (l .loop .i) (omega arith))
+
+cut-of-requires : tie.Need-cut-of-requires Inv-loop μ-loop
+cut-of-requires c κs = omega arith
+
 end-at-requires : tie.Need-end-at-requires Inv-loop μ-loop
 end-at-requires c κs = omega arith
 
-line-element-requires : tie.Need-line-element-requires Inv-loop μ-loop
-line-element-requires c κs = omega (arith, c .before .before .before .pre .0 .starts (c .before .before .loop .i) (omega arith))
+row-element-requires : tie.Need-row-element-requires Inv-loop μ-loop
+row-element-requires c κs =
+    let b = c .before .before in
+    let z = b .before .before .before in
+    let i = b .before .before .loop .i in
+    let x = cut-element (b .way-at .result) (z .pre .2) (z .pre .3) in (
+      z .pre .0 .small,
+      omega (arith, b .way-at .ensures, z .pre .0 .ways i (omega arith)),
+      rw (c .before .cut-of .ensures) x,
+      rw (c .end-at .ensures) (z .pre .0 .starts i (omega arith)),
+    )
 
 cast-start : tie.Need-cast-start Inv-loop μ-loop
 cast-start c = omega arith
@@ -34,9 +54,17 @@ array-write-start c = omega arith
 end-at-requires-2 : tie.Need-end-at-requires-2 Inv-loop μ-loop
 end-at-requires-2 c κs = omega arith
 
-line-end-requires : tie.Need-line-end-requires Inv-loop μ-loop
-line-end-requires c κs =
-    omega (arith, c .before .before .before .before .before .pre .0 .ends (c .before .before .before .before .loop .i) (omega arith))
+row-end-requires : tie.Need-row-end-requires Inv-loop μ-loop
+row-end-requires c κs =
+    let b = c .before .before .before .before in
+    let z = b .before .before .before in
+    let i = b .before .before .loop .i in
+    let x = cut-element (b .way-at .result) (z .pre .2) (z .pre .3) in (
+      z .pre .0 .small,
+      omega (arith, b .way-at .ensures, z .pre .0 .ways i (omega arith)),
+      rw (c .before .before .before .cut-of .ensures) x,
+      rw (c .end-at2 .ensures) (z .pre .0 .ends i (omega arith)),
+    )
 
 cast-end : tie.Need-cast-end Inv-loop μ-loop
 cast-end c = omega arith
@@ -52,14 +80,15 @@ loop-less c = omega arith
 
 loop-again : tie.Need-loop-again Inv-loop μ-loop
 loop-again c =
-    let z = c .before .before .before .before .before .before .args in
-    let inv = c .before .before .before .before .before .loop .inv in
-    let start = c .before .before in (
+    let start = c .before .before in
+    let cut = start .before .before in
+    let d = cut .before .way-at .ensures in
+    let inv = cut .before .before .before .loop .inv in (
       omega arith,
       by-row-put _ (inv .1) (omega arith)
-          (start .line-element .ensures .0 ∙ ap (route.lineElement (z .elements) (z .cut)) (start .before .end-at .ensures)),
+          (start .row-element .ensures .0 ∙ rw (cut .cut-of .ensures, d, start .before .end-at .ensures)),
       by-row-put _ (inv .2) (omega arith)
-          (c .line-end .ensures .0 ∙ ap (route.lineEnd (z .elements) (z .cut)) (c .before .end-at2 .ensures)),
+          (c .row-end .ensures .0 ∙ rw (cut .cut-of .ensures, d, c .before .end-at2 .ensures)),
     )
 
 returns : tie.Need-returns Inv-loop μ-loop
@@ -75,12 +104,14 @@ lay-spec =
     Inv-loop
     μ-loop
     loop-holds
+    way-at-requires
+    cut-of-requires
     end-at-requires
-    line-element-requires
+    row-element-requires
     cast-start
     array-write-start
     end-at-requires-2
-    line-end-requires
+    row-end-requires
     cast-end
     array-write-end
     add-i

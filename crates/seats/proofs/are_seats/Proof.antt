@@ -3,8 +3,10 @@ use Prim.Native.Nat.{_-_}
 use native.Mathlib.Omega.{arith}
 use borrow.Author.Needs.{needs}
 use Rattle.numbers.proofs.Truth.{denied, granted}
+use Rattle.numbers.specs.Lists.{at}
 use Rattle.rules.specs.Bounds.{max-rows}
 use Rattle.tally.specs.Tally.{columnLive}
+use Rattle.tally.proofs.Tally.{place-row}
 use Rattle.seats.specs.Seats.{Seat}
 use Rattle.seats.proofs.Seats.{Upto, upto-start, upto-next, upto-end, upto-stop, seat-of, of-seat}
 use Rattle.seats.proofs.are_seats.Statement.{statement}
@@ -19,6 +21,12 @@ abbrev μ-loop : tie.MeasureT-loop
 loop-holds : tie.Need-loop-holds Inv-loop μ-loop
 loop-holds c = upto-start
 
+mul-row-at : tie.Need-mul-row-at Inv-loop μ-loop
+mul-row-at c = search needs
+
+element-copy-out-row-at : tie.Need-element-copy-out-row-at Inv-loop μ-loop
+element-copy-out-row-at c = omega arith
+
 row-at-requires : tie.Need-row-at-requires Inv-loop μ-loop
 row-at-requires c κs = search needs
 
@@ -29,10 +37,10 @@ returns : tie.Need-returns Inv-loop μ-loop
 returns c =
     let s = c .before in
     let r = s .before in
-    let u = r .before .before in
+    let u = r .before .before .before in
     upto-stop (u .loop .i) (omega arith)
     (λ q. denied (s .is-seat .ensures) (c .if1 .taken)
-    (of-seat (r .row-at .ensures (u .before .args .elements) max-rows) q))
+    (of-seat (place-row (u .before .args .elements) (at (u .before .args .label .now)) (r .row-at .ensures)) q))
 
 add-i : tie.Need-add-i Inv-loop μ-loop
 add-i c = search needs
@@ -44,9 +52,9 @@ loop-again : tie.Need-loop-again Inv-loop μ-loop
 loop-again c =
     let s = c .before in
     let r = s .before in
-    let u = r .before .before in
+    let u = r .before .before .before in
     upto-next (u .loop .inv) (omega arith)
-    (seat-of (r .row-at .ensures (u .before .args .elements) max-rows)
+    (seat-of (place-row (u .before .args .elements) (at (u .before .args .label .now)) (r .row-at .ensures))
     (granted (s .is-seat .ensures) (c .if1 .left)))
 
 returns-2 : tie.Need-returns-2 Inv-loop μ-loop
@@ -59,6 +67,8 @@ are-seats-spec =
     Inv-loop
     μ-loop
     loop-holds
+    mul-row-at
+    element-copy-out-row-at
     row-at-requires
     is-seat-requires
     returns

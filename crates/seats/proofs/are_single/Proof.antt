@@ -9,20 +9,20 @@ use Rattle.numbers.specs.Lists.{at}
 use Rattle.numbers.proofs.Truth.{both, of-true, of-false, fst, snd}
 use Rattle.rules.specs.Bounds.{max-rows}
 use Rattle.rules.specs.Bus.{pasted}
-use Rattle.table.specs.Columns.{columnTable}
+use Rattle.tally.specs.Tally.{columnPlaces}
 use Rattle.seats.proofs.Seats.{Upto, upto-start, upto-next, upto-end, upto-stop}
 use Rattle.seats.proofs.are_single.Statement.{statement}
 use Rattle.seats.proofs.are_single.Tie as tie
 
 abbrev Single : (cost period first second : List ℕ) → ℕ → Type 0
 Single cost period first second i =
-    T (ltb 0 (at period i)) → T (pasted (columnTable 0 max-rows cost period first second) i) → ⊥
+    T (ltb 0 (at period i)) → T (pasted (columnPlaces 0 cost period first second) i) → ⊥
 
 abbrev Inv-loop : tie.InvT-loop
-Inv-loop cost period first second label i₀ i = Upto max-rows (Single cost period first second) i
+Inv-loop cost period first second i₀ i = Upto max-rows (Single cost period first second) i
 
 abbrev μ-loop : tie.MeasureT-loop
-μ-loop cost period first second label i₀ i = max-rows - i
+μ-loop cost period first second i₀ i = max-rows - i
 
 loop-holds : tie.Need-loop-holds Inv-loop μ-loop
 loop-holds c = upto-start

@@ -1,7 +1,9 @@
 -- `seats::is_repeated` meets its contract.
 use mathlib.Core.Path.{sym, _∙_}
+use mathlib.Core.List.{[]}
 use borrow.Author.Needs.{needs}
-use Rattle.rules.specs.Bounds.{max-rows}
+use Rattle.tally.specs.Tally.{columnLive}
+use Rattle.tally.proofs.Tally.{place-row}
 use Rattle.seats.proofs.Seats.{free-single, held-decides, earlier-equal}
 use Rattle.seats.proofs.is_repeated.Statement.{statement}
 use Rattle.seats.proofs.is_repeated.Tie as tie
@@ -22,7 +24,9 @@ returns-2 : tie.Need-returns-2
 returns-2 c elements =
     let r = c .before in
     let b = r .before in
-    c .has-row .ensures ∙ earlier-equal (r .row-at .ensures elements max-rows)
+    let z = b .before .before .args in
+    let l = columnLive elements (z .cost .now) (z .period .now) (z .first .now) (z .second .now) [] in
+    c .has-row .ensures ∙ earlier-equal l (place-row elements (λ j. 0) (r .row-at .ensures))
     ∙ held-decides _ _ (λ e. b .if1 .left (b .before .slots-at .ensures ∙ e))
 
 pub is-repeated-spec : {M : Type 1} → statement M

@@ -35,7 +35,8 @@ use Rattle.sets.proofs.list_sets.Statement.{statement}
 use Rattle.sets.proofs.list_sets.Tie as tie
 
 abbrev Inv-loop : tie.InvT-loop
-Inv-loop first second rows top starts₀ ends₀ i₀ starts ends i = (i ≤ rows) × Filling i (at first) starts × Filling i (at second) ends
+Inv-loop first second rows top starts₀ ends₀ i₀ starts ends i =
+    (i ≤ rows) × Filling line-size i (at first) starts × Filling line-size i (at second) ends
 
 abbrev μ-loop : tie.MeasureT-loop
 μ-loop first second rows top starts₀ ends₀ i₀ starts ends i = rows - i
@@ -51,7 +52,7 @@ abbrev μ-loop2 : tie.MeasureT-loop2
 -- ---- the rows by their ends
 
 loop-holds : tie.Need-loop-holds Inv-loop μ-loop Inv-loop2 μ-loop2
-loop-holds c = (omega arith, filling-start _, filling-start _)
+loop-holds c = (omega arith, filling-start line-size _, filling-start line-size _)
 
 end-at-requires : tie.Need-end-at-requires Inv-loop μ-loop Inv-loop2 μ-loop2
 end-at-requires c κs = omega (arith, c .before .before .pre .few)

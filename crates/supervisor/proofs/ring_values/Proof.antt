@@ -50,7 +50,7 @@ returns-2 c =
       number = 17;
       place = 0;
       called =
-          values-short (z .file .now) (z .out .now) (j .result) _ _ _ _ _ (j .ensures) (c .before .before .before .answer .given .1)
+          values-short (z .file .now) (z .out .now) (j .result) _ _ _ _ _ _ (j .ensures) (c .before .before .before .answer .given .1)
           (c .before .if1 .taken);
       as-one = c .joined2 .ensures;
     }
@@ -74,7 +74,8 @@ returns-3 c =
       number = 0;
       place = 0;
       called =
-          values-done (z .file .now) (z .out .now) (j .result) _ _ _ _ _ (j .ensures) (e .before .before .answer .given .1) _ (e .if1 .left)
+          values-done (z .file .now) (z .out .now) (j .result) _ _ _ _ _ _ (j .ensures)
+          (e .before .before .answer .given .1) _ (e .if1 .left)
           (w .ensures);
       as-one = c .joined3 .ensures;
     }

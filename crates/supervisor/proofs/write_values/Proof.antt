@@ -30,7 +30,7 @@ same-length c = search needs
 returns : tie.Need-returns
 returns c =
     let a = c .args in
-    six-put (a .cut) 0 (a .interval) (a .hyper) (a .load) (a .sets) (a .out .now) (c .pre)
+    six-put (a .cut) (a .other) (a .interval) (a .hyper) (a .load) (a .sets) (a .out .now) (c .pre)
 
 pub write-values-spec : {M : Type 1} → statement M
 write-values-spec =

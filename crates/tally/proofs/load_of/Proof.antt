@@ -19,7 +19,7 @@ small c = adds-little _ _ _ (start c .pre .3 (present c) .cost-high)
 returns : tie.Need-returns
 returns c =
     let z = c .before .before .args in
-    (free-adds (z .d) (single (z .elements) (z .row)) (z .s) (c .if1 .taken), omega arith)
+    (free-adds (z .d) (single (z .elements) 1 (z .row)) (z .s) (c .if1 .taken), omega arith)
 
 cast-segments : tie.Need-cast-segments
 cast-segments c = search needs
@@ -46,8 +46,9 @@ shr-if2 c = search needs
 returns-2 : tie.Need-returns-2
 returns-2 c =
     let z = c .before .before .before .before .before .before in (
-      apart-adds (z .args .d) (single (z .args .elements) (z .args .row)) (z .args .s) (z .pre .2) _ (c .before .segments .ensures) (
-          c .if2 .taken),
+      apart-adds (z .args .d) (single (z .args .elements) 1 (z .args .row)) (z .args .s) (z .pre .2)
+          (omega (arith, z .pre .3 (omega (arith, c .before .before .before .before .if1 .left)) .way-known)) _
+          (c .before .segments .ensures) (c .if2 .taken),
       omega arith,
     )
 
@@ -67,7 +68,8 @@ returns-3 : tie.Need-returns-3
 returns-3 c =
     let b = c .before .before in
     let z = start c in (
-      row-adds (z .args .d) (single (z .args .elements) (z .args .row)) (z .args .s) (z .pre .2) _ (b .before .segments .ensures) (
+      row-adds (z .args .d) (single (z .args .elements) 1 (z .args .row)) (z .args .s) (z .pre .2)
+          (omega (arith, z .pre .3 (present c) .way-known)) _ (b .before .segments .ensures) (
           present c)
           (b .if2 .left),
       omega (arith, small c, z .pre .1),

@@ -4,17 +4,17 @@ use Prim.Native.Nat.{_-_}
 use native.Mathlib.Omega.{arith}
 use borrow.Author.Needs.{needs}
 use Rattle.rules.specs.Bounds.{max-rows}
-use Rattle.table.specs.Columns.{columnTable}
-use Rattle.tally.proofs.Tally.{Adding, adding-start, adding-next, adding-end, row-alone, load-alone}
+use Rattle.rules.specs.Live.{sumOver}
+use Rattle.tally.specs.Tally.{columnPlaces}
+use Rattle.tally.proofs.Tally.{Adding, adding-start, adding-next, adding-end, place-row, row-alone, load-alone}
 use Rattle.tally.proofs.sum_of.Statement.{statement}
 use Rattle.tally.proofs.sum_of.Tie as tie
 
 abbrev Inv-loop : tie.InvT-loop
-Inv-loop elements d cost period first second label s total₀ i₀ total i = Adding d (
-    columnTable elements max-rows cost period first second) s i total
+Inv-loop elements d cost period first second s total₀ i₀ total i = Adding d (columnPlaces elements cost period first second) s i total
 
 abbrev μ-loop : tie.MeasureT-loop
-μ-loop elements d cost period first second label s total₀ i₀ total i = max-rows - i
+μ-loop elements d cost period first second s total₀ i₀ total i = max-rows - i
 
 loop-holds : tie.Need-loop-holds Inv-loop μ-loop
 loop-holds c = adding-start
@@ -26,7 +26,7 @@ load-of-requires : tie.Need-load-of-requires Inv-loop μ-loop
 load-of-requires c κs =
     let u = c .before .before in
     let z = u .before in
-    let is = c .row-at .ensures (z .args .elements) max-rows in
+    let is = place-row (z .args .elements) (λ j. 0) (c .row-at .ensures) in
     (z .pre .2 .small, z .pre .0, z .pre .1, λ p. row-alone is (z .pre .2 .row (u .loop .i) (omega arith) (omega (arith, is .period, p))))
 
 add-total : tie.Need-add-total Inv-loop μ-loop
@@ -43,10 +43,11 @@ loop-again c =
     let u = c .before .before .before in
     let z = u .before .args in
     adding-next _ (u .loop .inv) (omega arith)
-    (c .load-of .ensures .0 ∙ load-alone (z .d) (z .s) (c .before .row-at .ensures (z .elements) max-rows)) (c .load-of .ensures .1)
+    (c .load-of .ensures .0 ∙ load-alone (z .d) (z .s) (place-row (z .elements) (λ j. 0) (c .before .row-at .ensures)))
+    (c .load-of .ensures .1)
 
 returns : tie.Need-returns Inv-loop μ-loop
-returns c = adding-end _ _ (c .before .loop .inv) (omega arith) (c .before .before .pre .1)
+returns c label = adding-end _ _ (c .before .loop .inv) (omega arith) (c .before .before .pre .1)
 
 pub sum-of-spec : {M : Type 1} → statement M
 sum-of-spec =

@@ -40,11 +40,11 @@ returns c =
     rw (c .refused .ensures) (analysed-given _ (a .result .answer) (c .before .if1 .taken) (a .ensures .answers))
 
 analysis-of-requires : tie.Need-analysis-of-requires
-analysis-of-requires c κs = sound (c .before .before .before .before .before)
+analysis-of-requires c κs = sound (c .before .before .before .before .before .before)
 
 returns-2 : tie.Need-returns-2
 returns-2 c =
-    let e = c .before .before .before .before .before .before in
+    let e = c .before .before .before .before .before .before .before in
     analysed-past (bytes e) _ (checked e) (rw (held e) at (c .analysis-of .ensures))
 
 pub analyse-spec : {M : Type 1} → statement M

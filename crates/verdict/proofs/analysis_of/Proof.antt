@@ -7,6 +7,7 @@ use Rattle.rules.specs.Refusals.{line-checks, bound-checks}
 use Rattle.table.specs.Columns.{columnTable}
 use Rattle.outline.specs.Outlined.{Outlined}
 use Rattle.weights.proofs.Weighing.{times-of, rates-are}
+use Rattle.verdict.specs.Weighing.{Rest}
 use Rattle.verdict.specs.Analysed.{Rated}
 use Rattle.verdict.proofs.Analysing.{analysed-first, analysed-after, line-none}
 use Rattle.verdict.proofs.analysis_of.Statement.{statement}
@@ -15,7 +16,13 @@ use Rattle.verdict.proofs.analysis_of.Tie as tie
 abbrev table : tie.After-outline-of → Table
 table d =
     let a = d .before .args in
-    columnTable (a .elements) (a .rows) (a .cost .now) (a .period .now) (a .first .now) (a .second .now)
+    columnTable (a .elements) (a .rows) (a .rings) (a .cost .now) (a .period .now) (a .first .now) (a .second .now) (a .way .now)
+
+-- what weighing does not look at of it
+abbrev rest : tie.After-outline-of → Rest
+rest d =
+    let t = table d in
+    record { elements = t .elements; rings = t .rings; first = t .first; second = t .second; way = t .way }
 
 outlined : (d : tie.After-outline-of) → Outlined (line-checks (table d)) (table d) (d .outline-of .result)
 outlined d = d .outline-of .ensures (at (d .before .args .cost .now)) (d .before .pre)
@@ -50,16 +57,14 @@ rates-requires c κs =
     (times-of (T .sound), omega (arith, T .hyper, T .short))
 
 weighed-requires : tie.Need-weighed-requires
-weighed-requires c κs =
-    let a = asked (c .before) .before .args in
-    (a .first .now, a .second .now, rated c)
+weighed-requires c κs = (rest (asked (c .before)), rated c)
 
 returns-2 : tie.Need-returns-2
 returns-2 c =
     let d = c .before in
-    let a = asked (d .before) .before .args in
-    let t = table (asked (d .before)) in
-    analysed-after (line-checks t) (bound-checks t) (line-none t (rated d)) (c .weighed .ensures (a .first .now) (a .second .now) (rated d))
+    let a = asked (d .before) in
+    let t = table a in
+    analysed-after (line-checks t) (bound-checks t) (line-none t (rated d)) (c .weighed .ensures (rest a) (rated d))
 
 pub analysis-of-spec : {M : Type 1} → statement M
 analysis-of-spec = tie.close (tie.spec outline-of-requires refused-requires returns rates-requires weighed-requires returns-2)

@@ -38,11 +38,11 @@ returns c =
     judged-refused (a .result .answer) (c .if1 .taken) (given-stops _ _ _ (c .if1 .taken) (a .ensures .answers))
 
 judge-table-requires : tie.Need-judge-table-requires
-judge-table-requires c κs = sound (c .before .before .before .before .before)
+judge-table-requires c κs = sound (c .before .before .before .before .before .before)
 
 returns-2 : tie.Need-returns-2
 returns-2 c =
-    let e = c .before .before .before .before .before .before in
+    let e = c .before .before .before .before .before .before .before in
     judged-past (bytes e) _ (checked e) (c .judge-table .result) (rw (held e) at (c .judge-table .ensures))
 
 pub judge-spec : {M : Type 1} → statement M

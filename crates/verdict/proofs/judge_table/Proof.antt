@@ -3,12 +3,13 @@ use Prim.Native.Nat.{_≤_}
 use native.Mathlib.Omega.{arith}
 use Rattle.numbers.specs.Lists.{at}
 use Rattle.rules.specs.Bounds.{max-rows}
-use Rattle.rules.specs.Bus.{Table}
+use Rattle.rules.specs.Bus.{Table, clockwise, counterclockwise}
 use Rattle.table.specs.Columns.{columnTable}
 use Rattle.outline.specs.Layout.{Lies, LaidOut}
+use Rattle.outline.proofs.Cuts.{board-high}
 use Rattle.lags.proofs.Intervals.{shortest-le}
 use Rattle.weights.proofs.Weighing.{times-of, rates-are}
-use Rattle.verdict.specs.Weighing.{Weighable, Weighs}
+use Rattle.verdict.specs.Weighing.{Rest, Weighable, Weighs}
 use Rattle.verdict.proofs.Judging.{judged-first, judged-next, judged-admitted, values-small}
 use Rattle.verdict.proofs.judge_table.Statement.{statement}
 use Rattle.verdict.proofs.judge_table.Tie as tie
@@ -16,7 +17,13 @@ use Rattle.verdict.proofs.judge_table.Tie as tie
 abbrev table : tie.After-layout-of → Table
 table d =
     let a = d .before .args in
-    columnTable (a .elements) (a .rows) (a .cost .now) (a .period .now) (a .first .now) (a .second .now)
+    columnTable (a .elements) (a .rows) (a .rings) (a .cost .now) (a .period .now) (a .first .now) (a .second .now) (a .way .now)
+
+-- what weighing does not look at of it
+abbrev rest : tie.After-layout-of → Rest
+rest d =
+    let t = table d in
+    record { elements = t .elements; rings = t .rings; first = t .first; second = t .second; way = t .way }
 
 laid : (d : tie.After-layout-of) → LaidOut (table d) (d .layout-of .result)
 laid d = d .layout-of .ensures (at (d .before .args .cost .now)) (d .before .pre)
@@ -42,22 +49,21 @@ rated w = w .before .before .before .before .before
 ready : (d : tie.After-rates)
     → let a = asked (unrefused d) in
     let r = a .layout-of .result in
-    Weighable (table a) (r .time) (r .line .first) (r .line .second) (d .rates .result)
+    Weighable (table a) (r .time) (r .top) (r .line .first) (r .line .second) (d .rates .result)
 ready d =
     let e = unrefused d in
     let F = laid (asked e) .found (e .if1 .left) in
     record {
       timed = F .timed;
       clear = F .clear;
+      top-is = F .top;
       first = F .first;
       second = F .second;
       rate = rates-are (table (asked e)) (F .timed .hyper) (d .rates .ensures);
     }
 
 weighed : (w : tie.After-weigh) → Weighs (table (asked (unrefused (rated w)))) (w .weigh .result)
-weighed w =
-    let a = asked (unrefused (rated w)) .before .args in
-    w .weigh .ensures (a .first .now) (a .second .now) (ready (rated w))
+weighed w = w .weigh .ensures (rest (asked (unrefused (rated w)))) (ready (rated w))
 
 rates-requires : tie.Need-rates-requires
 rates-requires c κs =
@@ -68,8 +74,7 @@ rates-requires c κs =
 weigh-requires : tie.Need-weigh-requires
 weigh-requires c κs =
     let d = c .before .before .before .before in
-    let a = asked (unrefused d) .before .args in
-    (a .first .now, a .second .now, ready d)
+    (rest (asked (unrefused d)), ready d)
 
 returns-2 : tie.Need-returns-2
 returns-2 c =
@@ -89,27 +94,33 @@ small e =
     let u = unrefused (rated (passed e)) in
     values-small (laid (asked u)) (u .if1 .left) _ (weighed (passed e)) (e .if2 .left)
 
-cast-t20 : tie.Need-cast-t20
-cast-t20 c =
+cast-t22 : tie.Need-cast-t22
+cast-t22 c =
     let L = lies c in
     let s = L .timed .sound in
-    omega (arith, L .cut, L .clear)
+    omega (arith, L .cut, board-high s (L .clear) clockwise)
 
-cast-t21 : tie.Need-cast-t21
-cast-t21 c =
+cast-t24 : tie.Need-cast-t24
+cast-t24 c =
+    let L = lies c in
+    let s = L .timed .sound in
+    omega (arith, L .other, board-high s (L .clear) counterclockwise)
+
+cast-t25 : tie.Need-cast-t25
+cast-t25 c =
     let T = lies (c .before) .timed in
     omega (arith, T .interval, shortest-le (T .sound))
 
-cast-t22 : tie.Need-cast-t22
-cast-t22 c =
+cast-t26 : tie.Need-cast-t26
+cast-t26 c =
     let T = lies (c .before .before) .timed in
     omega (arith, T .hyper, T .short)
 
-cast-t23 : tie.Need-cast-t23
-cast-t23 c = omega (arith, small (c .before .before .before) .0)
+cast-t27 : tie.Need-cast-t27
+cast-t27 c = omega (arith, small (c .before .before .before) .0)
 
-cast-t24 : tie.Need-cast-t24
-cast-t24 c = omega (arith, small (c .before .before .before .before) .1)
+cast-t28 : tie.Need-cast-t28
+cast-t28 c = omega (arith, small (c .before .before .before .before) .1)
 
 returns-3 : tie.Need-returns-3
 returns-3 c =
@@ -126,9 +137,10 @@ judge-table-spec =
     rates-requires
     weigh-requires
     returns-2
-    cast-t20
-    cast-t21
     cast-t22
-    cast-t23
     cast-t24
+    cast-t25
+    cast-t26
+    cast-t27
+    cast-t28
     returns-3)

@@ -1,63 +1,54 @@
 -- weigh: each return answers 13 and 14, and the last has what is found of the sets.
 use mathlib.Core.Path.{_≡_, refl, ap, _∙_}
-use mathlib.Core.List.{List}
-use Prim.Native.Nat.{ℕ}
 use native.Mathlib.Omega.{arith}
 use borrow.Author.Needs.{needs}
 use Rattle.numbers.specs.Finite.{lowest}
 use Rattle.rules.specs.Bus.{Table}
 use Rattle.rules.specs.Loads as loads
-use Rattle.table.specs.Columns.{columnTable}
 use Rattle.table.specs.declared.Answer.{Answer}
 use Rattle.lags.proofs.Intervals.{hyperperiod-positive, shortest-positive, shortest-le}
 use Rattle.weights.proofs.Weighing.{times-of, rates-small}
-use Rattle.verdict.specs.Weighing.{Weighable}
+use Rattle.verdict.specs.Weighing.{Rest, tableBy, Weighable}
 use Rattle.verdict.proofs.Weighing.{weighable-light, weighable-on-line, weighs-light, weighs-over, weighs-done}
 use Rattle.verdict.proofs.weigh.Statement.{statement}
 use Rattle.verdict.proofs.weigh.Tie as tie
 
-abbrev table : tie.Start → List ℕ → List ℕ → Table
-table z first second = columnTable (z .args .elements) (z .args .rows) (z .args .cost .now) (z .args .period .now) first second
+abbrev table : tie.Start → Rest → Table
+table z b = tableBy b (z .args .rows) (z .args .cost .now) (z .args .period .now)
 
-abbrev Given : tie.Start → List ℕ → List ℕ → Type 0
-Given z first second =
-    Weighable (table z first second) (z .args .time) (z .args .starts .now) (z .args .ends .now) (z .args .rate .now)
+abbrev Given : tie.Start → Rest → Type 0
+Given z b = Weighable (table z b) (z .args .time) (z .args .top) (z .args .starts .now) (z .args .ends .now) (z .args .rate .now)
 
 abbrev entry : tie.After-lowest-light → tie.Start
 entry d = d .before .before
 
-low : (d : tie.After-lowest-light) (first second : List ℕ) → Given (entry d) first second
-    → d .lowest-light .result ≡ lowest (entry d .args .rows) (loads.light (table (entry d) first second))
-low d first second A = d .lowest-light .ensures ∙ ap (lowest (entry d .args .rows)) (weighable-light A)
+low : (d : tie.After-lowest-light) (b : Rest) → Given (entry d) b
+    → d .lowest-light .result ≡ lowest (entry d .args .rows) (loads.light (table (entry d) b))
+low d b A = d .lowest-light .ensures ∙ ap (lowest (entry d .args .rows)) (weighable-light A)
 
 lowest-light-requires : tie.Need-lowest-light-requires
 lowest-light-requires c κs =
-    let T = c .before .pre .2 .timed in
+    let T = c .before .pre .1 .timed in
     (times-of (T .sound), omega (arith, T .interval, shortest-le (T .sound)))
 
 at-requires : tie.Need-at-requires
 at-requires c κs =
-    let s = entry (c .before) .pre .2 .timed .sound in
+    let s = entry (c .before) .pre .1 .timed .sound in
     omega (arith, c .if1 .taken)
 
 unweighed-requires : tie.Need-unweighed-requires
 unweighed-requires c κs = search needs
 
 returns : tie.Need-returns
-returns c first second A =
+returns c b A =
     let d = c .before .before .before in
     let e = c .unweighed .ensures in
-    weighs-light A _ (low d first second A) (c .before .before .if1 .taken) _
+    weighs-light A _ (low d b A) (c .before .before .if1 .taken) _
     (ap (λ (r : Answer). r .number) e ∙ c .before .at .ensures .0, ap (λ (r : Answer). r .place) e ∙ c .before .at .ensures .1)
-
-add-weigh-line : tie.Need-add-weigh-line
-add-weigh-line c =
-    let s = entry (c .before) .pre .2 .timed .sound in
-    omega arith
 
 weigh-line-requires : tie.Need-weigh-line-requires
 weigh-line-requires c κs =
-    let A = entry (c .before) .pre .2 in
+    let A = entry (c .before) .pre .1 in
     let T = A .timed in
     let s = T .sound in (
       weighable-on-line A,
@@ -73,18 +64,18 @@ at-light w = w .before .before
 at-requires-2 : tie.Need-at-requires-2
 at-requires-2 c κs =
     let w = c .before .before in
-    let s = entry (at-light w) .pre .2 .timed .sound in
+    let s = entry (at-light w) .pre .1 .timed .sound in
     omega (arith, c .if2 .taken, w .weigh-line .ensures .1 .few)
 
 unweighed-requires-2 : tie.Need-unweighed-requires-2
 unweighed-requires-2 c κs = search needs
 
 returns-2 : tie.Need-returns-2
-returns-2 c first second A =
+returns-2 c b A =
     let w = c .before .before .before .before in
     let e = c .unweighed2 .ensures in
     let v = w .weigh-line .ensures in
-    weighs-over A _ (low (at-light w) first second A) (w .before .if1 .left) (v .1) (v .2) (c .before .before .if2 .taken) _
+    weighs-over A _ (low (at-light w) b A) (w .before .if1 .left) (v .1) (v .2) (c .before .before .if2 .taken) _
     (ap (λ (r : Answer). r .number) e ∙ c .before .at2 .ensures .0, ap (λ (r : Answer). r .place) e ∙ c .before .at2 .ensures .1)
 
 done-requires : tie.Need-done-requires
@@ -93,14 +84,14 @@ done-requires c κs = search needs
 thousandths-requires : tie.Need-thousandths-requires
 thousandths-requires c κs =
     let w = c .before .before .before in
-    let T = entry (at-light w) .pre .2 .timed in
+    let T = entry (at-light w) .pre .1 .timed in
     (w .weigh-line .ensures .2 .small, omega (arith, T .hyper, hyperperiod-positive (T .sound)), omega (arith, T .hyper, T .short))
 
 returns-3 : tie.Need-returns-3
-returns-3 c first second A =
+returns-3 c b A =
     let w = c .before .before .before .before in
     let v = w .weigh-line .ensures in
-    weighs-done A _ (low (at-light w) first second A) (w .before .if1 .left) (v .1) (v .2) (c .before .before .if2 .left) _
+    weighs-done A _ (low (at-light w) b A) (w .before .if1 .left) (v .1) (v .2) (c .before .before .if2 .left) _
     (c .before .done .ensures) refl (c .thousandths .ensures)
 
 pub weigh-spec : {M : Type 1} → statement M
@@ -111,7 +102,6 @@ weigh-spec =
     at-requires
     unweighed-requires
     returns
-    add-weigh-line
     weigh-line-requires
     at-requires-2
     unweighed-requires-2

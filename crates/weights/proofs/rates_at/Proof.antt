@@ -35,6 +35,11 @@ element-copy-out-sums c = omega (arith, on-line c, c .before .before .loop .inv 
 slots-at-requires : tie.Need-slots-at-requires Inv-loop μ-loop
 slots-at-requires c κs = omega (arith, c .before .before .before .before .pre .0 .few)
 
+cast-sums : tie.Need-cast-sums Inv-loop μ-loop
+cast-sums c =
+    let u = c .before .before .before .before in
+    omega (arith, c .slots-at .ensures, u .before .pre .0 .small (u .loop .i) (omega arith))
+
 add-sums : tie.Need-add-sums Inv-loop μ-loop
 add-sums c =
     let d = c .before .before in
@@ -79,6 +84,7 @@ rates-at-spec =
     mul-sums
     element-copy-out-sums
     slots-at-requires
+    cast-sums
     add-sums
     mul-sums-2
     element-write-sums

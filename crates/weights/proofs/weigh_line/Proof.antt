@@ -9,7 +9,8 @@ use lib.Dec.{eqb}
 use Rattle.numbers.specs.Lists.{at}
 use Rattle.sets.specs.Walk.{line-size, endsAt}
 use Rattle.weights.specs.Weights.{SumsAt}
-use Rattle.weights.proofs.Line.{sums-there, Passing, passing-start, passing-room, passing-small, passing-load, passing-fits}
+use Rattle.weights.proofs.Line.{sums-small, sums-there}
+use Rattle.weights.proofs.Line.{Passing, passing-start, passing-room, passing-small, passing-load, passing-fits}
 use Rattle.weights.proofs.Line.{passing-next, passing-end}
 use Rattle.weights.proofs.weigh_line.Statement.{statement}
 use Rattle.weights.proofs.weigh_line.Tie as tie
@@ -69,11 +70,19 @@ mul-starting c = omega (arith, on-line c)
 array-read-starting : tie.Need-array-read-starting Inv-loop μ-loop
 array-read-starting c = omega (arith, on-line c, joins c .size)
 
+cast-starting : tie.Need-cast-starting Inv-loop μ-loop
+cast-starting c =
+    omega (arith, sums-small (joins c) (λ j m. entry c .pre .1 .small j m) _ (on-line c), entry c .pre .1 .few)
+
 mul-ending : tie.Need-mul-ending Inv-loop μ-loop
 mul-ending c = omega (arith, on-line c)
 
 array-read-ending : tie.Need-array-read-ending Inv-loop μ-loop
 array-read-ending c = omega (arith, on-line c, leaves c .size)
+
+cast-ending : tie.Need-cast-ending Inv-loop μ-loop
+cast-ending c =
+    omega (arith, sums-small (leaves c) (λ j m. entry c .pre .1 .small j m) _ (on-line c), entry c .pre .1 .few)
 
 closes-requires : tie.Need-closes-requires Inv-loop μ-loop
 closes-requires c κs = search needs
@@ -147,8 +156,10 @@ weigh-line-spec =
     loop-holds
     mul-starting
     array-read-starting
+    cast-starting
     mul-ending
     array-read-ending
+    cast-ending
     closes-requires
     weigh-set-requires
     goes-on-requires

@@ -17,9 +17,6 @@ array-read-out-2 c = search needs
 slice-write-out-2 : tie.Need-slice-write-out-2
 slice-write-out-2 c = simp length-set (omega arith)
 
-array-read-out-3 : tie.Need-array-read-out-3
-array-read-out-3 c = search needs
-
 slice-write-out-3 : tie.Need-slice-write-out-3
 slice-write-out-3 c = simp length-set (omega arith)
 
@@ -58,7 +55,6 @@ put-header-spec =
     slice-write-out
     array-read-out-2
     slice-write-out-2
-    array-read-out-3
     slice-write-out-3
     cast-out
     slice-write-out-4

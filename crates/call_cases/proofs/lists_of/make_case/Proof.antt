@@ -66,6 +66,9 @@ returns-3 c = search needs
 returns-4 : tie.Need-returns-4
 returns-4 c = search needs
 
+is-board-requires : tie.Need-is-board-requires
+is-board-requires c κs = search needs
+
 pub make-case-spec : {M : Type 1} → statement M
 make-case-spec =
     tie.close
@@ -76,6 +79,7 @@ make-case-spec =
     part-rest-end
     number-at-requires
     returns-2
+    is-board-requires
     mul-table-file
     sub-table-file
     part-table-file-start

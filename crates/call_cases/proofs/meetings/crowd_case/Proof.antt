@@ -57,11 +57,15 @@ returns-2 c = search needs
 returns-3 : tie.Need-returns-3
 returns-3 c = search needs
 
+is-board-requires : tie.Need-is-board-requires
+is-board-requires c κs = search needs
+
 pub crowd-case-spec : {M : Type 1} → statement M
 crowd-case-spec =
     tie.close
     (tie.spec
     returns
+    is-board-requires
     sub-table-file
     part-table-file-start
     part-table-file-end

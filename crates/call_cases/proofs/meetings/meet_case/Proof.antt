@@ -60,11 +60,15 @@ returns-2 c = search needs
 returns-3 : tie.Need-returns-3
 returns-3 c = search needs
 
+is-board-requires : tie.Need-is-board-requires
+is-board-requires c κs = search needs
+
 pub meet-case-spec : {M : Type 1} → statement M
 meet-case-spec =
     tie.close
     (tie.spec
     returns
+    is-board-requires
     sub-table-file
     part-table-file-start
     part-table-file-end

@@ -27,10 +27,14 @@ returns c = search needs
 returns-2 : tie.Need-returns-2
 returns-2 c = search needs
 
+is-board-requires : tie.Need-is-board-requires
+is-board-requires c κs = search needs
+
 pub judged-spec : {M : Type 1} → statement M
 judged-spec =
     tie.close
     (tie.spec
+    is-board-requires
     slice-aggregate-table-file
     table-file-requires
     array-share-prefix-file

@@ -36,7 +36,7 @@ returns-3 c =
 
 sums-of-requires : tie.Need-sums-of-requires
 sums-of-requires c κs =
-    let d = c .before .before .before .before .before .before .before .before in
+    let d = c .before .before .before .before .before .before .before in
     let S = seated (d .before .before .before) in (
       capped-small (d .denominator-of .ensures),
       live-passing (liveOf (start (d .before .before .before .before) .args .self)) (S .high) (S .place),
@@ -48,12 +48,13 @@ are-same-requires c κs = search needs
 returns-4 : tie.Need-returns-4
 returns-4 c =
     let s = c .before .before .before .before in
-    let e = s .before .before .before .before .before .before .before in
+    let e = s .before .before .before .before .before .before in
     let d = e .before .before in
-    sums-decide (start (d .before .before .before .before) .args .self) (d .denominator-of .ensures) (e .before .if2 .left) (
+    let live = start (d .before .before .before .before) .args .self in
+    sums-decide live (d .denominator-of .ensures) (e .before .if2 .left) (
     e .if3 .left) (seated (d .before .before .before))
     (s .sums-of .result)
-    (s .sums-of .ensures .1) (c .are-same .ensures)
+    (s .sums-of .ensures .1 (live .label)) (c .are-same .ensures)
 
 pub is-in-order-spec : {M : Type 1} → statement M
 is-in-order-spec =

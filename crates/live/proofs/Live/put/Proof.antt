@@ -1,5 +1,6 @@
 -- `Live::put` meets its contract.
 use mathlib.Core.Path.{refl}
+use mathlib.Core.List.{[]}
 use native.Mathlib.Omega.{arith}
 use borrow.Author.Needs.{needs}
 use Rattle.rules.specs.Live.{sumOver}
@@ -33,7 +34,7 @@ array-write-period c = search needs
 cast-first : tie.Need-cast-first
 cast-first c =
     let z = c .before .before .before .before .before .before in
-    omega (arith, new-seat-fits (z .args .self .elements) (z .args .row) (z .pre .1 .rows .high) (z .pre .2) .0)
+    omega (arith, new-seat-fits (z .args .self .elements) (z .args .entry) (z .pre .1 .rows .high) (z .pre .2) .0)
 
 array-write-first : tie.Need-array-write-first
 array-write-first c = search needs
@@ -41,7 +42,7 @@ array-write-first c = search needs
 cast-second : tie.Need-cast-second
 cast-second c =
     let z = c .before .before .before .before .before .before .before in
-    omega (arith, new-seat-fits (z .args .self .elements) (z .args .row) (z .pre .1 .rows .high) (z .pre .2) .1)
+    omega (arith, new-seat-fits (z .args .self .elements) (z .args .entry) (z .pre .1 .rows .high) (z .pre .2) .1)
 
 array-write-second : tie.Need-array-write-second
 array-write-second c = search needs
@@ -55,20 +56,20 @@ array-write-label c = search needs
 denominator-of-requires : tie.Need-denominator-of-requires
 denominator-of-requires c κs =
     let z = c .before .before .before .before .before .before .before .before in
-    passing-periods _ (put-passing (z .args .self) (z .args .k) (z .args .row) (sized z) (z .pre .0) (z .pre .1 .rows) (z .pre .2))
+    passing-periods _ (put-passing (z .args .self) (z .args .k) (z .args .entry) (sized z) (z .pre .0) (z .pre .1 .rows) (z .pre .2))
 
 sums-of-requires : tie.Need-sums-of-requires
 sums-of-requires c κs =
-    let d = c .before .before .before .before .before in
+    let d = c .before .before .before .before in
     let z = d .before .before .before .before .before .before .before .before .before in (
       omega (arith, capped-small (d .denominator-of .ensures), z .pre .1 .short),
-      put-passing (z .args .self) (z .args .k) (z .args .row) (sized z) (z .pre .0) (z .pre .1 .rows) (z .pre .2),
+      put-passing (z .args .self) (z .args .k) (z .args .entry) (sized z) (z .pre .0) (z .pre .1 .rows) (z .pre .2),
     )
 
 returns : tie.Need-returns
 unfolding sumOver
 returns c =
-    let d = c .before .before .before .before .before .before in
+    let d = c .before .before .before .before .before in
     record {
       elements = refl;
       cost = refl;
@@ -77,7 +78,7 @@ returns c =
       second = refl;
       label = refl;
       denominator = d .denominator-of .ensures;
-      sums = c .sums-of .ensures .1;
+      sums = c .sums-of .ensures .1 [];
       size = c .sums-of .ensures .0;
     }
 

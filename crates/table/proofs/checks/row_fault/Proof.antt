@@ -1,8 +1,11 @@
 -- `table::checks::row_fault` meets its contract.
 use mathlib.Core.Path.{refl}
+use mathlib.Core.List.{[], _∷_}
+use Prim.Native.Nat.{ℕ}
+use native.Mathlib.Omega.{arith}
 use mathlib.Core.Logic.{inl, inr}
 use borrow.Author.Needs.{needs}
-use Rattle.rules.specs.Refusals.{wrong-ends, wrong-period}
+use Rattle.rules.specs.Refusals.{Answers, wrong-ends, wrong-period, wrong-way, faults}
 use Rattle.rules.proofs.Answers.{applied, passed, done}
 use Rattle.table.specs.Rows.{single}
 use Rattle.table.proofs.Faults.{ends-right}
@@ -13,17 +16,17 @@ use Rattle.table.proofs.checks.row_fault.Tie as tie
 -- past the tests of the ends, and past that of the period
 ends : (z : tie.Else3)
     → let a = z .before .before .before .before .before .before .before .before .args in
-    wrong-ends (single (a .elements) (a .row)) 0 .applies → ⊥
+    wrong-ends (single (a .elements) (a .rings) (a .row)) 0 .applies → ⊥
 ends z =
     let a = z .before .before .before .before .before .before .before .before .args in
-    ends-right (single (a .elements) (a .row)) 0
+    ends-right (single (a .elements) (a .rings) (a .row)) 0
     (granted (z .before .before .before .before .before .before .within .ensures) (z .before .before .before .before .before .if1 .left))
     (granted (z .before .before .before .within2 .ensures) (z .before .before .if2 .left))
     (z .if3 .left)
 
 period : (z : tie.Else4)
     → let a = z .before .before .before .before .before .before .before .before .before .before .before .args in
-    wrong-period (single (a .elements) (a .row)) 0 .applies → ⊥
+    wrong-period (single (a .elements) (a .rings) (a .row)) 0 .applies → ⊥
 period z h = h (granted (z .before .within3 .ensures) (z .if4 .left))
 
 cast-within : tie.Need-cast-within
@@ -73,11 +76,22 @@ returns-5 c =
     (passed _ _ 9 0 (period (c .before .before .before .before))
     (applied _ _ 9 0 (denied (c .before .within4 .ensures) (c .if5 .taken)) refl refl))
 
+-- past the test of the cost
+cost : (n : ℕ) (z : tie.Else5)
+    → let a =
+    z .before .before .before .before .before .before .before .before .before .before .before .before .before .before .before .args in
+    Answers (wrong-way (single (a .elements) (a .rings) (a .row)) 0 ∷ []) n 0
+    → Answers (faults (single (a .elements) (a .rings) (a .row)) 0) n 0
+cost n z r =
+    passed _ _ n 0 (ends (z .before .before .before .before .before .before .before))
+    (passed _ _ n 0 (period (z .before .before .before .before))
+    (passed _ _ n 0 (λ h. h (granted (z .before .within4 .ensures) (z .if5 .left))) r))
+
 returns-6 : tie.Need-returns-6
-returns-6 c =
-    passed _ _ 0 0 (ends (c .before .before .before .before .before .before .before))
-    (passed _ _ 0 0 (period (c .before .before .before .before))
-    (passed _ _ 0 0 (λ h. h (granted (c .before .within4 .ensures) (c .if5 .left))) done))
+returns-6 c = cost 26 (c .before .before) (applied _ _ 26 0 (c .if6 .taken) refl refl)
+
+returns-7 : tie.Need-returns-7
+returns-7 c = cost 0 (c .before .before) (passed _ _ 0 0 (λ h. let z : ⊥ = omega (arith, c .if6 .left, h) in z) done)
 
 pub row-fault-spec : {M : Type 1} → statement M
 row-fault-spec =
@@ -97,4 +111,5 @@ row-fault-spec =
     cast-within-5
     within-requires-4
     returns-5
-    returns-6)
+    returns-6
+    returns-7)
