@@ -39,6 +39,14 @@ uint32_t ring_plan_limited(const uint8_t *file, size_t file_bytes, uint32_t ours
     return plain_plan_limited(file, file_bytes, ours, theirs, plan, plan_words);
 }
 
+uint32_t ring_verdict_relayed(const uint8_t *file, size_t file_bytes, uint32_t relay) {
+    return plain_verdict_relayed(file, file_bytes, relay);
+}
+
+uint32_t ring_plan_relayed(const uint8_t *file, size_t file_bytes, uint32_t relay, uint64_t *plan, size_t plan_words) {
+    return plain_plan_relayed(file, file_bytes, relay, plan, plan_words);
+}
+
 uint32_t ring_raise(const uint8_t *file, size_t file_bytes, uint8_t *out, size_t room) {
     return plain_raise(file, file_bytes, out, room);
 }

@@ -93,7 +93,8 @@ static void cut_time(struct analysis *a) {
     }
 }
 
-static uint32_t analyse(const uint8_t *f, size_t length, struct analysis *a) {
+/* 1 to 9, 26 and 18 */
+static uint32_t decode(const uint8_t *f, size_t length, struct analysis *a) {
     if (length < 7) return refuse(1, 0);
     if (f[0] != 'R' || f[1] != 'B' || (f[2] != 'T' && f[2] != '2')) return refuse(2, 0);
     a->rings = f[2] == '2' ? 2 : 1;
@@ -124,6 +125,11 @@ static uint32_t analyse(const uint8_t *f, size_t length, struct analysis *a) {
         for (int j = 0; j < i; j++)
             if (a->from[i] == a->from[j] && a->to[i] == a->to[j] && a->period[i] == a->period[j] && a->way[i] == a->way[j])
                 return refuse(18, (unsigned)i);
+    return 0;
+}
+
+/* 10 to 14 */
+static uint32_t judge(struct analysis *a) {
     for (int way = 0; way < a->rings; way++) {
         a->cut[way] = find_cut(a, way);
         if (!a->cut[way]) return refuse(10, (unsigned)way);
@@ -154,6 +160,11 @@ static uint32_t analyse(const uint8_t *f, size_t length, struct analysis *a) {
         if (equal ? load > a->hyper : load * a->interval > (a->interval - 1) * a->hyper) return refuse(14, (unsigned)k);
     }
     return 0;
+}
+
+static uint32_t analyse(const uint8_t *f, size_t length, struct analysis *a) {
+    uint32_t answer = decode(f, length, a);
+    return answer ? answer : judge(a);
 }
 
 /* ---- loads: rows and sets are arcs of a circulation between the sets; each row in turn is raised as far as the others allow */
@@ -346,31 +357,35 @@ uint32_t plain_sets(const uint8_t *file, size_t length, uint64_t *sets, size_t r
     return 0;
 }
 
-uint32_t plain_plan(const uint8_t *file, size_t length, uint64_t *plan, size_t words) {
-    struct analysis a;
+/* The whole plan of an admitted table. */
+static uint32_t plan_of(const struct analysis *a, uint64_t *plan, size_t words) {
     struct net n;
-    uint32_t answer = analyse(file, length, &a);
-    if (answer) return answer;
-    if (words < (size_t)a.hyper) return refuse(17, 0);
-    n.rows = a.rows;
-    n.arcs = a.rows + a.sets;
-    n.places = a.sets + 1;
-    for (int i = 0; i < a.rows; i++) n.tail[i] = a.low[i], n.head[i] = a.high[i] + 1;
-    for (int k = 0; k < a.sets; k++) n.tail[a.rows + k] = k + 1, n.head[a.rows + k] = k;
+    if (words < (size_t)a->hyper) return refuse(17, 0);
+    n.rows = a->rows;
+    n.arcs = a->rows + a->sets;
+    n.places = a->sets + 1;
+    for (int i = 0; i < a->rows; i++) n.tail[i] = a->low[i], n.head[i] = a->high[i] + 1;
+    for (int k = 0; k < a->sets; k++) n.tail[a->rows + k] = k + 1, n.head[a->rows + k] = k;
     int64_t had[ROWS] = {0}, load[ROWS];
     int multiple[ROWS]; /* of each different period, the next past the slot reached */
-    for (int k = 0; k < a.periods; k++) multiple[k] = a.distinct[k];
-    for (int at = 0, end; at < a.hyper; at = end) {
+    for (int k = 0; k < a->periods; k++) multiple[k] = a->distinct[k];
+    for (int at = 0, end; at < a->hyper; at = end) {
         end = multiple[0];
-        for (int k = 1; k < a.periods; k++)
+        for (int k = 1; k < a->periods; k++)
             if (multiple[k] < end) end = multiple[k];
-        for (int k = 0; k < a.periods; k++)
-            if (multiple[k] == end) multiple[k] += a.distinct[k];
-        choose_loads(&a, &n, end, had, load);
-        fill_slots(&a, end - at, load, plan + at);
-        for (int i = 0; i < a.rows; i++) had[i] += load[i];
+        for (int k = 0; k < a->periods; k++)
+            if (multiple[k] == end) multiple[k] += a->distinct[k];
+        choose_loads(a, &n, end, had, load);
+        fill_slots(a, end - at, load, plan + at);
+        for (int i = 0; i < a->rows; i++) had[i] += load[i];
     }
     return 0;
+}
+
+uint32_t plain_plan(const uint8_t *file, size_t length, uint64_t *plan, size_t words) {
+    struct analysis a;
+    uint32_t answer = analyse(file, length, &a);
+    return answer ? answer : plan_of(&a, plan, words);
 }
 
 /* ---- two parties: rows with a label below 32,768 are ours, the others the second maker's */
@@ -421,4 +436,51 @@ uint32_t plain_raise(const uint8_t *file, size_t length, uint8_t *out, size_t ro
         if (a.cost[i] < least) r[0] = (uint8_t)(least % 256), r[1] = (uint8_t)(least / 256);
     }
     return 0;
+}
+
+/* ---- a relay */
+
+/* Puts a row at the end, with these two ends. */
+static void put_row(struct analysis *a, const struct analysis *given, int i, int from, int to) {
+    int k = a->rows++;
+    a->cost[k] = given->cost[i];
+    a->period[k] = given->period[i];
+    a->way[k] = 0;
+    a->from[k] = from;
+    a->to[k] = to;
+}
+
+/* The table with each row through the relay parted in two, and its verdict. */
+static uint32_t analyse_relayed(const uint8_t *f, size_t length, uint32_t relay, struct analysis *a) {
+    struct analysis given;
+    if (length >= 7 && f[2] != 'T') return refuse(2, 0);
+    uint32_t answer = decode(f, length, &given);
+    if (answer) return answer;
+    if (relay < 1 || relay > (uint32_t)given.elements) return refuse(27, 0);
+    int through[ROWS], rows = given.rows, e = (int)relay;
+    for (int i = 0; i < given.rows; i++) {
+        int on = steps(given.elements, given.from[i], e);
+        through[i] = 0 < on && on < steps(given.elements, given.from[i], given.to[i]);
+        rows += through[i];
+    }
+    if (rows > ROWS) return refuse(28, 0);
+    a->rings = 1;
+    a->elements = given.elements;
+    a->rows = 0;
+    for (int i = 0; i < given.rows; i++) {
+        put_row(a, &given, i, given.from[i], through[i] ? e : given.to[i]);
+        if (through[i]) put_row(a, &given, i, e, given.to[i]);
+    }
+    return judge(a);
+}
+
+uint32_t plain_verdict_relayed(const uint8_t *file, size_t length, uint32_t relay) {
+    struct analysis a;
+    return analyse_relayed(file, length, relay, &a);
+}
+
+uint32_t plain_plan_relayed(const uint8_t *file, size_t length, uint32_t relay, uint64_t *plan, size_t words) {
+    struct analysis a;
+    uint32_t answer = analyse_relayed(file, length, relay, &a);
+    return answer ? answer : plan_of(&a, plan, words);
 }

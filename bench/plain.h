@@ -18,6 +18,8 @@ uint32_t plain_sets(const uint8_t *file, size_t length, uint64_t *sets, size_t r
 uint32_t plain_plan(const uint8_t *file, size_t length, uint64_t *plan, size_t words);
 uint32_t plain_verdict_limited(const uint8_t *file, size_t length, uint32_t ours, uint32_t theirs);
 uint32_t plain_plan_limited(const uint8_t *file, size_t length, uint32_t ours, uint32_t theirs, uint64_t *plan, size_t words);
+uint32_t plain_verdict_relayed(const uint8_t *file, size_t length, uint32_t relay);
+uint32_t plain_plan_relayed(const uint8_t *file, size_t length, uint32_t relay, uint64_t *plan, size_t words);
 uint32_t plain_raise(const uint8_t *file, size_t length, uint8_t *out, size_t room);
 
 uint32_t words_verdict(const uint8_t *file, size_t length);

@@ -18,7 +18,7 @@
 
 /* The version of these functions. The second number grows where something is added, the first where something changes. */
 #define RINGPLAN_VERSION_MAJOR 6
-#define RINGPLAN_VERSION_MINOR 0
+#define RINGPLAN_VERSION_MINOR 1
 
 #ifdef __cplusplus
 extern "C" {
@@ -52,6 +52,8 @@ enum {
     RING_NO_FREE_PLACE = 24,    /* all 64 places of a live table hold rows (ringlive.h) */
     RING_NO_ROW_THERE = 25,     /* a place of a live table is above 63 or holds no row (ringlive.h) */
     RING_WRONG_WAY = 26,        /* a direction is neither 0, clockwise, nor 1, counterclockwise; place: the row */
+    RING_WRONG_RELAY = 27,      /* the relay is no element of the ring */
+    RING_MANY_ROWS = 28,        /* with the rows through the relay split, the table has more than 64 rows */
     RING_WRONG_ELEMENT = 29,    /* the ring has no such element */
     RING_WRONG_LIST = 30,       /* not given by these functions: a list file's element is not 1 to 32, or its hyperperiod not 1 to 4096 */
     RING_WRONG_ENTRY = 31,      /* not given by these functions: a list file's slot, row, way or order is wrong; place: the entry */
@@ -114,6 +116,25 @@ uint32_t ring_verdict_limited(const uint8_t *file, size_t file_bytes, uint32_t o
 
 /* The whole plan of a table that is admitted within the limits: the very words of ring_plan. Gives 0 to 14, 17, 18 and 21 to 23. */
 uint32_t ring_plan_limited(const uint8_t *file, size_t file_bytes, uint32_t ours, uint32_t theirs, uint64_t *plan, size_t plan_words);
+
+/* Verdict and whole plan of one ring alone with a relay, for tables that get 10. Each row that goes through element `relay`, which then is
+ * neither of its ends, becomes two rows of its cost and period, first to relay and relay to second; the others stay. The split rows stand
+ * where the original stood, so that later rows move on, and bits of the plan and places of 13 and 14 count split rows; 18 reads the table
+ * as it is given. No row goes through the relay then, so 10 does not occur.
+ *
+ * The second half of a row carries the job of the period before, which the relay has stored whole: in the very first period its slots
+ * carry no data, though its bits stand in the plan. A job's data comes to the relay within one period of its arrival, and to the row's
+ * second end within two. The relay holds at most two jobs of a row at a time, whole or in part.
+ *
+ * The hyperperiod h is the least common multiple of the periods, as without a relay. ring_values has it only of a table with a cut; room
+ * for RING_PLAN_SLOTS words is always enough.
+ *
+ * Whether the bus can carry the split table. Gives 0 to 9, 11, 13, 14, 18, 27 and 28. */
+uint32_t ring_verdict_relayed(const uint8_t *file, size_t file_bytes, uint32_t relay);
+
+/* The whole plan of the split table where it is admitted: bit i is set if split row i moves. ring_element_list does not read such a plan.
+ * Gives 0 to 9, 11, 13, 14, 17, 18, 27 and 28. */
+uint32_t ring_plan_relayed(const uint8_t *file, size_t file_bytes, uint32_t relay, uint64_t *plan, size_t plan_words);
 
 /* The table file of one ring alone, with the cost of each row that 13 could name, a light one, raised to the least that passes, and
  * nothing else changed. It has as many bytes as the file, and its version and labels; a file without a light row comes back as it is. The

@@ -1,6 +1,6 @@
 /* Compares the library over the C boundary with the oracle, and its words with those of the two plain C planners, on random tables: good,
  * at the bound, just past it and damaged; with limits of the two parties, and with other rows of one party; what it makes of their light
- * rows; and boards of two rings, mirrored, and with other rows on one of the rings.
+ * rows; with relays; and boards of two rings, mirrored, and with other rows on one of the rings.
  *
  *     compare TABLES SEED          all kinds of tables
  *     compare TABLES SEED routes   tables of many rows with long routes, well loaded: there the choice of loads is hardest
@@ -303,6 +303,7 @@ enum { LAST_NUMBER = 32 };
 static unsigned seen[LAST_NUMBER + 1];
 static unsigned long admitted, labelled, slots, exact, uneven, newly, within, alone[2][2];
 static unsigned long raised, raised_labelled, raised_admitted;
+static unsigned long relayed[2], rescued, two_held; /* with a relay that splits no row, and with one that does */
 static unsigned long boards[3], mirrors, apart[MAX_RINGS], uncut[MAX_RINGS], second_over; /* boards by busy rings: first, second, both */
 
 static void fail(const struct file *f, const char *what) {
@@ -427,6 +428,44 @@ static void compare_limits(const struct file *given, const uint8_t *file, const 
         if (answer) continue;
         if (memcmp(plan, words, v->hyper * sizeof *plan)) fail(given, "a plan with limits has other words");
         within++;
+    }
+}
+
+/* Verdict and plan with a relay: each element, and one before and one past them, or some of them. `plan` of the file without is `words`
+ * where it has one. */
+static void compare_relays(const struct file *given, const uint8_t *file, const struct verdict *v, const uint64_t *words) {
+    static struct verdict split;
+    static struct table table;
+    static uint64_t other[MAX_SLOTS];
+    oracle_given(given->byte, given->length, &table);
+    const unsigned most = table.elements + 1;
+    for (unsigned n = 0; n < 3; n++) {
+        uint32_t relay = below(20) ? below(most + 1) : UINT32_MAX - below(2);
+        oracle_relayed(given->byte, given->length, relay, &split);
+        uint32_t answer = ring_verdict_relayed(file, given->length, relay), wanted = 256 * split.number + split.place;
+        if (answer != wanted) {
+            printf("relay %u: library %u, %u; oracle %u, %u\n", relay, answer / 256, answer % 256, split.number, split.place);
+            fail(given, "verdicts with a relay differ");
+        }
+        seen[split.number] += split.number == 27 || split.number == 28;
+        unsigned room = wanted ? below(MAX_SLOTS + 1) : below(4) ? between(split.hyper, MAX_SLOTS) : below(split.hyper);
+        uint64_t *plan = lend(room);
+        if (!wanted && room < split.hyper) wanted = 256 * RING_SHORT_OUTPUT;
+        if (ring_plan_relayed(file, given->length, relay, plan, room) != wanted) fail(given, "a plan with a relay is answered wrongly");
+        if (!unchanged_from(wanted ? 0 : split.hyper, plan, room)) fail(given, "a plan with a relay changed memory that is not its own");
+        if (wanted) continue;
+        const char *why = "";
+        if (!oracle_keeps(&split, plan, &why)) fail(given, why);
+        if (plain_plan_relayed(file, given->length, relay, other, split.hyper) || memcmp(other, plan, split.hyper * sizeof *other))
+            fail(given, "plain.c has another plan with a relay");
+        unsigned held = oracle_held(&table, relay, plan, split.hyper, &why);
+        if (!held) fail(given, why);
+        if (held > 2) fail(given, "the relay holds more than two jobs of a row");
+        relayed[table.rows != split.table.rows]++;
+        two_held += held == 2;
+        rescued += v->number == 10;
+        if (table.rows == split.table.rows && (!words || memcmp(plan, words, split.hyper * sizeof *plan)))
+            fail(given, "a relay that no row goes through changes the plan");
     }
 }
 
@@ -772,6 +811,7 @@ static void compare(const struct file *given) {
     if (v.number) {
         if (!unchanged_from(0, plan, room)) fail(given, "a refusal changed lent memory");
         compare_limits(given, file, &v, NULL);
+        compare_relays(given, file, &v, NULL);
         for (unsigned n = 0; n < 4 && (v.number == 13 || v.number == 14); n++) compare_alone(given, &v);
         return;
     }
@@ -803,13 +843,14 @@ static void compare(const struct file *given) {
         exact++;
     }
     compare_limits(given, file, &v, plain);
+    compare_relays(given, file, &v, plain);
     for (unsigned n = 0; n < 4; n++) compare_alone(given, &v);
     if (v.table.rings == 2) compare_board(&v, plain);
 }
 
-/* 12 is retired, 15 and 16 are the planner's, and 20, 24, 25, 27, 28, 30 and 31 are given by none of the functions. */
+/* 12 is retired, 15 and 16 are the planner's, and 20, 24, 25, 30 and 31 are given by none of the functions. */
 static int given_by_some(unsigned n) {
-    return (n <= 19 && n != 12 && n != 15 && n != 16) || (21 <= n && n <= 23) || n == 26 || n == 29 || n == 32;
+    return (n <= 19 && n != 12 && n != 15 && n != 16) || (21 <= n && n <= 23) || (26 <= n && n <= 29) || n == 32;
 }
 
 int main(int argc, char **argv) {
@@ -824,6 +865,7 @@ int main(int argc, char **argv) {
         || ring_verdict_limited(NULL, 0, 0, 1000) != 256 * RING_SHORT_FILE
         || ring_verdict_limited(NULL, 0, 0, 1001) != 256 * RING_WRONG_LIMIT
         || ring_plan_limited(NULL, 0, 1000, 0, NULL, 0) != 256 * RING_SHORT_FILE
+        || ring_verdict_relayed(NULL, 0, 1) != 256 * RING_SHORT_FILE || ring_plan_relayed(NULL, 0, 0, NULL, 0) != 256 * RING_SHORT_FILE
         || ring_raise(NULL, 0, NULL, 0) != 256 * RING_SHORT_FILE) {
         printf("compare: a file of no bytes is answered wrongly\n");
         return 1;
@@ -831,7 +873,7 @@ int main(int argc, char **argv) {
     for (unsigned long n = 0; n < tables; n++) {
         struct table t;
         struct file f = {.length = 0};
-        if (routes) long_routes(&t);
+        if (routes || below(40) == 0) long_routes(&t); /* some of them, split at a relay, have too many rows */
         else if (below(5) == 0) uneven_table(&t);
         else random_table(&t);
         if (!routes && below(3) == 0) on_board(&t);
@@ -857,10 +899,12 @@ int main(int argc, char **argv) {
     printf("greedy was not enough in %lu of %lu intervals\n", words_settled, words_intervals);
     printf("%lu with light rows raised, %lu of them of version 2, %lu admitted then and %lu refused with 14\n", raised, raised_labelled,
         raised_admitted, raised - raised_admitted);
+    printf("%lu planned with a relay that splits rows and %lu with one that splits none, %lu that get 10 without; two jobs of a row held "
+           "in %lu\n", relayed[1], relayed[0], rescued, two_held);
     if (routes) return 0;
     if (!labelled || !uneven || !newly || !within || !alone[0][0] || !alone[0][1] || !alone[1][0] || !alone[1][1] || !raised_labelled
         || !raised_admitted || raised == raised_admitted || !boards[0] || !boards[1] || !boards[2] || !mirrors || !apart[0] || !apart[1]
-        || !uncut[0] || !uncut[1] || !second_over) {
+        || !uncut[0] || !uncut[1] || !second_over || !relayed[0] || !relayed[1] || !rescued || !two_held) {
         printf("compare: no such table was seen\n");
         return 1;
     }

@@ -237,7 +237,8 @@ int oracle_before(const struct verdict *v) {
     return 1;
 }
 
-void oracle_verdict(const uint8_t *f, size_t length, struct verdict *v) {
+/* 1 to 9, 26 and 18: the table as it is given. */
+static void read_table(const uint8_t *f, size_t length, struct verdict *v) {
     memset(v, 0, sizeof *v);
     struct table *t = &v->table;
     if (length < 7) { refuse(v, 1, 0); return; }
@@ -273,6 +274,11 @@ void oracle_verdict(const uint8_t *f, size_t length, struct verdict *v) {
             const struct row *a = &t->row[i], *b = &t->row[j];
             if (a->first == b->first && a->second == b->second && a->period == b->period && a->way == b->way) { refuse(v, 18, i); return; }
         }
+}
+
+/* 10 to 14, of a table that has passed those. */
+static void judge_table(struct verdict *v) {
+    const struct table *t = &v->table;
     for (unsigned way = 0; way < t->rings; way++) {
         v->cut[way] = cut_of(t, way);
         if (!v->cut[way]) { refuse(v, 10, way); return; }
@@ -297,6 +303,81 @@ void oracle_verdict(const uint8_t *f, size_t length, struct verdict *v) {
         if (load > largest) largest = load;
     }
     v->load = (unsigned)((1000 * largest + h - 1) / h);
+}
+
+void oracle_verdict(const uint8_t *f, size_t length, struct verdict *v) {
+    read_table(f, length, v);
+    if (!v->number) judge_table(v);
+}
+
+/* ---- a relay */
+
+void oracle_given(const uint8_t *f, size_t length, struct table *t) {
+    static struct verdict v;
+    read_table(f, length, &v);
+    *t = v.table;
+}
+
+void oracle_relayed(const uint8_t *f, size_t length, uint32_t relay, struct verdict *v) {
+    read_table(f, length, v);
+    if (v->table.rings == 2) { refuse(v, 2, 0); return; }
+    if (v->number) return;
+    const struct table given = v->table;
+    struct table *t = &v->table;
+    if (relay < 1 || relay > given.elements) { refuse(v, 27, 0); return; }
+    t->rows = 0;
+    for (unsigned i = 0; i < given.rows; i++) {
+        unsigned parts = goes_through(&given, i, relay) ? 2 : 1;
+        if (t->rows + parts > MAX_ROWS) { refuse(v, 28, 0); return; }
+        for (unsigned part = 0; part < parts; part++) {
+            struct row *r = &t->row[t->rows++];
+            *r = given.row[i];
+            if (part) r->first = relay;
+            else if (parts == 2) r->second = relay;
+        }
+    }
+    judge_table(v);
+    if (v->number == 10) {
+        fprintf(stderr, "oracle: a table split at a relay has no cut\n");
+        exit(1);
+    }
+}
+
+/* Follows the data of one row through the relay, slot by slot: which job it is of, whether that job is stored whole when it leaves, and
+ * that it leaves in the period after its own. Returns how many jobs are there at most, or 0 where something is amiss. */
+static unsigned follow(const struct row *r, const uint64_t *plan, unsigned hyper, unsigned half, const char **why) {
+    unsigned long come = 0, gone = 0;
+    unsigned most = 0;
+    for (unsigned s = 0; s < 3 * hyper + 3 * r->period; s++) {
+        uint64_t word = plan[s % hyper];
+        unsigned long stored = come / r->cost;
+        if (has(word, half)) {
+            if (come / r->cost != s / r->period) { *why = "a job comes to the relay outside its period"; return 0; }
+            come++;
+        }
+        unsigned there = (unsigned)((come + r->cost - 1) / r->cost - gone / r->cost);
+        if (there > most) most = there;
+        if (has(word, half + 1) && s >= r->period) {
+            if (gone / r->cost >= stored) { *why = "a job leaves the relay before it is stored whole"; return 0; }
+            if (gone / r->cost + 1 != s / r->period) { *why = "a job leaves the relay outside the period after its own"; return 0; }
+            gone++;
+        }
+    }
+    return most;
+}
+
+unsigned oracle_held(const struct table *given, uint32_t relay, const uint64_t *plan, unsigned hyper, const char **why) {
+    unsigned most = 1, part = 0;
+    for (unsigned i = 0; i < given->rows; i++) {
+        int two = goes_through(given, i, relay);
+        if (two) {
+            unsigned held = follow(&given->row[i], plan, hyper, part, why);
+            if (!held) return 0;
+            if (held > most) most = held;
+        }
+        part += two ? 2 : 1;
+    }
+    return most;
 }
 
 /* ---- two parties */

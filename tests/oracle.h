@@ -31,6 +31,16 @@ struct verdict {
 /* The verdict on a file, with all that it finds on the way. */
 void oracle_verdict(const uint8_t *file, size_t length, struct verdict *v);
 
+/* The same with a relay: the table that is found is the split one, with the first half of a row before its second. */
+void oracle_relayed(const uint8_t *file, size_t length, uint32_t relay, struct verdict *v);
+
+/* The table of a file as it is given; none of it where 1 to 9, 26 or 18 refuses it, but how many rings it has. */
+void oracle_given(const uint8_t *file, size_t length, struct table *t);
+
+/* How many jobs of one row the relay holds at once at most, where a plan of the split table is repeated, at least 1; 0 where some row's data
+ * does not go through it as promised, and `why` then says what is wrong. `given` is the table before it was split. */
+unsigned oracle_held(const struct table *given, uint32_t relay, const uint64_t *plan, unsigned hyper, const char **why);
+
 struct answer {
     unsigned number, place;
 };

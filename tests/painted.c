@@ -9,14 +9,14 @@
 #include <string.h>
 #include <ucontext.h>
 
-enum { ROOM = 1 << 18, MARK = 0xa5, FUNCTIONS = 10 };
+enum { ROOM = 1 << 18, MARK = 0xa5, FUNCTIONS = 12 };
 
 static uint8_t stack[ROOM], file[RING_FILE_BYTES + 1], raised[RING_FILE_BYTES], list[RING_LIST_BYTES];
 static uint64_t plan[RING_PLAN_SLOTS], sets[RING_MOST_SETS];
 static uint32_t values[RING_VALUES];
 static const char *const names[FUNCTIONS] = {
-    "ring_plan", "ring_plain_plan", "ring_plan_limited", "ring_raise", "ring_sets", "ring_shared", "ring_values", "ring_verdict",
-    "ring_verdict_limited", "ring_element_list"};
+    "ring_plan", "ring_plain_plan", "ring_plan_limited", "ring_plan_relayed", "ring_raise", "ring_sets", "ring_shared", "ring_values",
+    "ring_verdict", "ring_verdict_limited", "ring_verdict_relayed", "ring_element_list"};
 static ucontext_t here, there;
 static size_t bytes;
 static unsigned which;
@@ -29,12 +29,14 @@ static void call(void) {
     case 0: ring_plan(file, bytes, plan, RING_PLAN_SLOTS); break;
     case 1: ring_plain_plan(file, bytes, plan, RING_PLAN_SLOTS); break;
     case 2: ring_plan_limited(file, bytes, 1000, 1000, plan, RING_PLAN_SLOTS); break;
-    case 3: ring_raise(file, bytes, raised, sizeof raised); break;
-    case 4: ring_sets(file, bytes, sets, RING_MOST_SETS); break;
-    case 5: ring_shared(file, bytes, 0, 0, values); break;
-    case 6: ring_values(file, bytes, values, RING_VALUES); break;
-    case 7: ring_verdict(file, bytes); break;
-    case 8: ring_verdict_limited(file, bytes, 1000, 1000); break;
+    case 3: ring_plan_relayed(file, bytes, 1, plan, RING_PLAN_SLOTS); break;
+    case 4: ring_raise(file, bytes, raised, sizeof raised); break;
+    case 5: ring_sets(file, bytes, sets, RING_MOST_SETS); break;
+    case 6: ring_shared(file, bytes, 0, 0, values); break;
+    case 7: ring_values(file, bytes, values, RING_VALUES); break;
+    case 8: ring_verdict(file, bytes); break;
+    case 9: ring_verdict_limited(file, bytes, 1000, 1000); break;
+    case 10: ring_verdict_relayed(file, bytes, 1); break;
     default: ring_element_list(file, bytes, plan, RING_PLAN_SLOTS, 1, list, RING_LIST_BYTES); break;
     }
 }

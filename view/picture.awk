@@ -25,7 +25,7 @@ function colour(i,    hue, light, reach) {
 }
 
 function about(i) {
-    return "row " i ": " cost[i] " of " period[i] " slots, " first[i] " to " second[i] direction(i)
+    return "row " i ": " cost[i] " of " period[i] " slots, " first[i] " to " second[i] direction(i) as_given(i)
 }
 
 function x_of(s) {

@@ -1,6 +1,6 @@
 # Why a table is refused, in its own numbers: what was found, what would pass. Reads the file's size, its first bytes and its rows as far as
 # they are there, and then the verdict line; beside 13 also the lines of the program that raises light rows. Limits of the two parties, where
-# there are some, are in `ours` and `theirs`.
+# there are some, are in `ours` and `theirs`, a relay is in `relay`.
 $1 == "bytes" { bytes = $2 }
 $1 == "raise" { least[$2] = $4 }
 $1 == "head" { head = $2 " " $3 " " $4; version = $5 + 256 * $6; said = $8 }
@@ -49,14 +49,28 @@ function on_pasted(i,    j) {
             return ends_of(i) " with a period of " period[i] " slots, and so does row " j ": take one out, or give its cost to the other"
 }
 
-# The rows of ring d that go through each element.
-function on_cut(d,    e, i, line, lines, ring) {
+# The elements that, as a relay, split the fewest rows, where `parted` has how many rows each splits.
+function on_relay(parted,    e, few, list) {
+    few = rows
+    for (e = 1; e <= elements; e++) if (parted[e] < few) few = parted[e]
+    for (e = 1; e <= elements; e++) if (parted[e] == few) list = list (list == "" ? "" : ", ") e
+    return "\na relay may help, which splits the rows through it: ./plan --relay E TABLE; element" \
+        (list ~ /,/ ? "s " list " split" : " " list " splits") " the fewest, " few
+}
+
+# The rows of ring d that go through each element. A relay is for one ring alone.
+function on_cut(d,    e, i, line, lines, ring, parted) {
     for (e = 1; e <= elements; e++) {
         line = ""
-        for (i = 0; i < rows; i++) if (way[i] == d && through(i, e)) line = line (line == "" ? "" : ", ") i
+        parted[e] = 0
+        for (i = 0; i < rows; i++)
+            if (way[i] == d && through(i, e)) {
+                line = line (line == "" ? "" : ", ") i
+                parted[e]++
+            }
         lines = lines "\nthrough element " e ": row" (line ~ /,/ ? "s " : " ") line
     }
-    if (rings < 2) return "a table needs an element that no row goes through, between its ends" lines
+    if (rings < 2) return "a table needs an element that no row goes through, between its ends" lines on_relay(parted)
     ring = d ? "counterclockwise" : "clockwise"
     return "the " ring " ring needs an element that none of its rows goes through, between its ends" lines
 }
@@ -72,16 +86,44 @@ function on_hyper(    i, h, list) {
     return "the periods " list " have the least common multiple " h "; at most 4096 passes"
 }
 
-# Each light row, and the tool that raises them; it takes one ring alone, so that of a board the least cost is worked out here.
-function on_light(    i, l, lines) {
+# Each light row, and the tool that raises them; it takes one ring alone and no relay, so that else the least cost is worked out here.
+function on_light(    i, l, lines, alone) {
     l = shortest()
-    for (i = 0; i < rows; i++) if (rings > 1 && cost[i] * l < period[i]) least[i] = int((period[i] + l - 1) / l)
+    alone = rings > 1 || relay != ""
+    for (i = 0; i < rows; i++) if (alone && cost[i] * l < period[i]) least[i] = int((period[i] + l - 1) / l)
     for (i = 0; i < rows; i++)
         if (i in least)
-            lines = lines "row " i " costs " plural(cost[i], "slot") " of " period[i] "; with a shortest interval of " plural(l, "slot") \
+            lines = lines "row " i as_given(i) (as_given(i) == "" ? "" : ",") " costs " plural(cost[i], "slot") " of " period[i] \
+                "; with a shortest interval of " plural(l, "slot") \
                 " the least that passes is " least[i] "\n"
-    if (rings > 1) return substr(lines, 1, length(lines) - 1)
+    if (alone) return substr(lines, 1, length(lines) - 1)
     return lines "./raise TABLE OUT writes the table with " (lines ~ /\n./ ? "these costs" : "this cost")
+}
+
+# With a relay: the rows of set k and the segments that all of them use. The line begins at the lowest element that no row goes through;
+# there is a set where a row ends that no row ended before since some row of it began.
+function on_set(k,    c, i, e, end, n, list, from, to, s, segments) {
+    for (c = 1; c <= elements; c++) {
+        for (i = 0; i < rows; i++) if (through(i, c)) break
+        if (i == rows) break
+    }
+    for (e = 1; e <= elements; e++) {
+        for (i = 0; i < rows; i++) if (between(0, c, first[i]) + steps(i) == e) break
+        if (i == rows) continue
+        for (i = 0; i < rows; i++) if (end <= between(0, c, first[i]) && between(0, c, first[i]) < e) break
+        if (i < rows && n++ == k) break
+        end = e
+    }
+    to = elements
+    for (i = 0; i < rows; i++) {
+        s = between(0, c, first[i])
+        if (s >= e || s + steps(i) < e) continue
+        list = list (list == "" ? "" : " ") i
+        if (s > from) from = s
+        if (s + steps(i) < to) to = s + steps(i)
+    }
+    for (s = from; s < to; s++) segments = segments (segments == "" ? "" : " ") further(0, c, s)
+    return "rows of that set, as split: " list "; all use segment" (segments ~ / / ? "s " : " ") segments
 }
 
 # What a party's rows ask for of segment s, as a fraction in lowest terms, beside its limit; its sum is over its own periods.
@@ -114,11 +156,14 @@ function reason(n, i) {
     if (n == 10) return on_cut(i)
     if (n == 11) return on_hyper()
     if (n == 13) return on_light()
+    if (n == 14 && relay != "") return on_set(i)
     if (n == 18) return on_pasted(i)
     if (n == 21) return on_limit("our", 0, ours, i)
     if (n == 22) return on_limit("the second maker's", 1, theirs, i)
     if (n == 26) return "row " i " has the direction " way[i] "; 0 is clockwise, 1 counterclockwise"
     if (n == 23) return "our limit is " ours ", the second maker's is " theirs
+    if (n == 27) return "the relay is " relay ", and this ring has the elements 1 to " elements
+    if (n == 28) return "it has " given[rows - 1] + 1 " rows, and " rows " with those split that go through element " relay
 }
 
 END {

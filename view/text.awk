@@ -31,5 +31,6 @@ END {
     }
     print ""
     for (i = 0; i < rows; i++)
-        printf "%s  row %d: %d of %d slots, from %d to %d%s\n", substr(signs, i + 1, 1), i, cost[i], period[i], first[i], second[i], direction(i)
+        printf "%s  row %d: %d of %d slots, from %d to %d%s%s\n", substr(signs, i + 1, 1), i, cost[i], period[i], first[i], second[i], \
+            direction(i), as_given(i)
 }

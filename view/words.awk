@@ -1,5 +1,6 @@
-# Shared by the views. They read, on one stream, the lines of view/table.awk and those of the program:
-#   bytes, head, elements M, rings R, row I COST PERIOD FIRST SECOND LABEL WAY ..
+# Shared by the views. They read, on one stream, the lines of view/table.awk, with rows split at a relay where there is one
+# (view/split.awk), and those of the program:
+#   bytes, head, elements M, rings R, row I COST PERIOD FIRST SECOND LABEL WAY GIVEN HALF ..
 #   verdict, and of an admitted table cut for each ring, interval, hyper, load, set .., slot ..
 
 # The rows of a word, ascending, as numbers with spaces between. A word has 64 bits and stands in decimal: awk's own numbers would round it,
@@ -32,7 +33,17 @@ function rows_of(word,    part, n, k, digit, rest, bit, rows) {
 
 $1 == "elements" { elements = $2 }
 $1 == "rings" { rings = $2 }
-$1 == "row" { rows = $2 + 1; cost[$2] = $3; period[$2] = $4; first[$2] = $5; second[$2] = $6; label[$2] = $7; way[$2] = $8 }
+$1 == "row" {
+    rows = $2 + 1
+    cost[$2] = $3
+    period[$2] = $4
+    first[$2] = $5
+    second[$2] = $6
+    label[$2] = $7
+    way[$2] = $8
+    given[$2] = $9
+    half[$2] = $10
+}
 $1 == "verdict" { number = $2; place = $3 }
 $1 == "cut" { cut[cuts++] = $2 }
 $1 == "interval" { interval = $2 }
@@ -79,6 +90,12 @@ function lane_to(l) {
 # The way that a row runs, where there are two.
 function direction(i) {
     return rings < 2 ? "" : way[i] ? ", counterclockwise" : ", clockwise"
+}
+
+# The row of the table that a row is half of, or that it is under another number, where a relay splits rows.
+function as_given(i) {
+    if (half[i]) return ", row " given[i] " of the table " (half[i] == 1 ? "to" : "from") " the relay"
+    return given[i] == i ? "" : ", row " given[i] " of the table"
 }
 
 # Whether an interval ends at slot s: it is a multiple of some row's period.

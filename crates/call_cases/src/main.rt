@@ -1,9 +1,11 @@
 // Runs the cases that stand on standard input, a line each: the call, a name, a colon, and the numbers that the call is given. A case with
 // a name only is a table for the verdict. The modules say what numbers a call's case has, and what is printed for it. Where rows stand as
-// (cost,period,first,second), a name with a + in it is of a board with two rings, whose rows are (cost,period,first,second,direction).
+// (cost,period,first,second), a name with a + in it is of a board with two rings, whose rows are (cost,period,first,second,direction). A
+// name with a * in it is of a call with a relay (#113), whose number stands before the others.
 mod lists_of;
 mod meetings;
 mod plans;
+mod relays;
 mod tables;
 mod verdicts;
 
@@ -20,6 +22,10 @@ pub(crate) fn byte_at(text: &[u8], k: usize) -> u8 {
 
 pub(crate) fn is_board(heading: &[u8]) -> bool {
     find(heading, 0, b'+') < heading.len()
+}
+
+fn is_relayed(heading: &[u8]) -> bool {
+    find(heading, 0, b'*') < heading.len()
 }
 
 fn end_line() {
@@ -73,7 +79,9 @@ fn call(heading: &[u8], given: &[u64]) {
 }
 
 fn run(heading: &[u8], given: &[u64]) {
-    if find(heading, 0, b' ') == heading.len() {
+    if is_relayed(heading) {
+        relays::run(heading, given);
+    } else if find(heading, 0, b' ') == heading.len() {
         verdicts::judged(heading, given);
     } else {
         call(heading, given);
@@ -104,7 +112,7 @@ fn each(text: &[u8]) {
 }
 
 fn main() {
-    verdicts::answer(b"empty", b"");
+    verdicts::answer(b"empty", verdict::judge(b""));
     end_line();
     let mut text = io::large_buffer();
     let n = io::read_full(STDIN_FILENO, &mut text);

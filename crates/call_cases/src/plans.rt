@@ -12,22 +12,25 @@ use cases::number_at;
 use cases::print;
 use cases::table_file;
 use libc::STDOUT_FILENO;
+use planner::MovedOn;
 use planner::Planner;
 use planner::Stage;
+use planner::Standings;
+use table::Answer;
 use table::Table;
 
 // as many words as a call is lent at most, and what they hold before it
-const WORDS: usize = 64;
+pub(crate) const WORDS: usize = 64;
 
-const KEPT: u64 = 9;
+pub(crate) const KEPT: u64 = 9;
 
-// ---- the calls
+// ---- what is printed
 
-fn print_answer(heading: &[u8], number: u32, place: u32) {
+pub(crate) fn print_answer(heading: &[u8], number: u32, place: u32) {
     print(heading, &[number as u64, place as u64]);
 }
 
-fn print_words(words: &[u64]) {
+pub(crate) fn print_words(words: &[u64]) {
     print(b" words", words);
 }
 
@@ -46,14 +49,12 @@ fn print_totals(totals: [u64; Table::ROWS]) {
     print(b" totals", &[totals[0], totals[1], totals[2], totals[3]]);
 }
 
-fn plan(heading: &[u8], file: &[u8], words: &mut [u64]) {
-    let r = planner::whole_plan(file, words);
+pub(crate) fn print_planned(heading: &[u8], r: Answer, words: &[u64]) {
     print_answer(heading, r.number, r.place);
     print_words(words);
 }
 
-fn step(heading: &[u8], planner: Planner, file: &[u8], words: &mut [u64]) {
-    let r = planner.step(file, words);
+pub(crate) fn print_moved(heading: &[u8], r: MovedOn, words: &[u64]) {
     print_answer(heading, r.answer.number, r.answer.place);
     let after = r.planner;
     let stage = after.stage;
@@ -81,14 +82,29 @@ fn standing(x: i64) {
     io::write_all(STDOUT_FILENO, b" past");
 }
 
-fn standings(heading: &[u8], planner: Planner, file: &[u8]) {
-    let r = planner.standings(file);
+pub(crate) fn print_standings(heading: &[u8], r: Standings) {
     print_answer(heading, r.answer.number, r.answer.place);
     let values = r.values;
     standing(values[0]);
     standing(values[1]);
     standing(values[2]);
     standing(values[3]);
+}
+
+// ---- the calls
+
+fn plan(heading: &[u8], file: &[u8], words: &mut [u64]) {
+    let r = planner::whole_plan(file, words);
+    print_planned(heading, r, words);
+}
+
+fn step(heading: &[u8], planner: Planner, file: &[u8], words: &mut [u64]) {
+    let r = planner.step(file, words);
+    print_moved(heading, r, words);
+}
+
+fn standings(heading: &[u8], planner: Planner, file: &[u8]) {
+    print_standings(heading, planner.standings(file));
 }
 
 // ---- a case
@@ -106,14 +122,14 @@ fn call(heading: &[u8], planner: Planner, file: &[u8], words: &mut [u64]) {
     standings(heading, planner, file);
 }
 
-fn stage_of(heading: &[u8], k: u64) -> Stage {
+pub(crate) fn stage_of(heading: &[u8], k: u64) -> Stage {
     if find(heading, 0, b'_') < find(heading, 0, b' ') {
         return Stage::Finished;
     }
     Stage::Due(k)
 }
 
-fn planner_of(stage: Stage, given: &[u64]) -> Planner {
+pub(crate) fn planner_of(stage: Stage, given: &[u64]) -> Planner {
     let mut totals = [0u64; Table::ROWS];
     totals[0] = number_at(given, 2);
     totals[1] = number_at(given, 3);

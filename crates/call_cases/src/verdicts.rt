@@ -14,10 +14,9 @@ use verdict::Verdict;
 // one row more than a table may have
 const MOST: usize = Table::ROWS + 1;
 
-const SIZE: usize = Table::HEADER + (Table::ROW_BYTES + Table::WAY_BYTES) * MOST;
+pub(crate) const SIZE: usize = Table::HEADER + (Table::ROW_BYTES + Table::WAY_BYTES) * MOST;
 
-pub(crate) fn answer(name: &[u8], file: &[u8]) {
-    let r = verdict::judge(file);
+pub(crate) fn answer(name: &[u8], r: Verdict) {
     print(name, &[r.number() as u64, r.place() as u64]);
     let Verdict::Admitted {
         cut,
@@ -48,6 +47,6 @@ pub(crate) fn judged(name: &[u8], given: &[u64]) {
     let mut file = [0u8; SIZE];
     let size = table_file(is_board(name), given, &mut file);
     if size <= SIZE {
-        answer(name, &file[..size]);
+        answer(name, verdict::judge(&file[..size]));
     }
 }

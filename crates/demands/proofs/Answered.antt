@@ -7,13 +7,14 @@ use native.Mathlib.Decide.{ℕ-discrete}
 use native.Mathlib.Omega.{arith}
 use lib.ListN.{length}
 use Rattle.numbers.proofs.Tests.{Test, lt-test, le-test, eq-test, list-test, as-test, not-test, and-test, or-test}
-use Rattle.rules.specs.Bounds.{max-elements, max-rows}
+use Rattle.rules.specs.Bounds.{max-elements, max-rows, max-slots}
 use Rattle.rules.specs.Bus.{Table}
 use Rattle.rules.specs.TableFile.{table-mark, version-1, headerSize, rowSize, rowNumbers, mark, version, fileTable, fileLabelled}
 use Rattle.rules.specs.TableFile.{ringsOf, memoryWith, memoryLabelledWith}
 use Rattle.rules.specs.Line.{Sets}
 use Rattle.rules.specs.Loads.{hyperperiod}
 use Rattle.rules.specs.Parties.{max-limit}
+use Rattle.rules.specs.Relay.{split}
 use Rattle.rules.specs.Planner.{Stage, due, finished, Planner, Off}
 use Rattle.rules.specs.Refusals.{
   Check,
@@ -35,13 +36,17 @@ use Rattle.rules.specs.Refusals.{
   set-checks,
   verdict-checks,
   limited-checks,
+  long-hyperperiod,
+  split-checks,
+  relayed-line-checks,
+  relayed-checks,
   sets-checks,
   plan-checks,
   step-room,
   step-checks,
   standings-checks,
 }
-use Rattle.rules.specs.Calls.{Ask}
+use Rattle.rules.specs.Calls.{Ask, lineAsk}
 use Rattle.rules.specs.Raising.{raise-checks}
 use Rattle.rules.proofs.Answers.{None, Numbered, stopped, joined, none-of}
 use Rattle.rules.proofs.Sets.{sets-only}
@@ -62,10 +67,13 @@ use Rattle.rules.proofs.Verdict.{
   line-tests,
   bound-tests,
   limit-tests,
+  split-tests,
 }
 use Rattle.table.specs.Sound.{Sound}
 use Rattle.pasted.proofs.AsGiven.{given-numbered, given-passed}
 use Rattle.outline.proofs.Outlined.{line-numbered, none-line}
+use Rattle.relay.proofs.Clear.{has-cuts}
+use Rattle.relay.proofs.Given.{split-numbered, split-element, split-sound}
 use Rattle.verdict.proofs.Bound.{verdict-split, sets-exist}
 use Rattle.planner.specs.Proper.{Proper}
 use Rattle.demands.specs.Demands.{Answered}
@@ -135,6 +143,12 @@ one-ring-answered f cs A =
     by-lists (short-file f ∷ wrong-mark f ∷ []) cs (omega arith)
     (by-tests (lt-test (length f) headerSize then not-test (list-test (mark f) table-mark) then none)) (λ N. A)
 
+short-list : (t : Table) (room : ℕ) → 0 < t .rows → (ws : List ℕ) → Sets t ws
+    → Test ((vs : List ℕ) × Sets t vs × (room < length vs))
+short-list t room some ws A =
+    as-test (lt-test room (length ws)) (λ h. (ws, A, h))
+    (λ w. subst (λ (vs : List ℕ). room < length vs) (sets-only some (w .1) A) (w .2))
+
 module _ (f : List ℕ) where
   past-given : (ds : List Check) → (Sound (fileTable f) → Answered ds) → Answered (given-checks f ++ ds)
   past-given ds more = by-lists (given-checks f) ds (given-numbered f) (by-tests (given-tests f)) (λ N. more (given-passed f N .sound))
@@ -145,18 +159,12 @@ module _ (f : List ℕ) where
       (past-given (line-checks (fileTable f) ++ bound-checks (fileTable f))
       (λ S. line-answered (fileTable f) S (bound-checks (fileTable f)) (λ ws A. bound-tests (fileTable f) (S .rows-low) ws A)))
 
-  pub listed-answered : (room : ℕ) → Answered (sets-checks f room)
+  pub listed-answered : (room : ℕ) → Answered (sets-checks (lineAsk f .checks) (fileTable f) room)
   unfolding sets-checks
   listed-answered room =
       rw append-assoc
       (past-given (line-checks (fileTable f) ++ _)
-      (λ S. line-answered (fileTable f) S _ (λ ws A. short-list (S .rows-low) ws A then none)))
-    where
-      short-list : 0 < fileTable f .rows → (ws : List ℕ) → Sets (fileTable f) ws
-          → Test ((vs : List ℕ) × Sets (fileTable f) vs × (room < length vs))
-      short-list some ws A =
-          as-test (lt-test room (length ws)) (λ h. (ws, A, h))
-          (λ w. subst (λ (vs : List ℕ). room < length vs) (sets-only some (w .1) A) (w .2))
+      (λ S. line-answered (fileTable f) S _ (λ ws A. short-list (fileTable f) room (S .rows-low) ws A then none)))
 
   pub crowded-answered : (k : ℕ) → Answered (set-checks f k)
   unfolding set-checks
@@ -192,6 +200,31 @@ module _ (f : List ℕ) where
       (λ S.
       line-answered t S ds
       (λ ws A. tests-join (limit-tests (fileLabelled f) our their) (bound-tests t (S .rows-low) ws A)))))
+
+-- ---- with a relay
+
+module _ (f : List ℕ) (r : ℕ) where
+  abbrev t : Table
+  t = split (fileTable f) r
+
+  -- past 28 the split table is sound and has a cut, so that its sets decide the rest
+  past-split : (ds : List Check) → (Sound t → (ws : List ℕ) → Sets t ws → Tests ds) → Answered (relayed-line-checks f r ++ ds)
+  unfolding relayed-line-checks
+  past-split ds more =
+      rw append-assoc
+      (by-lists (split-checks f r) (long-hyperperiod t ∷ ds) (split-numbered f r) (by-tests (split-tests f r))
+      (λ N.
+      let S = split-sound f r N in
+      let e = sets-exist t S (has-cuts (fileTable f) (split-element f r N)) in
+      by-tests (lt-test max-slots (hyperperiod t) then more S (e .0) (e .1))))
+
+  pub relayed-answered : Answered (relayed-checks f r)
+  unfolding relayed-checks
+  relayed-answered = past-split (bound-checks t) (λ S ws A. bound-tests t (S .rows-low) ws A)
+
+  pub relayed-listed-answered : (room : ℕ) → Answered (sets-checks (relayed-line-checks f r) t room)
+  unfolding sets-checks
+  relayed-listed-answered room = past-split _ (λ S ws A. short-list t room (S .rows-low) ws A then none)
 
 -- ---- the planner's calls, at an ask whose own checks are answered
 

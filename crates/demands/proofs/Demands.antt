@@ -10,7 +10,7 @@ use Rattle.rules.specs.Loads.{start, end}
 use Rattle.rules.specs.Planner as rules
 use Rattle.rules.specs.Planner.{Off}
 use Rattle.rules.specs.Refusals.{Answers, reader-checks, writer-checks, step-checks}
-use Rattle.rules.specs.Calls.{Ask, fileAsk, limitedAsk}
+use Rattle.rules.specs.Calls.{Ask, fileAsk, limitedAsk, relayedAsk}
 use Rattle.rules.proofs.Answers.{None, Numbered, answers-only, position-none, none-of, none-left, none-right, numbered-join}
 use Rattle.rules.proofs.Calls.{lent-take, call-must}
 use Rattle.rules.proofs.Lags.{qualify-by-lags}
@@ -27,6 +27,12 @@ use Rattle.planner.proofs.Only.{step-only}
 use Rattle.planner.proofs.Asks.{file-proper}
 use Rattle.planner.proofs.Promises.{admitted-table, steps-run, standings-between, never-refused, whole-is-steps, carried, exactly-one-plan}
 use Rattle.limited_plan.proofs.Promises.{limited-proper, same-plan}
+use Rattle.relay.proofs.Clear.{relay-clear}
+use Rattle.relay_jobs.proofs.Jobs.{two-held}
+use Rattle.relayed.proofs.Checked.{relayed-numbered}
+use Rattle.relayed.proofs.Without.{as-without, same-table}
+use Rattle.relayed_plan.proofs.Promises as relayed
+use Rattle.relayed_plan.proofs.Promises.{relayed-proper, relayed-carried}
 use Rattle.raising.proofs.Costs.{raise-raises}
 use Rattle.raising.proofs.Result.{raised-verdict}
 use Rattle.raising.proofs.Data.{data-arrives}
@@ -39,6 +45,8 @@ use Rattle.demands.proofs.Answered.{
   crowded-answered,
   judged-answered,
   limited-answered,
+  relayed-answered,
+  relayed-listed-answered,
   listed-answered,
   planned-answered,
   stepped-answered,
@@ -65,6 +73,11 @@ first = record {
       planned-answered (limitedAsk f our their) (limited-proper f our their) (limited-answered f our their);
   stepped-limited = λ f our their.
       stepped-answered (limitedAsk f our their) (limited-proper f our their) (limited-answered f our their);
+  judged-relayed = relayed-answered;
+  listed-relayed = relayed-listed-answered;
+  planned-relayed = λ f r. planned-answered (relayedAsk f r) (relayed-proper f r) (relayed-answered f r);
+  stepped-relayed = λ f r. stepped-answered (relayedAsk f r) (relayed-proper f r) (relayed-answered f r);
+  stood-relayed = λ f r. stood-answered (relayedAsk f r) (relayed-proper f r) (relayed-answered f r);
   raised = raised-answered;
   one = answers-only;
   read-refused = λ f was now number place mark′ version′ elements rows c h. ⊎-elim (λ r. r .refused h) (λ r. r .refused h) c;
@@ -72,10 +85,10 @@ first = record {
   met-refused = λ f i j number place word c h. c .refused h;
   crowd-refused = λ f k number place rows segments c h. c .refused h;
   verdict-refused = λ a r c h. c .refused h;
-  list-refused = λ f was now number place sets c h. c .refused h;
+  list-refused = λ a was now number place sets c h. c .refused h;
   plan-refused = λ a r was now c h. c .planned .refused h;
   step-refused = λ a p r was now c h. (c .same h, c .stepped .refused h .1);
-  standings-refused = λ f p r c h. c .stood .refused h;
+  standings-refused = λ a p r c h. c .stood .refused h;
   raise-refused = λ f was now number place c h. c .refused h;
 }
 
@@ -85,14 +98,18 @@ second : Demand-2
 second = record {
   admits = demand-2;
   admits-limited = λ f our their. admits-by (limited-numbered f our their);
+  admits-relayed = λ f r. admits-by (relayed-numbered f r);
   own-rows-only = own-rows-only;
+  relay-clear = relay-clear;
+  as-without = as-without;
+  same-table = same-table;
   values = λ a r c h. c .done h;
-  sets = λ f was now number place sets c h. c .done h;
+  sets = λ a was now number place sets c h. c .done h;
   met = λ f i j number place word c h. c .done h;
   crowded = λ f k number place rows segments c h. c .done h;
   steps = λ a p r was now c h. c .stepped .done h;
   lags = qualify-by-lags;
-  standings = λ f p r c h. c .stood .done h;
+  standings = λ a p r c h. c .stood .done h;
   between = standings-between;
   read-back = λ f was now was′ now′ number place m v M n number′ place′ b u l R W.
       let N = position-none (reader-checks f (length was)) u in
@@ -128,6 +145,7 @@ third : Demand-3
 third = record {
   file-proper = file-proper;
   limited-proper = limited-proper;
+  relayed-proper = relayed-proper;
   carried = carried;
   exactly-one-plan = exactly-one-plan;
   same-plan = same-plan;
@@ -143,6 +161,9 @@ third = record {
       let e : take l now ≡ w .0 = ap (take l) (w .2) ∙ lent-take (w .0) was l (omega (arith, S .size)) in
       subst (Serves t (start t k) (end t k) (plannerOf p) (plannerOf (r .planner))) (sym e) S;
   first-steps = λ a k p ws P A s. run-serves (a .table) k (plannerOf p) ws (admitted-table a P A) (steps-run s);
+  relayed-carried = relayed-carried;
+  two-held = two-held;
+  unused-relay = relayed.same-plan;
   data-arrives = data-arrives;
 }
 

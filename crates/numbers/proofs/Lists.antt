@@ -1,5 +1,6 @@
 -- Laws of lists by position: lists joined of n lists, and lists that a loop fills from the front.
--- Files and plans are joined of stretches of one length k, so those laws are stated over k.
+-- Files and plans are joined of stretches of one length k, so those laws are stated over k; a split table (#113) of stretches of one row or
+-- two.
 --
 --   Filled was out n xs    out is xs in its first n places, and from there on what was there
 use mathlib.Core.Path.{_≡_, refl, sym, ap, ap₂, _∙_}
@@ -9,11 +10,13 @@ use Prim.Native.Nat.{ℕ, zero, suc, _+_, _-_, _*_, _≤_, _<_}
 use native.Mathlib.Nat.{add-zero, suc-mul, zero-mul, mul-one, le-of-eq, mul-le-mul-right, eq-or-lt-of-le, le-of-suc-le-suc, not-suc-le-zero}
 use native.Mathlib.Numerals.{add-one}
 use native.Mathlib.Omega.{arith}
-use lib.ListN.{length, take, drop, set, length-append, length-drop, length-set, take-append-drop, replicate}
+use lib.ListN.{length, take, drop, set, getD, length-append, length-drop, length-set, take-append-drop, replicate, List·getD-append}
 use lib.Seq.{drop-cons, take-suc, set-at, append-snoc, take-at, drop-at, take-all, take-add}
 use lib.Seq.{drop-drop, take-append-le, drop-append-le, sets, length-take-le, sets-eq}
 use lib.Seq.{getD-take, getD-drop, getD-append-add, ext-getD}
 use Rattle.numbers.specs.Lists.{at, each}
+use Rattle.numbers.proofs.Truth.{le-or-lt}
+use Rattle.numbers.proofs.Finite.{below}
 
 -- ---- one place
 
@@ -92,6 +95,44 @@ each-take {A = A} (suc n) k xs =
 
 pub each-windows {ℓ} : {A : Type ℓ} (n k : ℕ) (xs : List A) → length xs ≡ n * k → each n (λ i. take k (drop (i * k) xs)) ≡ xs
 each-windows n k xs e = each-take n k xs ∙ take-all (n * k) xs (le-of-eq e)
+
+-- ---- lists joined of stretches of any lengths
+
+module _ {A : Type 0} (f : ℕ → List A) where
+  -- the first i stretches are no longer than all
+  pub each-grows : (n i : ℕ) → i ≤ n → length (each i f) ≤ length (each n f)
+  unfolding each
+  each-grows zero i l = let e : i ≡ 0 = omega arith in rw e (omega arith)
+  each-grows (suc n) i l =
+      ⊎-elim (λ (e : i ≡ suc n). rw e (omega arith))
+      (λ (m : i < suc n). omega (arith, length-append (each n f) (f n), each-grows n i (omega arith)))
+      (below (let z : i < suc (suc n) = omega arith in z))
+
+  -- place j of stretch i
+  pub each-part : (d : A) (n i j : ℕ) → i < n → j < length (f i) → getD (each n f) (length (each i f) + j) d ≡ getD (f i) j d
+  unfolding each
+  each-part d zero i j l m = absurd (not-suc-le-zero l)
+  each-part d (suc n) i j l m =
+      ⊎-elim
+      (λ (e : i ≡ n). rw e (getD-append-add (each n f) (f n) j d))
+      (λ (k : i < n).
+      let room : length (each (suc i) f) ≤ length (each n f) = each-grows n (suc i) k in
+      List·getD-append (each n f) (f n) d (length (each i f) + j) (omega (arith, length-append (each i f) (f i)))
+      ∙ each-part d n i j k m)
+      (below l)
+
+  -- every place is one of some stretch
+  pub each-find : (n k : ℕ) → k < length (each n f) → (i : ℕ) × (j : ℕ) × (i < n) × (j < length (f i)) × (k ≡ length (each i f) + j)
+  unfolding each
+  each-find zero k l = absurd (not-suc-le-zero l)
+  each-find (suc n) k l =
+      ⊎-elim
+      (λ (m : length (each n f) ≤ k).
+      (n, k - length (each n f), omega arith, omega (arith, length-append (each n f) (f n)), omega arith))
+      (λ (m : k < length (each n f)).
+      let w = each-find n k m in
+      (w .0, w .1, omega (arith, w .2), w .3, w .4))
+      (le-or-lt (length (each n f)) k)
 
 -- ---- lists of n single numbers
 

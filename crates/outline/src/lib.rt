@@ -15,13 +15,14 @@ ghost use Rattle.rules.specs.Bus.{mirror};
 ghost use Rattle.rules.specs.Line as line;
 ghost use Rattle.rules.specs.TableFile.{fileTable};
 ghost use Rattle.rules.specs.Refusals.{line-checks};
-ghost use Rattle.rules.specs.Calls.{lent, Listed};
+ghost use Rattle.rules.specs.Calls.{lent, lineAsk, Listed};
 ghost use Rattle.table.specs.Columns.{OneWay};
 ghost use Rattle.table.specs.Sound.{Sound};
 ghost use Rattle.ring.specs.Route.{Element};
 ghost use Rattle.ring.specs.Rows.{Routes, onRing, cutOf};
 ghost use Rattle.outline.specs.Layout.{tableWith, noLayout, LaidOut};
 ghost use Rattle.outline.specs.Outlined.{blank, outline-checks, Outlined};
+ghost use Rattle.outline.specs.Listed.{Traced, ListedOn};
 
 // ---- the cuts
 
@@ -279,11 +280,11 @@ fn write_front(words: &[u64], out: &mut [u64])
     }
 }
 
-// The list of the overlap sets of a file's table, written to the front of `out`.
-pub fn list_of_sets(file: &[u8], out: &mut [u64]) -> Listing
-    ensures { λ r. ⌜ Listed (now (file .entry)) (now (out .entry)) (now (out .exit)) (r .answer .number) (r .answer .place) (r .sets) ⌝ }
+// The list of the overlap sets of a table in outline, written to the front of `out`; a refusal is handed on.
+pub fn list_on(o: Outline, out: &mut [u64]) -> Listing
+    requires { ⌜ Traced o ⌝ }
+    ensures { λ r. ⌜ ListedOn o r (now (out .entry)) (now (out .exit)) ⌝ }
 {
-    let o = outline_file(file);
     let answer = o.answer;
     if answer.number != Answer::DONE {
         return Listing {
@@ -304,4 +305,12 @@ pub fn list_of_sets(file: &[u8], out: &mut [u64]) -> Listing
         answer: Answer::done(),
         sets: sets as u32,
     }
+}
+
+// The list of the overlap sets of a file's table.
+pub fn list_of_sets(file: &[u8], out: &mut [u64]) -> Listing
+    ensures { λ r. ⌜ Listed (lineAsk (now (file .entry))) (now (out .entry)) (now (out .exit))
+        (r .answer .number) (r .answer .place) (r .sets) ⌝ }
+{
+    list_on(outline_file(file), out)
 }

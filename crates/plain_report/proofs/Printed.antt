@@ -22,10 +22,12 @@ use Rattle.decimal.specs.Puts.{Puts, PutsLine, PutsLines}
 use Rattle.decimal.proofs.Puts.{puts-more}
 use Rattle.decimal.proofs.Text.{text-join, text-one}
 use Rattle.verdict.proofs.Judging.{refused-number}
-use Rattle.report.proofs.Printed.{refusal, admits}
 use Rattle.plain_report.specs.Printed.{PlainPrinted, refused, admitted, PlainRendered}
 
 module _ (f : List ℕ) (r : Verdict) (J : IsVerdict f r) where
+  by : (v : Verdict) → r ≡ v → IsVerdict f v
+  by v e = subst (λ (v : Verdict). IsVerdict f v) e J
+
   pub rendered-refused : (n p : ℕ) → n ≡ numberOf r → p ≡ placeOf r → (x : Answer) → r ≡ Refused x → {was now : List ℕ} {size : ℕ}
       → PutsLine (verdict n p) was 0 now size → PlainRendered f was now size
   rendered-refused n p en ep x e F =
@@ -33,7 +35,7 @@ module _ (f : List ℕ) (r : Verdict) (J : IsVerdict f r) where
       let y : p ≡ x .place = ep ∙ ap placeOf e in
       record {
         lines = verdict n p ∷ [];
-        printed = rw (z, y) (refused (x .number) (x .place) (refusal f r J x e .answers) (refused-number x (refusal f r J x e)));
+        printed = rw (z, y) (refused (x .number) (x .place) (by (Refused x) e .answers) (refused-number x (by (Refused x) e)));
         puts = rw (text-one (verdict n p)) (F .0);
         fits = omega (arith, F .1);
       }
@@ -44,7 +46,7 @@ module _ (f : List ℕ) (r : Verdict) (J : IsVerdict f r) where
       → PlainRendered f was now size
   rendered-admitted c o l h x s e {was} {one} {now} {a} {size} P Q = record {
     lines = slot-lines (P .0) ++ slot-lines (Q .0);
-    printed = admitted (P .0) (Q .0) (admits f r J c o l h x s e) (P .1) (Q .1);
+    printed = admitted (P .0) (Q .0) (by (Admitted c o l h x s) e .answers) (P .1) (Q .1);
     puts = subst (λ (t : List ℕ). Puts t was 0 now size) (sym (text-join (slot-lines (P .0)) (slot-lines (Q .0))))
         (puts-more (P .2 .0) (Q .2 .0));
     fits = omega (arith, P .2 .1, Q .2 .1);

@@ -10,18 +10,19 @@ pub const SIZE: usize = 64 * 2 * Table::SLOTS;
 pub fn render(file: &[u8], out: &mut [u8]) -> usize
     ensures { λ r. ⌜ PlainRendered (now (file .entry)) (now (out .entry)) (now (out .exit)) r ⌝ }
 {
-    let answer = verdict::judge(file);
+    let table = verdict::analyse(file);
+    let answer = verdict::verdict_of(table);
     let Verdict::Admitted {
         cut: _,
         other: _,
         interval: _,
-        hyper,
+        hyper: _,
         load: _,
         sets: _,
     } = answer
     else {
         return report::put_verdict(answer.number(), answer.place(), out);
     };
-    let next = report::put_plan(file, true, hyper, out, 0);
-    report::put_plan(file, false, hyper, out, next)
+    let next = report::put_plan(table, true, out, 0);
+    report::put_plan(table, false, out, next)
 }

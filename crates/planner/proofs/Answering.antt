@@ -16,7 +16,7 @@ use Rattle.rules.specs.Bus.{Table}
 use Rattle.rules.specs.Loads.{end, intervals}
 use Rattle.rules.specs.Planner.{reached, Step}
 use Rattle.rules.specs.Refusals.{Answers, plan-checks, step-checks, standings-checks}
-use Rattle.rules.specs.Calls.{Ask}
+use Rattle.rules.specs.Calls.{Ask, admitted}
 use Rattle.table.specs.declared.Answer.{Answer}
 use Rattle.outline.proofs.Outlined.{answers-at}
 use Rattle.time.specs.Time.{Begins}
@@ -30,7 +30,6 @@ use Rattle.planner.specs.declared.Planner.{Planner}
 use Rattle.planner.specs.State.{stageOf, plannerOf, stageAfter, unmovedOf, noStandings}
 use Rattle.course.specs.Course.{Course, Coursed}
 use Rattle.planner.specs.Answers.{StepAnswer, StandingsAnswer, PlanAnswer}
-use Rattle.planner.specs.Analysed.{admitted}
 use Rattle.course.proofs.Accepted.{hyper-is}
 use Rattle.planner.proofs.Accepted.{shown, next-is}
 use Rattle.course.proofs.Course.{course-one, course-run}

@@ -1,16 +1,17 @@
 -- The planner's answers to an ask, from those on an analysis that answers its checks; and that only one answer on an analysis fits.
 use mathlib.Core.Path.{_≡_, sym, _∙_}
 use mathlib.Core.Logic.{_≢_}
-use mathlib.Core.List.{List, _++_}
+use mathlib.Core.List.{List}
 use Prim.Native.Nat.{ℕ}
 use native.Mathlib.Decide.{ℕ-discrete}
 use lib.IntN.{ℤ}
 use lib.ListN.{length}
 use Rattle.rules.specs.Bounds.{max-rows}
 use Rattle.rules.specs.Planner.{Planner}
-use Rattle.rules.specs.Refusals.{Check, Answers, plan-checks, step-checks, standings-checks}
-use Rattle.rules.specs.Calls.{Call, Ask, Planned, Stepped, Stood}
-use Rattle.rules.proofs.Answers.{None, Numbered, stopped, joined, none-of}
+use Rattle.rules.specs.Refusals.{Answers, plan-checks, step-checks, standings-checks}
+use Rattle.rules.specs.Calls.{Ask, admitted, Planned, Stepped, Stood}
+use Rattle.rules.proofs.Answers.{None, Numbered, stopped, none-of}
+use Rattle.rules.proofs.Calls.{call-after}
 use Rattle.table.specs.declared.Answer.{Answer}
 use Rattle.verdict.specs.declared.Analysis.{Analysis}
 use Rattle.verdict.specs.Analysed.{Analysed}
@@ -20,7 +21,7 @@ use Rattle.planner.specs.declared.MovedOn.{MovedOn}
 use Rattle.planner.specs.declared.Standings.{Standings}
 use Rattle.planner.specs.State.{plannerOf}
 use Rattle.planner.specs.Answers.{StepAnswer, StandingsAnswer, PlanAnswer}
-use Rattle.planner.specs.Analysed.{Usable, admitted, SteppedOn, StandingsOn, PlannedOn}
+use Rattle.planner.specs.Analysed.{Usable, SteppedOn, StandingsOn, PlannedOn}
 use Rattle.planner.specs.Promises.{File-proper}
 use Rattle.planner.proofs.Answering.{standings-refusal, step-refusal, plan-refusal}
 use Rattle.planner.proofs.Only.{step-only, plan-only, standings-only}
@@ -29,9 +30,6 @@ pub file-proper : File-proper
 file-proper f = record { numbered = verdict-numbered f; admissible = admissible-of f }
 
 -- ---- checks before a call's own
-
-call-after : (cs ds : List Check) {n p : ℕ} {D R : Type 0} → None cs → Call ds n p D R → Call (cs ++ ds) n p D R
-call-after cs ds {n} {p} a c = record { answers = joined cs ds n p a (c .answers); done = c .done; refused = c .refused }
 
 module _ (a : Ask) where
   module _ (none : None (a .checks)) where

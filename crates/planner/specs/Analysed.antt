@@ -2,7 +2,6 @@
 -- check left before the call's own.
 --
 --   Usable a                  a is of some table, where it admits one
---   admitted t                the ask about the admitted table t
 --   SteppedOn a p r was now   a step of p on the analysis a answers r
 --   StandingsOn a p r         the standings of p on the analysis a are r
 --   PlannedOn a r was now     the whole plan on the analysis a answers r
@@ -10,10 +9,10 @@
 -- Only one answer fits (proofs/Asks).
 use mathlib.Core.Path.{_≡_}
 use mathlib.Core.Logic.{_≢_}
-use mathlib.Core.List.{List, []}
+use mathlib.Core.List.{List}
 use Prim.Native.Nat.{ℕ}
 use Rattle.rules.specs.Bus.{Table}
-use Rattle.rules.specs.Calls.{Ask}
+use Rattle.rules.specs.Calls.{admitted}
 use Rattle.table.specs.declared.Answer.{Answer}
 use Rattle.verdict.specs.declared.Analysis.{Analysis}
 use Rattle.verdict.specs.Analysed.{Accepted}
@@ -25,9 +24,6 @@ use Rattle.planner.specs.Answers.{StepAnswer, StandingsAnswer, PlanAnswe
 
 abbrev pub Usable : Analysis → Type 0
 Usable a = a .outline .answer .number ≡ 0 → (t : Table) × Accepted t a
-
-abbrev pub admitted : Table → Ask
-admitted t = record { checks = []; table = t }
 
 pub record SteppedOn (a : Analysis) (p : Planner) (r : MovedOn) (was now : List ℕ) : Type 0 where
   pub done : a .outline .answer .number ≡ 0 → (t : Table) → Accepted t a → StepAnswer (admitted t) p r was now

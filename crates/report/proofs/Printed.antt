@@ -1,85 +1,42 @@
--- The lines that `render` writes are those that the program prints.
+-- The lines that are written of an analysed table are those that the program prints.
 use mathlib.Core.Path.{_≡_, refl, sym, ap, subst, _∙_}
-use mathlib.Core.Logic.{⊎-elim}
+use mathlib.Core.Logic.{_≢_, ⊎-elim}
 use mathlib.Core.List.{List, [], _∷_, _++_}
 use Prim.Native.Nat.{ℕ, _≤_, _<_, min}
+use native.Mathlib.Decide.{ℕ-discrete}
 use native.Mathlib.Omega.{arith}
 use lib.ListN.{length, take}
 use lib.Seq.{take-all}
 use Rattle.numbers.proofs.Truth.{le-or-lt}
 use Rattle.rules.specs.Bounds.{max-rows, max-slots}
-use Rattle.rules.specs.TableFile.{fileTable}
+use Rattle.rules.specs.Bus.{Table}
 use Rattle.rules.specs.Line.{Sets}
 use Rattle.rules.specs.Loads.{hyperperiod, reported}
 use Rattle.rules.specs.Planner.{WholePlan}
-use Rattle.rules.specs.Refusals.{Answers, given-checks, line-checks, bound-checks, verdict-checks, sets-checks, plan-checks}
-use Rattle.rules.specs.Calls.{Listed, fileAsk}
-use Rattle.rules.proofs.Answers.{None, none-of, none-join, none-left}
+use Rattle.rules.specs.Refusals.{Answers, plan-checks}
+use Rattle.rules.specs.Calls.{Ask}
+use Rattle.rules.specs.Calls as calls
+use Rattle.rules.proofs.Answers.{None, Numbered, answered, none-of}
 use Rattle.rules.proofs.Calls.{lent-take, call-must}
 use Rattle.rules.proofs.Sets.{sets-only}
-use Rattle.lags.specs.Lags.{Admissible}
+use Rattle.verdict.specs.declared.Analysis.{Analysis}
 use Rattle.verdict.specs.declared.Verdict.{Verdict}
 use Rattle.verdict.specs.declared.Verdict.the-variants.{Admitted, Refused}
-use Rattle.verdict.specs.Verdict.{numberOf, placeOf, IsVerdict}
-use Rattle.verdict.proofs.Bound.{verdict-numbered, admissible-of, sets-exist}
+use Rattle.verdict.specs.Analysed.{Accepted, Analysed}
+use Rattle.verdict.specs.Verdict.{numberOf, placeOf, JudgedBy, VerdictOn}
 use Rattle.verdict.proofs.Judging.{refused-number}
 use Rattle.promises.proofs.Demands.{plan-size}
 use Rattle.table.specs.declared.Answer.{Answer}
+use Rattle.outline.proofs.Outlined.{found-few, found-count}
 use Rattle.planner.specs.Answers.{PlanAnswer}
+use Rattle.planner.specs.Analysed.{Usable, PlannedOn}
 use Rattle.rules.specs.Text.{Line, textOf, text}
 use Rattle.decimal.specs.Puts.{Puts, PutsLine, PutsLines}
 use Rattle.decimal.proofs.Puts.{puts-more}
 use Rattle.decimal.proofs.Text.{text-first, text-join, text-one}
-use Rattle.rules.specs.Program.{verdict, values, set-lines, slot-lines, max-input, Printed, refused, admitted}
-use Rattle.report.specs.Rendered.{cuts, Rendered}
+use Rattle.rules.specs.Program.{verdict, values, set-lines, slot-lines, max-input, PrintedFor, refused, admitted}
+use Rattle.report.specs.Rendered.{cuts, RenderedFor, RenderedOn}
 use Rattle.report.proofs.Cuts.{cuts-are}
-
--- ---- an admitted table's lists
-
-module _ (f : List ℕ) (a : Answers (verdict-checks f) 0 0) where
-  passed : None (verdict-checks f)
-  passed = none-of (verdict-checks f) 0 (verdict-numbered f) a
-
-  pub carried : Admissible (fileTable f)
-  carried = admissible-of f passed
-
-  list-few : (ws : List ℕ) → Sets (fileTable f) ws → length ws ≤ max-rows
-  list-few ws S =
-      let s = carried .sound in
-      let e = sets-exist (fileTable f) s (carried .clear) in
-      omega (arith, ap length (sets-only (s .rows-low) S (e .1)), e .2, s .rows-high)
-
-  list-passed : (room : ℕ) → max-rows ≤ room → None (sets-checks f room)
-  unfolding sets-checks verdict-checks None
-  list-passed room l =
-      none-join (given-checks f ++ line-checks (fileTable f)) _
-      (none-left (given-checks f ++ line-checks (fileTable f)) (bound-checks (fileTable f)) passed)
-      ((λ w. let few = list-few (w .0) (w .1) in omega (arith, w .2)), tt)
-
-  plan-passed : (room : ℕ) → max-slots ≤ room → None (plan-checks (verdict-checks f) (fileTable f) room)
-  unfolding plan-checks None
-  plan-passed room l = none-join (verdict-checks f) _ passed ((λ w. omega (arith, carried .short)), tt)
-
-  -- the front of the slice that was lent is the list of sets
-  pub listed : {was now : List ℕ} {n p sets : ℕ} → max-rows ≤ length was → Listed f was now n p sets
-      → Sets (fileTable f) (take sets now) × (length (take sets now) ≡ sets) × (sets ≤ max-rows)
-  listed {was} {now} {n} {p} {sets} l C =
-      let D = call-must (list-passed (length was) l) C .2 in
-      let e : take sets now ≡ D .0 = ap (take sets) (D .3) ∙ lent-take (D .0) was sets (sym (D .2)) in
-      (rw e (D .1), rw e (sym (D .2)), omega (arith, D .2, list-few (D .0) (D .1)))
-
-  -- and so the plan
-  pub planned : {r : Answer} {was now : List ℕ} {hyper : ℕ} → max-slots ≤ length was → hyper ≡ hyperperiod (fileTable f)
-      → PlanAnswer (fileAsk f) r was now
-      → WholePlan (fileTable f) (take hyper now) × (length (take hyper now) ≡ hyper) × (hyper ≤ max-slots)
-  planned {r} {was} {now} {hyper} l h A =
-      let M = call-must (plan-passed (length was) l) (A .planned) in
-      let W = M .2 in
-      let w : take hyper now ≡ W .0 =
-      ap (take hyper) (W .2) ∙ lent-take (W .0) was hyper (plan-size carried (W .1) ∙ sym h) in
-      (rw w (W .1), ap length w ∙ plan-size carried (W .1) ∙ sym h, omega (arith, carried .short))
-
--- ---- the report
 
 -- no more than it reads
 pub read-input : (input : List ℕ) (k : ℕ) → k ≡ min (length input) max-input → take k input ≡ take max-input input
@@ -89,68 +46,140 @@ read-input input k e =
     (λ (l : max-input < length input). let q : k ≡ max-input = omega arith in ap (λ (j : ℕ). take j input) q)
     (le-or-lt (length input) max-input)
 
--- the verdict r on the file f, and its line
-module _ (f : List ℕ) (r : Verdict) (J : IsVerdict f r) where
-  module _ (x : Answer) (e : r ≡ Refused x) where
-    pub refusal : IsVerdict f (Refused x)
-    refusal = subst (λ (v : Verdict). IsVerdict f v) e J
+-- ---- an admitted table's lists
 
-  module _ (c o l h x s : ℕ) (e : r ≡ Admitted c o l h x s) where
-    admission : IsVerdict f (Admitted c o l h x s)
-    admission = subst (λ (v : Verdict). IsVerdict f v) e J
+module _ {t : Table} {a : Analysis} (A : Accepted t a) where
+  pub list-count : (length (take (a .outline .sets) (a .outline .words)) ≡ a .outline .sets) × (a .outline .sets ≤ max-rows)
+  list-count = (found-count (A .outline), found-few (A .outline))
 
-    pub admits : Answers (verdict-checks f) 0 0
-    admits = admission .answers
+  plan-passed : (room : ℕ) → max-slots ≤ room → None (plan-checks [] t room)
+  unfolding plan-checks None
+  plan-passed room l = ((λ w. omega (arith, A .outline .timed .short)), tt)
 
-    pub hyper-is : h ≡ hyperperiod (fileTable f)
-    hyper-is = admission .done refl .hyper-is
+  -- the front of the slice that was lent is the plan
+  pub planned : {r : Answer} {was now : List ℕ} {hyper : ℕ} → max-slots ≤ length was → hyper ≡ a .outline .time .hyper
+      → PlanAnswer (calls.admitted t) r was now
+      → WholePlan t (take hyper now) × (length (take hyper now) ≡ hyper) × (hyper ≤ max-slots)
+  planned {r} {was} {now} {hyper} l e P =
+      let h : hyper ≡ hyperperiod t = e ∙ A .outline .timed .hyper in
+      let W = call-must (plan-passed (length was) l) (P .planned) .2 in
+      let w : take hyper now ≡ W .0 =
+      ap (take hyper) (W .2) ∙ lent-take (W .0) was hyper (plan-size (A .admissible) (W .1) ∙ sym h) in
+      (rw w (W .1), ap length w ∙ plan-size (A .admissible) (W .1) ∙ sym h, omega (arith, A .outline .timed .short))
 
-  module _ (input : List ℕ) (i : f ≡ take max-input input) (n p : ℕ) (en : n ≡ numberOf r) (ep : p ≡ placeOf r) where
-    printed-refused : (x : Answer) → r ≡ Refused x → Printed input (verdict n p ∷ [])
-    printed-refused x e =
-        let z : n ≡ x .number = en ∙ ap numberOf e in
-        let y : p ≡ x .place = ep ∙ ap placeOf e in
-        rw (z, y) (refused (x .number) (x .place) (rw i at (refusal x e .answers)) (refused-number x (refusal x e)))
+-- whatever table the analysis is of
+pub planned-on : {a : Analysis} → Usable a → (z : a .outline .answer .number ≡ 0) → {r : Answer} {was now : List ℕ} {hyper : ℕ}
+    → max-slots ≤ length was → hyper ≡ a .outline .time .hyper → PlannedOn a r was now
+    → (length (take hyper now) ≡ hyper) × (hyper ≤ max-slots) × ((t : Table) → Accepted t a → WholePlan t (take hyper now))
+planned-on U z l e P =
+    let w = U z in
+    let one = planned (w .1) l e (P .done z (w .0) (w .1)) in
+    (one .1, one .2, λ t A. planned A l e (P .done z t A) .0)
 
-    printed-admitted : (c o l h x s : ℕ) → r ≡ Admitted c o l h x s → (ws plan : List ℕ)
-        → Sets (fileTable f) ws → WholePlan (fileTable f) plan
-        → Printed input (verdict n p ∷ (cuts c o ++ (values l h x ++ (set-lines ws ++ slot-lines plan))))
-    printed-admitted c o l h x s e ws plan S W =
-        let A = admission c o l h x s e .done refl in
-        let a = admits c o l h x s e in
-        let C = carried f a in
-        let z : n ≡ 0 = en ∙ ap numberOf e in
-        let y : p ≡ 0 = ep ∙ ap placeOf e in
-        let same : A .list ≡ ws = sets-only (C .sound .rows-low) (A .listed) S in
-        subst (λ (ls : List Line). Printed input (verdict n p ∷ (ls ++ (values l h x ++ (set-lines ws ++ slot-lines plan)))))
-        (sym (cuts-are (C .sound) (C .clear) (A .cut-is) (A .second-is)))
-        (rw (z, y, A .interval-is, A .hyper-is, A .load-is ∙ ap (reported (fileTable f)) same)
-        (admitted (fileTable f) ws plan (ap fileTable i) (rw i at a) S W))
+-- ---- the verdict r that the analysis a amounts to
 
-    module _ {was one : List ℕ} {a : ℕ} (F : PutsLine (verdict n p) was 0 one a) where
-      pub rendered-refused : (x : Answer) → r ≡ Refused x → Rendered input was one a
-      rendered-refused x e = record {
-        lines = verdict n p ∷ [];
-        printed = printed-refused x e;
-        puts = rw (text-one (verdict n p)) (F .0);
-        fits = omega (arith, F .1);
+module _ {a : Analysis} (U : Usable a) {r : Verdict} (J : VerdictOn a r) where
+  abbrev answer : Answer
+  answer = a .outline .answer
+
+  pub is-admitted : (c o l h x s : ℕ) → r ≡ Admitted c o l h x s → answer .number ≡ 0
+  is-admitted c o l h x s e = go (ℕ-discrete (answer .number) 0)
+    where
+      go : Dec (answer .number ≡ 0) → answer .number ≡ 0
+      go (yes z) = z
+      go (no n) = let q = J .refused n in let z : _≡_ {A = ℕ} 0 1 = cc in absurd (let y : ⊥ = omega arith in y)
+
+  pub is-refused : (x : Answer) → r ≡ Refused x → answer .number ≢ 0
+  unfolding Answers
+  is-refused x e z =
+      let v = J .done z (U z .0) (U z .1) in
+      let N : JudgedBy [] (U z .0) r = record { answers = (v .0, v .1); done = λ y. v .2; refused = λ h. absurd (h (v .0)) } in
+      refused-number x (subst (λ (w : Verdict). JudgedBy [] (U z .0) w) e N) (sym (ap numberOf e) ∙ v .0)
+
+  -- ---- as it is written
+
+  module _ (n p : ℕ) (en : n ≡ numberOf r) (ep : p ≡ placeOf r) {was one : List ℕ} {b : ℕ} (F : PutsLine (verdict n p) was 0 one b) where
+    pub on-refused : (x : Answer) → r ≡ Refused x → RenderedOn a was one b
+    on-refused x e = record {
+      done = λ z. absurd (is-refused x e z);
+      refused = λ h.
+          let same = J .refused h in
+          let z : n ≡ answer .number = en ∙ ap numberOf same in
+          let y : p ≡ answer .place = ep ∙ ap placeOf same in
+          subst (λ (u : ℕ × ℕ). PutsLine (verdict (u .0) (u .1)) was 0 one b) (λ k. (z k, y k)) F;
+    }
+
+    module _ (c o l h x s : ℕ) (e : r ≡ Admitted c o l h x s) where
+      zero-is : answer .number ≡ 0
+      zero-is = is-admitted c o l h x s e
+
+      lines-are : {t : Table} → Accepted t a → (ws vs : List ℕ) → Sets t ws → WholePlan t vs
+          → PrintedFor (calls.admitted t) (verdict n p ∷ (cuts c o ++ (values l h x ++ (set-lines ws ++ slot-lines vs))))
+      unfolding Answers
+      lines-are {t} A ws vs S W =
+          let v = J .done zero-is t A in
+          let D : calls.Admitted t c o l h x s = rw e at (v .2) in
+          let z : n ≡ 0 = en ∙ v .0 in
+          let y : p ≡ 0 = ep ∙ v .1 in
+          let same : D .list ≡ ws = sets-only (A .outline .timed .sound .rows-low) (D .listed) S in
+          subst
+          (λ (ls : List Line).
+          PrintedFor (calls.admitted t) (verdict n p ∷ (ls ++ (values l h x ++ (set-lines ws ++ slot-lines vs)))))
+          (sym (cuts-are (A .outline .timed .sound) (A .outline .clear) (D .cut-is) (D .second-is)))
+          (rw (z, y, D .interval-is, D .hyper-is, D .load-is ∙ ap (reported t) same) (admitted ws vs (refl, refl) S W))
+
+      pub on-admitted : {two three four now : List ℕ} {d g k size : ℕ} → PutsLines (cuts c o) 2 one b two d
+          → PutsLines (values l h x) 3 two d three g
+          → ((t : Table) → Accepted t a → (ws : List ℕ) × Sets t ws × PutsLines (set-lines ws) max-rows three g four k)
+          → ((t : Table) → Accepted t a → (vs : List ℕ) × WholePlan t vs × PutsLines (slot-lines vs) max-slots four k now size)
+          → RenderedOn a was now size
+      on-admitted {two} {three} {four} {now} {d} {g} {k} {size} C A S P = record {
+        done = λ z t T. put t T (S t T) (P t T);
+        refused = λ f. absurd (f zero-is);
       }
+        where
+          put : (t : Table) → Accepted t a → ((ws : List ℕ) × Sets t ws × PutsLines (set-lines ws) max-rows three g four k)
+              → ((vs : List ℕ) × WholePlan t vs × PutsLines (slot-lines vs) max-slots four k now size)
+              → RenderedFor (calls.admitted t) was now size
+          put t T (ws, I, L) (vs, W, M) =
+              let lists : List Line = set-lines ws ++ slot-lines vs in
+              let joined =
+              text-first (verdict n p) (cuts c o ++ (values l h x ++ lists))
+              ∙ ap (λ (u : List ℕ). textOf (verdict n p) ++ u) (text-join (cuts c o) (values l h x ++ lists)
+              ∙ ap (λ (u : List ℕ). text (cuts c o) ++ u) (text-join (values l h x) lists
+              ∙ ap (λ (u : List ℕ). text (values l h x) ++ u) (text-join (set-lines ws) (slot-lines vs)))) in
+              record {
+                lines = verdict n p ∷ (cuts c o ++ (values l h x ++ lists));
+                printed = lines-are T ws vs I W;
+                puts = subst (λ (u : List ℕ). Puts u was 0 now size) (sym joined)
+                    (puts-more (F .0) (puts-more (C .0) (puts-more (A .0) (puts-more (L .0) (M .0)))));
+                fits = omega (arith, F .1, C .1, A .1, L .1, M .1);
+              }
 
-      module _ (c o l h x s : ℕ) (e : r ≡ Admitted c o l h x s) {two three four now : List ℕ} {b d g size : ℕ} where
-        pub rendered-admitted : PutsLines (cuts c o) 2 one a two b → PutsLines (values l h x) 3 two b three d
-            → ((ws : List ℕ) × Sets (fileTable f) ws × PutsLines (set-lines ws) max-rows three d four g)
-            → ((ws : List ℕ) × WholePlan (fileTable f) ws × PutsLines (slot-lines ws) max-slots four g now size)
-            → Rendered input was now size
-        rendered-admitted C A S P =
-            let lists : List Line = set-lines (S .0) ++ slot-lines (P .0) in
-            let joined = text-first (verdict n p) (cuts c o ++ (values l h x ++ lists))
-            ∙ ap (λ (t : List ℕ). textOf (verdict n p) ++ t) (text-join (cuts c o) (values l h x ++ lists)
-            ∙ ap (λ (t : List ℕ). text (cuts c o) ++ t) (text-join (values l h x) lists
-            ∙ ap (λ (t : List ℕ). text (values l h x) ++ t) (text-join (set-lines (S .0)) (slot-lines (P .0))))) in
-            record {
-              lines = verdict n p ∷ (cuts c o ++ (values l h x ++ lists));
-              printed = printed-admitted c o l h x s e (S .0) (P .0) (S .1) (P .1);
-              puts = subst (λ (t : List ℕ). Puts t was 0 now size) (sym joined)
-                  (puts-more (F .0) (puts-more (C .0) (puts-more (A .0) (puts-more (S .2 .0) (P .2 .0)))));
-              fits = omega (arith, F .1, C .1, A .1, S .2 .1, P .2 .1);
-            }
+-- ---- from an analysis to its ask
+
+-- an admitted table's lines are those of an ask that admits it
+printed-after : (q : Ask) → None (q .checks) → (ls : List Line) → PrintedFor (calls.admitted (q .table)) ls → PrintedFor q ls
+unfolding Answers
+printed-after q none _ (refused n p a h) = absurd (h (a .0))
+printed-after q none _ (admitted ws vs a S W) = admitted ws vs (answered (q .checks) none) S W
+
+pub rendered-asked : (q : Ask) → Numbered (q .checks) → {a : Analysis} → Analysed (q .checks) (q .table) a → (was now : List ℕ) (size : ℕ)
+    → RenderedOn a was now size → RenderedFor q was now size
+rendered-asked q N {a} A was now size O = go (ℕ-discrete (a .outline .answer .number) 0)
+  where
+    go : Dec (a .outline .answer .number ≡ 0) → RenderedFor q was now size
+    go (yes z) =
+        let none = none-of (q .checks) (a .outline .answer .place) N (rw z at (A .answers)) in
+        let r = O .done z (q .table) (A .found z) in
+        record { lines = r .lines; printed = printed-after q none (r .lines) (r .printed); puts = r .puts; fits = r .fits }
+    go (no h) =
+        let n = a .outline .answer .number in
+        let p = a .outline .answer .place in
+        let F = O .refused h in
+        record {
+          lines = verdict n p ∷ [];
+          printed = refused n p (A .answers) h;
+          puts = rw (text-one (verdict n p)) (F .0);
+          fits = omega (arith, F .1);
+        }

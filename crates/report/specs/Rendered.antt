@@ -2,17 +2,26 @@
 --
 --   cuts c o           the lines of the cuts c and o, of which o is 0 where there is one ring
 --   max-size           no report is longer
---   Rendered           what `render` writes and returns
+--   RenderedFor a      the lines of the ask a, as they are written
+--   Rendered input, RelayRendered input r    what `render` and `render_relayed` write and return
+--   RenderedOn a       what `put_analysis` writes and returns of an analysis
 --
--- `was` and `now` are what the lent slice holds before and after. Only one answer of `render` fits (proofs/Only, `rendered-only`).
+-- `was` and `now` are what the lent slice holds before and after. Only one answer fits (proofs/Only).
+use mathlib.Core.Path.{_≡_}
+use mathlib.Core.Logic.{_≢_}
 use mathlib.Core.Bool.{cond}
 use mathlib.Core.List.{List, [], _∷_}
 use Prim.Native.Nat.{ℕ, _+_, _*_, _≤_}
 use lib.Dec.{eqb}
+use lib.ListN.{take}
 use Rattle.rules.specs.Bounds.{max-rows, max-slots}
+use Rattle.rules.specs.Bus.{Table}
+use Rattle.rules.specs.Calls.{Ask, fileAsk, relayedAsk, admitted}
 use Rattle.rules.specs.Text.{Line, text}
-use Rattle.rules.specs.Program.{cut, Printed}
-use Rattle.decimal.specs.Puts.{Puts, max-line}
+use Rattle.rules.specs.Program.{verdict, cut, max-input, PrintedFor}
+use Rattle.decimal.specs.Puts.{Puts, PutsLine, max-line}
+use Rattle.verdict.specs.declared.Analysis.{Analysis}
+use Rattle.verdict.specs.Analysed.{Accepted}
 
 abbrev pub cuts : ℕ → ℕ → List Line
 cuts c o = cut c ∷ cond (eqb o 0) [] (cut o ∷ [])
@@ -21,9 +30,23 @@ cuts c o = cut c ∷ cond (eqb o 0) [] (cut o ∷ [])
 abbrev pub max-size : ℕ
 max-size = max-line * (6 + max-rows + max-slots)
 
--- The program's lines stand at the front of the slice, as far as there is room; `size` is how many bytes they are.
-pub record Rendered (input was now : List ℕ) (size : ℕ) : Type 0 where
+-- The lines of an ask stand at the front of the slice, as far as there is room; `size` is how many bytes they are.
+pub record RenderedFor (a : Ask) (was now : List ℕ) (size : ℕ) : Type 0 where
   pub lines : List Line
-  pub printed : Printed input lines
+  pub printed : PrintedFor a lines
   pub puts : Puts (text lines) was 0 now size
   pub fits : size ≤ max-size
+
+-- those of the program
+abbrev pub Rendered : (input was now : List ℕ) (size : ℕ) → Type 0
+Rendered input = RenderedFor (fileAsk (take max-input input))
+
+-- and of the one with a relay (#113)
+abbrev pub RelayRendered : (input : List ℕ) (relay : ℕ) (was now : List ℕ) (size : ℕ) → Type 0
+RelayRendered input relay = RenderedFor (relayedAsk (take max-input input) relay)
+
+-- Of an analysis, whatever it was made from: its refusal, or the lines of its table.
+pub record RenderedOn (a : Analysis) (was now : List ℕ) (size : ℕ) : Type 0 where
+  pub done : a .outline .answer .number ≡ 0 → (t : Table) → Accepted t a → RenderedFor (admitted t) was now size
+  pub refused : a .outline .answer .number ≢ 0
+      → PutsLine (verdict (a .outline .answer .number) (a .outline .answer .place)) was 0 now size

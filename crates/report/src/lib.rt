@@ -2,24 +2,22 @@
 //
 // Each `put_` function writes lines from place `at` on, as far as there is room, and returns the place after them.
 use decimal::put_line;
-use table::Answer;
 use table::Table;
+use verdict::Analysis;
 use verdict::Verdict;
 ghost use mathlib.Core.Path.{_≡_};
 ghost use mathlib.Core.List.{List, [], _∷_};
 ghost use Prim.Native.Nat.{ℕ, _+_, _*_, _≤_, min};
 ghost use lib.ListN.{length};
 ghost use Rattle.rules.specs.Bounds.{max-rows, max-slots};
-ghost use Rattle.rules.specs.TableFile.{fileTable};
+ghost use Rattle.rules.specs.Bus as bus;
 ghost use Rattle.rules.specs.Line.{Sets};
-ghost use Rattle.rules.specs.Loads.{hyperperiod};
 ghost use Rattle.rules.specs.Planner.{WholePlan};
-ghost use Rattle.rules.specs.Refusals.{Answers, verdict-checks};
-ghost use Rattle.rules.specs.Calls.{fileAsk};
-ghost use Rattle.planner.specs.Answers.{PlanAnswer};
+ghost use Rattle.verdict.specs.Analysed.{Accepted};
+ghost use Rattle.planner.specs.Analysed.{Usable};
 ghost use Rattle.decimal.specs.Puts.{limit, lineOf, max-line, PutsLine, PutsLines};
 ghost use Rattle.rules.specs.Program.{verdict, values, set, slot, set-lines, slot-lines};
-ghost use Rattle.report.specs.Rendered.{cuts, Rendered};
+ghost use Rattle.report.specs.Rendered.{cuts, Rendered, RelayRendered, RenderedOn};
 
 // The program's input: one byte more than the longest table file has, so that a longer one is refused for its length.
 pub const INPUT: usize = Table::FILE_BYTES + 1;
@@ -104,57 +102,38 @@ fn put_slots(words: &[u64], out: &mut [u8], at: usize) -> usize
     next
 }
 
-// ---- an admitted table's lists
+// ---- an analysed table's lists
 
-fn put_list(file: &[u8], out: &mut [u8], at: usize) -> usize
-    requires { ⌜ Answers (verdict-checks (now file)) 0 0 × (at + max-line * max-rows ≤ limit) ⌝ }
-    ensures { λ r. ⌜ ((ws : List ℕ) × Sets (fileTable (now (file .entry))) ws
+fn put_list(table: Analysis, out: &mut [u8], at: usize) -> usize
+    requires { ⌜ Usable table × (table .outline .answer .number ≡ 0) × (at + max-line * max-rows ≤ limit) ⌝ }
+    ensures { λ r. ⌜ ((t : bus.Table) → Accepted t table → (ws : List ℕ) × Sets t ws
         × PutsLines (set-lines ws) max-rows (now (out .entry)) at (now (out .exit)) r) ⌝ }
 {
-    let mut words = [0u64; Table::ROWS];
-    let list = outline::list_of_sets(file, &mut words);
-    let sets = list.sets as usize;
+    let words = table.outline.words;
+    let sets = table.outline.sets;
     put_sets(&words[..sets], out, at)
 }
 
-// The whole plan of a file's table, by the plain planner (#114) or by the other: they are the same.
-fn plan_by(plain: bool, file: &[u8], plan: &mut [u64]) -> Answer
-    ensures { λ r. ⌜ PlanAnswer (fileAsk (now (file .entry))) r (now (plan .entry)) (now (plan .exit)) ⌝ }
-{
-    if plain {
-        planner::plain_plan(file, plan)
-    } else {
-        planner::whole_plan(file, plan)
-    }
-}
-
-pub fn put_plan(file: &[u8], plain: bool, hyper: u32, out: &mut [u8], at: usize) -> usize
-    requires { ⌜ Answers (verdict-checks (now file)) 0 0 × (hyper ≡ hyperperiod (fileTable (now file)))
-        × (at + max-line * max-slots ≤ limit) ⌝ }
-    ensures { λ r. ⌜ ((ws : List ℕ) × WholePlan (fileTable (now (file .entry))) ws
+// The slots of its whole plan, by the plain planner (#114) or by the other: they are the same.
+pub fn put_plan(table: Analysis, plain: bool, out: &mut [u8], at: usize) -> usize
+    requires { ⌜ Usable table × (table .outline .answer .number ≡ 0) × (at + max-line * max-slots ≤ limit) ⌝ }
+    ensures { λ r. ⌜ ((t : bus.Table) → Accepted t table → (ws : List ℕ) × WholePlan t ws
         × PutsLines (slot-lines ws) max-slots (now (out .entry)) at (now (out .exit)) r) ⌝ }
 {
+    let slots = table.outline.time.hyper as usize;
     let mut plan = [0u64; Table::SLOTS];
-    plan_by(plain, file, &mut plan);
-    let slots = hyper as usize;
+    planner::plan_on(table, plain, &mut plan);
     put_slots(&plan[..slots], out, at)
 }
 
 // ---- the report
 
-fn least(a: usize, b: usize) -> usize
-    ensures { λ r. ⌜ r ≡ min a b ⌝ }
+// What is printed of an analysed table, at the front of `out`; how many bytes it is. Of a refusal it is the first line only.
+pub fn put_analysis(table: Analysis, out: &mut [u8]) -> usize
+    requires { ⌜ Usable table ⌝ }
+    ensures { λ r. ⌜ RenderedOn table (now (out .entry)) (now (out .exit)) r ⌝ }
 {
-    if a < b { a } else { b }
-}
-
-// What the program prints for its input, at the front of `out`; how many bytes it is. Of a refusal it is the first line only.
-pub fn render(input: &[u8], out: &mut [u8]) -> usize
-    ensures { λ r. ⌜ Rendered (now (input .entry)) (now (out .entry)) (now (out .exit)) r ⌝ }
-{
-    let read = least(input.len(), INPUT);
-    let file = &input[..read];
-    let answer = verdict::judge(file);
+    let answer = verdict::verdict_of(table);
     let first = put_verdict(answer.number(), answer.place(), out);
     let Verdict::Admitted {
         cut,
@@ -169,6 +148,28 @@ pub fn render(input: &[u8], out: &mut [u8]) -> usize
     };
     let parted = put_cuts(cut, other, out, first);
     let valued = put_values(interval, hyper, load, out, parted);
-    let listed = put_list(file, out, valued);
-    put_plan(file, false, hyper, out, listed)
+    let listed = put_list(table, out, valued);
+    put_plan(table, false, out, listed)
+}
+
+fn least(a: usize, b: usize) -> usize
+    ensures { λ r. ⌜ r ≡ min a b ⌝ }
+{
+    if a < b { a } else { b }
+}
+
+// What the program prints for its input.
+pub fn render(input: &[u8], out: &mut [u8]) -> usize
+    ensures { λ r. ⌜ Rendered (now (input .entry)) (now (out .entry)) (now (out .exit)) r ⌝ }
+{
+    let read = least(input.len(), INPUT);
+    put_analysis(verdict::analyse(&input[..read]), out)
+}
+
+// What the program with a relay prints (#113).
+pub fn render_relayed(input: &[u8], relay: usize, out: &mut [u8]) -> usize
+    ensures { λ r. ⌜ RelayRendered (now (input .entry)) relay (now (out .entry)) (now (out .exit)) r ⌝ }
+{
+    let read = least(input.len(), INPUT);
+    put_analysis(relayed::analyse(&input[..read], relay), out)
 }

@@ -84,6 +84,16 @@ pub fn mirrored(m: usize, d: usize, e: usize) -> usize
     if d == 0 { e } else { m + 1 - e }
 }
 
+// Whether a row of direction `way` goes through element `e`.
+pub fn goes_through(m: usize, way: usize, from: usize, to: usize, e: usize) -> bool
+    requires { ⌜ (m ≤ max-elements) × Element m from × Element m to × Element m e ⌝ }
+    ensures { λ r. ⌜ r ≡ bus.routeThrough m (bus.mirror m way from) (bus.mirror m way to) (bus.mirror m way e) ⌝ }
+{
+    let start = mirrored(m, way, from);
+    let on = steps(m, start, mirrored(m, way, e));
+    0 < on && on < steps(m, start, mirrored(m, way, to))
+}
+
 // The elements that a row of direction `way` goes through, in the numbers of ring `d`; none where it runs on the other ring.
 fn through_row(m: usize, d: usize, way: usize, from: usize, to: usize) -> u64
     requires { ⌜ (m ≤ max-elements) × Element m from × Element m to ⌝ }

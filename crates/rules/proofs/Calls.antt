@@ -65,6 +65,11 @@ module _ (cs : List Check) (A : Type 0) {Done Refused : Type 0} where
         refused = λ g. absurd (g refl);
       })
 
+-- ---- checks before a call's own
+
+pub call-after : (cs ds : List Check) {n p : ℕ} {D R : Type 0} → None cs → Call ds n p D R → Call (cs ++ ds) n p D R
+call-after cs ds {n} {p} a c = record { answers = joined cs ds n p a (c .answers); done = c .done; refused = c .refused }
+
 -- ---- only one answer fits
 
 pub call-only : {cs : List Check} {D R D′ R′ : Type 0} {m n p q : ℕ} → Call cs m p D R → Call cs n q D′ R′

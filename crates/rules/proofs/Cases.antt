@@ -24,18 +24,21 @@ use Rattle.rules.specs.Bus.{Table, unlabelled, mirror, mirrorSegment, st
 use Rattle.rules.specs.TableFile.{version-1, version-2, ringsOf, markOf, labelSize, lastSize, wayIn, labelIn, lastOf}
 use Rattle.rules.specs.TableFile.{rowBytes, bytes}
 use Rattle.rules.specs.Line.{clear, cut, boardCut, onLine, lineFirst, lineSecond, Sets}
+use Rattle.rules.specs.Relay.{splitRow, splitRows, split}
 use Rattle.rules.specs.Loads.{hyperperiod, jobEnd, nextEnd, start, end, intervals, someInterval, shortest}
 use Rattle.rules.specs.Loads.{rate, share, equalPeriods, light, past, over, reported}
 use Rattle.rules.specs.Interval.{lag, before, hinders, free}
 use Rattle.rules.specs.Planner.{Stage, due, finished, none, more, reached, Off, standing, WholePlan}
 use Rattle.rules.specs.Refusals.{header-checks, row-checks, file-checks, pasted-checks, given-checks}
 use Rattle.rules.specs.Refusals.{cut-checks, line-checks, bound-checks, verdict-checks}
+use Rattle.rules.specs.Refusals.{relay-checks, split-checks, relayed-line-checks, relayed-checks}
 use Rattle.rules.specs.Cases.{case-A, case-A-labels, case-B, case-B-with, equal-with, pasted-with, round, thirds, halves}
 use Rattle.rules.specs.Cases.{none-had, B-at, Cases}
 use Rattle.rules.specs.Cases.{uneven, uneven-with}
 use Rattle.rules.specs.Cases.{board, turned-with, round-turned, twice-with}
+use Rattle.rules.specs.Cases.{through-1, halved-equal, light-behind, over-behind}
 use Rattle.rules.proofs.Sets.{set-in, sets-only, sets-by}
-use Rattle.rules.proofs.Verdict.{verdict-by}
+use Rattle.rules.proofs.Verdict.{verdict-by, relayed-by, relayed-stops}
 use Rattle.rules.proofs.Steps.{Outcome, Outcomes, Best, rounded-test, qualify-test, moved-on, outcomes-by, best-test}
 use Rattle.rules.proofs.Steps.{step-is, step-of, run-first, standing-at}
 use Rattle.rules.proofs.Plans.{run-more}
@@ -46,6 +49,7 @@ unfolding any every lowest highest only sum bit lcm product Rounded each mirror 
     writeLow ringsOf markOf labelSize lastSize wayIn labelIn lastOf rowBytes bytes clear cut boardCut onLine lineFirst lineSecond
     hyperperiod jobEnd nextEnd start end intervals someInterval shortest rate equalPeriods light past over largest reported lag before
     hinders free standing header-checks row-checks file-checks pasted-checks given-checks cut-checks line-checks bound-checks verdict-checks
+    splitRow splitRows relay-checks split-checks relayed-line-checks relayed-checks
 computing = tt
 
 -- a table's file in version 1
@@ -83,6 +87,10 @@ sets-apart : Sets (turned-with 1 0) (2 ∷ 1 ∷ [])
 unfolding computing
 sets-apart = sets-by (turned-with 1 0) (2 ∷ 1 ∷ []) tt
 
+sets-through : Sets (split through-1 1) (5 ∷ 2 ∷ [])
+unfolding computing
+sets-through = sets-by (split through-1 1) (5 ∷ 2 ∷ []) tt
+
 -- a list of sets that is there is the only one
 listed : (t : Table) (ws vs : List ℕ) → 0 < t .rows → Sets t vs → Sets t ws ↔ (ws ≡ vs)
 listed t ws vs some S = ((λ A. sets-only some A S), (λ e. subst (Sets t) (sym e) S))
@@ -111,6 +119,18 @@ step-B = outcomes-by case-B (3 ∷ []) (sets-B 3) 0 none-had (one ∷ two ∷ []
 after-two : Outcomes case-B 1 (moved-on none-had (two .0)) (one ∷ [])
 unfolding computing
 after-two = outcomes-by case-B (3 ∷ []) (sets-B 3) 1 (moved-on none-had (two .0)) (one ∷ []) tt
+
+-- the split table has one
+abbrev halves-moved : Outcome
+halves-moved = (1 ∷ 1 ∷ 1 ∷ [], 3 ∷ 4 ∷ [])
+
+step-through : Outcomes (split through-1 1) 0 none-had (halves-moved ∷ [])
+unfolding computing
+step-through = outcomes-by (split through-1 1) (5 ∷ 2 ∷ []) sets-through 0 none-had (halves-moved ∷ []) tt
+
+best-through : Best (split through-1 1) 0 none-had (halves-moved ∷ []) halves-moved
+unfolding computing
+best-through = best-test (split through-1 1) (5 ∷ 2 ∷ []) sets-through 0 none-had (halves-moved ∷ []) halves-moved .is tt
 
 -- the greatest of them: row 0 has one slot in either, so row 1 decides
 
@@ -162,6 +182,13 @@ unfolding computing
 plan-A ws = (
   (λ w. run-first step-A best-A (w .1) .0),
   (λ e. subst (WholePlan case-A) (sym e) (_, more none (step-of step-A best-A))),
+)
+
+plan-through : (ws : List ℕ) → WholePlan (split through-1 1) ws ↔ (ws ≡ 3 ∷ 4 ∷ [])
+unfolding computing
+plan-through ws = (
+  (λ w. run-first step-through best-through (w .1) .0),
+  (λ e. subst (WholePlan (split through-1 1)) (sym e) (_, more none (step-of step-through best-through))),
 )
 
 plans-B : (ws : List ℕ) → WholePlan case-B ws ↔ (ws ≡ 1 ∷ 2 ∷ 2 ∷ 0 ∷ 1 ∷ 2 ∷ 0 ∷ 0 ∷ [])
@@ -295,4 +322,26 @@ cases = record {
   third-way = verdict-by (file (twice-with 0 1 2)) (1 ∷ 2 ∷ []) 26 1 tt tt refl;
   cost-first = verdict-by (file (twice-with 0 0 2)) (1 ∷ 2 ∷ []) 9 1 tt tt refl;
   row-first = verdict-by (file (twice-with 2 0 0)) (2 ∷ 1 ∷ []) 26 0 tt tt refl;
+  round-relays = (
+    relayed-by (file round) 1 (9 ∷ 3 ∷ 6 ∷ []) 0 0 tt tt refl,
+    relayed-by (file round) 2 (6 ∷ 12 ∷ 9 ∷ []) 0 0 tt tt refl,
+    relayed-by (file round) 3 (12 ∷ 9 ∷ 3 ∷ []) 0 0 tt tt refl,
+  );
+  round-cuts = (refl, refl, refl);
+  round-wrong = (relayed-stops (file round) 0 27 0 tt refl, relayed-stops (file round) 4 27 0 tt refl);
+  round-halves = (refl, refl, refl, refl, refl, refl, refl);
+  no-halves = (refl, relayed-by (file case-A) 1 (3 ∷ 6 ∷ []) 0 0 tt tt refl);
+  equal-halves = relayed-by (file halved-equal) 2 (5 ∷ 2 ∷ []) 0 0 tt tt refl;
+  given-first = relayed-stops (file (pasted-with 1)) 0 18 1 tt refl;
+  lower-cut = refl;
+  light-place = (
+    relayed-by (file light-behind) 2 (1 ∷ 2 ∷ 4 ∷ []) 13 2 tt tt refl,
+    verdict-by (file light-behind) (1 ∷ 2 ∷ []) 13 1 tt tt refl,
+  );
+  over-place = (
+    relayed-by (file over-behind) 2 (1 ∷ 6 ∷ []) 14 1 tt tt refl,
+    verdict-by (file over-behind) (3 ∷ []) 14 0 tt tt refl,
+  );
+  board-relay = relayed-stops (file board) 1 2 0 tt refl;
+  through-1-words = plan-through;
 }

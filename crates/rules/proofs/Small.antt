@@ -1,5 +1,5 @@
--- Every answer of the verdict and of the whole plan, also with limits, and of the writer has a small number and a small place, so that both
--- fit one number for C.
+-- Every answer of the verdict and of the whole plan, also with limits or a relay, and of the writer has a small number and a small place,
+-- so that both fit one number for C.
 use mathlib.Core.Logic.{⊎-elim}
 use mathlib.Core.List.{List, [], _∷_, _++_, append-assoc}
 use Prim.Native.Nat.{ℕ, suc, _*_, _-_, _≤_, _<_}
@@ -13,14 +13,16 @@ use Rattle.rules.specs.Bus.{Table, Labelled}
 use Rattle.rules.specs.TableFile.{rowNumbers, ringsOf, fileTable, fileLabelled, memoryWith, memoryLabelledWith}
 use Rattle.rules.specs.Loads.{hyperperiod}
 use Rattle.rules.specs.Parties.{ours, theirs, own}
+use Rattle.rules.specs.Relay.{split}
 use Rattle.rules.specs.Refusals.{Check, Answers, last-number, faults, pasted-row, light-row, over-bound, short-output}
 use Rattle.rules.specs.Refusals.{short-file, wrong-mark, no-cut, long-hyperperiod, cut-checks}
 use Rattle.rules.specs.Refusals.{over-limit, wrong-limit, segment-checks, limit-checks, limited-checks}
 use Rattle.rules.specs.Refusals.{header-checks, row-checks, file-checks, pasted-checks, given-checks, line-checks, bound-checks}
+use Rattle.rules.specs.Refusals.{relay-checks, split-checks, relayed-line-checks, relayed-checks}
 use Rattle.rules.specs.Refusals.{no-row, shared-checks, verdict-checks, plan-checks}
 use Rattle.rules.specs.Refusals.{lost-label, size-checks, memory-checks, label-checks, version-checks, writer-checks}
 use Rattle.rules.proofs.Rings.{rings-few}
-use Rattle.rules.proofs.Answers.{None, Fit, answers-split, answers-fit, fit-join, fit-each}
+use Rattle.rules.proofs.Answers.{None, Fit, none-right, answers-split, answers-fit, fit-join, fit-each}
 
 -- places are rows, or sets, of which there are no more than rows, or segments, of which there are fewer
 abbrev pub last-place : ℕ
@@ -76,16 +78,19 @@ writer-fit m v M n xs room few =
           (lit≤ tt, lit≤ tt, tt),
     )
 
+pasted-fit : (t : Table) → t .rows ≤ max-rows → Fit last-number last-place (pasted-checks t)
+unfolding pasted-checks Fit
+pasted-fit t few = fit-each last-number last-place (λ i. pasted-row t i ∷ []) (t .rows) (λ i l. (lit≤ tt, omega arith, tt))
+
 table-fit : (t : Table) (ds : List Check) → t .rows ≤ max-rows → t .rings ≤ max-rings → Fit last-number last-place ds
     → Fit last-number last-place (past-header t ds)
-unfolding pasted-checks cut-checks line-checks Fit
+unfolding cut-checks line-checks Fit
 table-fit t ds few two fit =
-    let pasted = fit-each last-number last-place (λ i. pasted-row t i ∷ []) (t .rows) (λ i l. (lit≤ tt, omega arith, tt)) in
     let cuts = fit-each last-number last-place (λ d. no-cut t d ∷ []) (t .rings) (λ d l. (lit≤ tt, omega arith, tt)) in
     let long = long-hyperperiod t ∷ [] in
     let line = fit-join last-number last-place (cut-checks t) long cuts (lit≤ tt, lit≤ tt, tt) in
     fit-join last-number last-place (row-checks t) (pasted-checks t ++ (line-checks t ++ ds)) (rows-fit t few)
-    (fit-join last-number last-place (pasted-checks t) (line-checks t ++ ds) pasted
+    (fit-join last-number last-place (pasted-checks t) (line-checks t ++ ds) (pasted-fit t few)
     (fit-join last-number last-place (line-checks t) ds line fit))
 
 bound-fit : (t : Table) → t .rows ≤ max-rows → Fit last-number last-place (bound-checks t)
@@ -133,6 +138,47 @@ limited-small f our their n p r =
     (fit-join last-number last-place limits (bound-checks t) (limits-fit (fileLabelled f) our their low) (bound-fit t few)))
     (rw (append-assoc, append-assoc) at (a .1)))
     (answers-split front (given-checks f ++ (line-checks t ++ ds)) n p r)
+
+-- ---- with a relay
+
+module _ (f : List ℕ) (r : ℕ) where
+  abbrev given : Table
+  given = fileTable f
+
+  relay-fit : Fit last-number last-place (relay-checks given r)
+  unfolding relay-checks Fit
+  relay-fit = (lit≤ tt, lit≤ tt, (lit≤ tt, lit≤ tt, tt))
+
+  split-small : (n p : ℕ) → Answers (split-checks f r) n p → (n ≤ last-number) × (p ≤ last-place)
+  unfolding split-checks given-checks file-checks Fit
+  split-small n p a =
+      let front = short-file f ∷ wrong-mark f ∷ [] in
+      let past = pasted-checks given ++ relay-checks given r in
+      ⊎-elim
+      (λ b. answers-fit last-number last-place front n p (lit≤ tt, lit≤ tt, (lit≤ tt, lit≤ tt, tt)) b)
+      (λ b.
+      small-by f (row-checks given ++ past) n p
+      (λ low few.
+      fit-join last-number last-place (row-checks given) past (rows-fit given few)
+      (fit-join last-number last-place (pasted-checks given) (relay-checks given r) (pasted-fit given few) relay-fit))
+      (rw (append-assoc, append-assoc) at (b .1)))
+      (answers-split front (given-checks f ++ relay-checks given r) n p a)
+
+  -- past 28 the split table has no more rows than a table may have
+  few-split : None (split-checks f r) → split given r .rows ≤ max-rows
+  unfolding split-checks relay-checks None
+  few-split none =
+      let few = none-right (short-file f ∷ wrong-mark f ∷ given-checks f) (relay-checks given r) none .1 .0 in
+      omega (arith, few)
+
+  pub relayed-small : (n p : ℕ) → Answers (relayed-checks f r) n p → (n ≤ last-number) × (p ≤ last-place)
+  unfolding relayed-checks relayed-line-checks Fit
+  relayed-small n p a =
+      let t = split given r in
+      let past = long-hyperperiod t ∷ bound-checks t in
+      ⊎-elim (split-small n p)
+      (λ b. answers-fit last-number last-place past n p (lit≤ tt, lit≤ tt, bound-fit t (few-split (b .0))) (b .1))
+      (answers-split (split-checks f r) past n p (rw append-assoc at a))
 
 -- ---- of two rows, and of plans
 

@@ -3,13 +3,14 @@
 --   Tests cs           a test for each check of cs
 --   answer ts          number and place of the first check whose test holds, or 0 and 0
 --   verdict-tests      the tests of the verdict's checks
+--   relayed-tests      those of the verdict with a relay (#113)
 use mathlib.Core.Path.{_≡_, refl, subst}
-use mathlib.Core.Logic.{inl, inr}
+use mathlib.Core.Logic.{inl, inr, _≢_}
 use mathlib.Core.List.{List, [], _∷_, _++_}
 use mathlib.Core.Bool.{Bool, true, false, cond}
 use Prim.Native.Nat.{ℕ, zero, suc, _+_, _-_, _*_, _≤_, _<_}
 use native.Mathlib.Omega.{arith}
-use lib.Dec.{T, ltb, lit<}
+use lib.Dec.{T, ltb, ltb→lt, lit<}
 use lib.ListN.{length}
 use Rattle.numbers.specs.Word.{bit}
 use Rattle.numbers.specs.Lists.{at, each}
@@ -20,12 +21,14 @@ use Rattle.rules.specs.TableFile.{fileRings, fileTable}
 use Rattle.rules.specs.Line.{Sets}
 use Rattle.rules.specs.Loads.{hyperperiod, light, over}
 use Rattle.rules.specs.Parties.{ours, theirs, own, overLimit}
+use Rattle.rules.specs.Relay.{split}
 use Rattle.rules.specs.Refusals.{
   Check,
   Answers,
   unknown-mark,
   wrong-version,
   no-cut,
+  long-hyperperiod,
   over-bound,
   row-checks,
   header-checks,
@@ -38,9 +41,14 @@ use Rattle.rules.specs.Refusals.{
   segment-checks,
   limit-checks,
   verdict-checks,
+  relay-checks,
+  split-checks,
+  relayed-line-checks,
+  relayed-checks,
 }
 use Rattle.numbers.proofs.Tests.{Test, holds-test, lt-test, le-test, eq-test, list-test}
 use Rattle.numbers.proofs.Tests.{as-test, not-test, and-test, or-test, every-test, any-test}
+use Rattle.rules.proofs.Answers.{stopped}
 use Rattle.rules.proofs.Sets.{sets-only, sets-test, sets-by}
 
 infixr 10 _then_
@@ -169,3 +177,35 @@ pub verdict-by : (f ws : List ℕ) (n p : ℕ) (some : T (ltb 0 (fileTable f .ro
 verdict-by f ws n p some listed e =
     subst (λ (r : ℕ × ℕ). Answers (verdict-checks f) (r .0) (r .1)) e
     (answer-is (verdict-tests f ws (lit< some) (sets-by (fileTable f) ws listed)))
+
+-- ---- with a relay
+
+abbrev pub split-tests : (f : List ℕ) (r : ℕ) → Tests (split-checks f r)
+unfolding split-checks relay-checks
+split-tests f r =
+    tests-join (lt-test (length f) headerSize then not-test (list-test (mark f) table-mark) then given-tests f)
+    (not-test (in-test r 1 (fileTable f .elements)) then lt-test max-rows (split (fileTable f) r .rows) then none)
+
+module _ (f : List ℕ) (r : ℕ) where
+  abbrev t : Table
+  t = split (fileTable f) r
+
+  abbrev pub relayed-tests : (ws : List ℕ) → 0 < t .rows → Sets t ws → Tests (relayed-checks f r)
+  unfolding relayed-checks relayed-line-checks
+  relayed-tests ws pos A =
+      tests-join (tests-join (split-tests f r) (lt-test max-slots (hyperperiod t) then none)) (bound-tests t pos ws A)
+
+  pub relayed-by : (ws : List ℕ) (n p : ℕ) (some : T (ltb 0 (t .rows))) (listed : T (sets-test t ws .test))
+      → answer (relayed-tests ws (lit< some) (sets-by t ws listed)) ≡ (n, p) → Answers (relayed-checks f r) n p
+  relayed-by ws n p some listed e =
+      subst (λ (q : ℕ × ℕ). Answers (relayed-checks f r) (q .0) (q .1)) e (answer-is (relayed-tests ws (lit< some) (sets-by t ws listed)))
+
+  -- a refusal of the table as it is given, or of the relay
+  pub relayed-stops : (n p : ℕ) → T (ltb 0 n) → answer (split-tests f r) ≡ (n, p) → Answers (relayed-checks f r) n p
+  unfolding relayed-checks relayed-line-checks
+  relayed-stops n p some e =
+      let h : n ≢ 0 = λ z. let l = ltb→lt 0 n some in let q : ⊥ = omega (arith, z, l) in q in
+      let a : Answers (split-checks f r) n p =
+      subst (λ (q : ℕ × ℕ). Answers (split-checks f r) (q .0) (q .1)) e (answer-is (split-tests f r)) in
+      stopped (split-checks f r ++ (long-hyperperiod t ∷ [])) (bound-checks t) n p h
+      (stopped (split-checks f r) (long-hyperperiod t ∷ []) n p h a)

@@ -10,6 +10,9 @@
 --   fileAsk f           a file's table, and the verdict's checks
 --   oneRingAsk f        the same where a table of one ring alone is taken (#112)
 --   limitedAsk f x y    a file's table, and the checks of the verdict with limits (#108)
+--   relayedAsk f r      a file's table split at the relay r, and the checks of the verdict with a relay (#113)
+--   lineAsk f, relayedLineAsk f r    the same tables, and the checks up to 11
+--   admitted t          a table, and no checks
 --   Judged              the verdict
 --   Listed              the list of sets
 --   Planned             the whole plan
@@ -31,6 +34,7 @@ use Rattle.numbers.specs.Lists.{at}
 use Rattle.rules.specs.Bounds.{max-rows}
 use Rattle.rules.specs.Bus.{Table, clockwise, counterclockwise, shared, common}
 use Rattle.rules.specs.TableFile.{mark, version, ringsOf, fileTable, fileLabelled, memoryLabelledWith, numbers, bytes}
+use Rattle.rules.specs.Relay.{split}
 use Rattle.rules.specs.Line.{boardCut, setAt, Sets}
 use Rattle.rules.specs.Loads.{hyperperiod, shortest, reported}
 use Rattle.rules.specs.ElementList.{ElementList, fileList, memoryList, listNumbers, listBytes, movesList}
@@ -43,8 +47,12 @@ use Rattle.rules.specs.Refusals.{
   writer-checks,
   shared-checks,
   one-ring-checks,
+  given-checks,
+  line-checks,
   verdict-checks,
   limited-checks,
+  relayed-line-checks,
+  relayed-checks,
   sets-checks,
   set-checks,
   plan-checks,
@@ -99,7 +107,8 @@ Crowded file k number place rows segments =
     ((ws : List ℕ) × Sets (fileTable file) ws × (k < length ws) × (rows ≡ at ws k) × (segments ≡ common (fileTable file) (setAt ws k)))
     ((rows ≡ 0) × (segments ≡ 0))
 
--- Verdict, whole plan, step and standings have forms with other checks before their own. So they are said of any table with checks.
+-- Verdict, list of sets, whole plan, step and standings have forms with other checks before their own, or on another table. So they are
+-- said of any table with checks.
 pub record Ask : Type 1 where
   pub checks : List Check
   pub table : Table
@@ -114,6 +123,21 @@ oneRingAsk f = record { checks = one-ring-checks f (verdict-checks f); table = f
 -- the same with a limit for each party (#108)
 abbrev pub limitedAsk : List ℕ → (our their : ℕ) → Ask
 limitedAsk f our their = record { checks = limited-checks f our their; table = fileTable f }
+
+-- the same with a relay, of the split table (#113)
+abbrev pub relayedAsk : List ℕ → ℕ → Ask
+relayedAsk f r = record { checks = relayed-checks f r; table = split (fileTable f) r }
+
+-- the list of sets is there past 11: a file's table, and the checks up to there
+abbrev pub lineAsk : List ℕ → Ask
+lineAsk f = record { checks = given-checks f ++ line-checks (fileTable f); table = fileTable f }
+
+abbrev pub relayedLineAsk : List ℕ → ℕ → Ask
+relayedLineAsk f r = record { checks = relayed-line-checks f r; table = split (fileTable f) r }
+
+-- a table that has passed all checks before a call's own
+abbrev pub admitted : Table → Ask
+admitted t = record { checks = []; table = t }
 
 -- When admitted, the verdict also returns cut, L, h, reported load and the number of sets. A table with two rings has two cuts; the second
 -- of a table with one is 0 (#112).
@@ -133,10 +157,10 @@ Judged a number place cut second interval hyper load sets =
     ((cut ≡ 0) × (second ≡ 0) × (interval ≡ 0) × (hyper ≡ 0) × (load ≡ 0) × (sets ≡ 0))
 
 -- Returns the length of the list, and fills a slice with it.
-abbrev pub Listed : (file was now : List ℕ) (number place sets : ℕ) → Type 0
-Listed file was now number place sets =
-    Call (sets-checks file (length was)) number place
-    ((ws : List ℕ) × Sets (fileTable file) ws × (sets ≡ length ws) × (now ≡ lent ws was))
+abbrev pub Listed : (a : Ask) (was now : List ℕ) (number place sets : ℕ) → Type 0
+Listed a was now number place sets =
+    Call (sets-checks (a .checks) (a .table) (length was)) number place
+    ((ws : List ℕ) × Sets (a .table) ws × (sets ≡ length ws) × (now ≡ lent ws was))
     ((sets ≡ 0) × (now ≡ was))
 
 abbrev pub Planned : (a : Ask) (was now : List ℕ) (number place : ℕ) → Type 0

@@ -12,10 +12,11 @@ use Rattle.rules.specs.Bounds.{max-rings}
 use Rattle.rules.specs.Bus.{Table, Labelled, unlabelled, clockwise, counterclockwise}
 use Rattle.rules.specs.TableFile.{version-1, version-2, memoryTable, memoryWith, memoryLabelled, bytes}
 use Rattle.rules.specs.Line.{boardCut, lineSecond, Sets}
+use Rattle.rules.specs.Relay.{split, standsAt}
 use Rattle.rules.specs.Loads.{hyperperiod, end, intervals, shortest, load, light, over, reported}
 use Rattle.rules.specs.Interval.{lag, Qualify}
 use Rattle.rules.specs.Planner.{Stage, due, finished, Planner, fresh, Off, standing, Step, WholePlan}
-use Rattle.rules.specs.Refusals.{Answers, verdict-checks}
+use Rattle.rules.specs.Refusals.{Answers, verdict-checks, relayed-checks}
 
 -- M 4, rows (2,4,1,3), (1,4,2,4), (2,4,3,1)
 abbrev pub case-A : Table
@@ -79,6 +80,26 @@ round-turned = memoryWith max-rings 3 3 (1 ∷ 4 ∷ 3 ∷ 1 ∷ 1 ∷ 1 ∷ 4 �
 abbrev pub twice-with : (d c e : ℕ) → Table
 twice-with d c e = memoryWith max-rings 3 2 (1 ∷ 4 ∷ 1 ∷ 2 ∷ d ∷ c ∷ 4 ∷ 1 ∷ 2 ∷ e ∷ [])
 
+-- M 3, rows (1,2,1,2), (1,2,3,2): row 1 goes through element 1 (#113)
+abbrev pub through-1 : Table
+through-1 = memoryTable 3 2 (1 ∷ 2 ∷ 1 ∷ 2 ∷ 0 ∷ 1 ∷ 2 ∷ 3 ∷ 2 ∷ 0 ∷ [])
+
+-- M 3, rows (1,4,1,3), (1,4,1,2): split at 2, the first half of row 0 is row 1 but for where it stands
+abbrev pub halved-equal : Table
+halved-equal = memoryTable 3 2 (1 ∷ 4 ∷ 1 ∷ 3 ∷ 0 ∷ 1 ∷ 4 ∷ 1 ∷ 2 ∷ 0 ∷ [])
+
+-- M 5, rows (1,4,4,1), (1,4,2,4), (1,4,5,2)
+abbrev pub cut-before : Table
+cut-before = memoryTable 5 3 (1 ∷ 4 ∷ 4 ∷ 1 ∷ 0 ∷ 1 ∷ 4 ∷ 2 ∷ 4 ∷ 0 ∷ 1 ∷ 4 ∷ 5 ∷ 2 ∷ 0 ∷ [])
+
+-- M 4, rows (3,4,1,3), (1,8,3,4): row 1 is light
+abbrev pub light-behind : Table
+light-behind = memoryTable 4 2 (3 ∷ 4 ∷ 1 ∷ 3 ∷ 0 ∷ 1 ∷ 8 ∷ 3 ∷ 4 ∷ 0 ∷ [])
+
+-- M 4, rows (3,4,1,3), (2,4,2,4): over the bound past element 2
+abbrev pub over-behind : Table
+over-behind = memoryTable 4 2 (3 ∷ 4 ∷ 1 ∷ 3 ∷ 0 ∷ 2 ∷ 4 ∷ 2 ∷ 4 ∷ 0 ∷ [])
+
 -- at first the rows have had no slots
 abbrev pub none-had : ℕ → ℕ
 none-had i = 0
@@ -90,6 +111,10 @@ B-at s totals = record { stage = s; totals = at totals }
 -- the verdict on a table's file gives this number and place
 abbrev Verdict : Table → ℕ → ℕ → Type 0
 Verdict t number place = Answers (verdict-checks (bytes version-1 (unlabelled t))) number place
+
+-- with a relay, likewise (#113)
+abbrev Relayed : Table → (relay number place : ℕ) → Type 0
+Relayed t relay number place = Answers (relayed-checks (bytes version-1 (unlabelled t)) relay) number place
 
 pub record Cases : Type 0 where
   -- P1: case A's cut, sets and words
@@ -183,3 +208,25 @@ pub record Cases : Type 0 where
   pub third-way : Verdict (twice-with 0 1 2) 26 1
   pub cost-first : Verdict (twice-with 0 0 2) 9 1
   pub row-first : Verdict (twice-with 2 0 0) 26 0
+  -- #113: P10's table with each relay: it has a cut there, and is admitted; 0 and M + 1 are no elements
+  pub round-relays : Relayed round 1 0 0 × Relayed round 2 0 0 × Relayed round 3 0 0
+  pub round-cuts : (boardCut (split round 1) clockwise ≡ 1) × (boardCut (split round 2) clockwise ≡ 2)
+      × (boardCut (split round 3) clockwise ≡ 3)
+  pub round-wrong : Relayed round 0 27 0 × Relayed round 4 27 0
+  -- the halves stand where row 1 stood, and the second ends where row 1 ended
+  pub round-halves : (split round 3 .rows ≡ 4) × (standsAt round 3 1 ≡ 1) × (standsAt round 3 2 ≡ 3)
+      × (split round 3 .second 1 ≡ 3) × (split round 3 .first 2 ≡ 3) × (split round 3 .second 2 ≡ 1) × (split round 3 .first 3 ≡ 3)
+  -- a relay that is only an end splits nothing
+  pub no-halves : (split case-A 1 .rows ≡ 3) × Relayed case-A 1 0 0
+  -- 18 reads the table as it is given, before 27: rows that are equal only when split are taken
+  pub equal-halves : Relayed halved-equal 2 0 0
+  pub given-first : Relayed (pasted-with 1) 0 18 1
+  -- the cut is the lowest element that no split row goes through, here not the relay
+  pub lower-cut : boardCut (split cut-before 3) clockwise ≡ 2
+  -- places of 13 and 14 count split rows and their sets
+  pub light-place : Relayed light-behind 2 13 2 × Verdict light-behind 13 1
+  pub over-place : Relayed over-behind 2 14 1 × Verdict over-behind 14 0
+  -- a board has no relay
+  pub board-relay : Relayed board 1 2 0
+  -- the plan of a split table counts split rows
+  pub through-1-words : (ws : List ℕ) → WholePlan (split through-1 1) ws ↔ (ws ≡ 3 ∷ 4 ∷ [])

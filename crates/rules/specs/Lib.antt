@@ -7,6 +7,7 @@ pub mod Line
 pub mod Ties
 pub mod Loads
 pub mod Parties
+pub mod Relay
 pub mod ElementList
 pub mod Interval
 pub mod Planner

@@ -5,8 +5,11 @@
 --   values l h x       the lines of L, h and reported load
 --   set-lines ws       the lines of the overlap sets whose words are ws
 --   slot-lines ws      the lines of the slots whose words are ws
+--   table-lines t ws vs    the lines of an admitted table with the sets ws and the plan vs
 --   max-input          it reads at most so many bytes
+--   PrintedFor a ls    the lines ls are printed for the ask a
 --   Printed input ls   the program prints the lines ls for what stands on its standard input
+--   RelayPrinted input r ls    so does the one with the relay r (#113)
 --   shared, row, segment    the lines of the program that says where rows meet
 --   row-lines w        the lines of the rows whose word is w, ascending
 --   segment-lines w    the lines of the segments whose word is w, ascending
@@ -26,14 +29,13 @@ use Rattle.numbers.specs.Lists.{at, each}
 use Rattle.numbers.specs.Word.{bit}
 use Rattle.rules.specs.Bounds.{max-elements, max-rows}
 use Rattle.rules.specs.Bus.{Table}
-use Rattle.rules.specs.TableFile.{fileTable}
 use Rattle.rules.specs.Line.{Sets}
 use Rattle.rules.specs.Line as line
 use Rattle.rules.specs.Loads.{hyperperiod, shortest, reported}
 use Rattle.rules.specs.ElementList.{Entry, ElementList, fileList}
 use Rattle.rules.specs.Planner.{WholePlan}
-use Rattle.rules.specs.Refusals.{Answers, verdict-checks, list-file-checks}
-use Rattle.rules.specs.Calls.{Met, Crowded}
+use Rattle.rules.specs.Refusals.{Answers, list-file-checks}
+use Rattle.rules.specs.Calls.{Met, Crowded, Ask, fileAsk, relayedAsk}
 use Rattle.rules.specs.Text.{Line, says}
 
 -- ---- its lines
@@ -77,15 +79,23 @@ slot-lines ws = each (length ws) (λ s. slot s (at ws s) ∷ [])
 abbrev pub max-input : ℕ
 max-input = 520
 
+-- the lines of an admitted table t, of its overlap sets and of its plan
+abbrev pub table-lines : Table → (sets plan : List ℕ) → List Line
+table-lines t sets plan =
+    verdict 0 0 ∷ (cut-lines t ++ (values (shortest t) (hyperperiod t) (reported t sets) ++ (set-lines sets ++ slot-lines plan)))
+
 -- On a refusal it prints its first line only.
-pub data Printed (input : List ℕ) : List Line → Type 0 where
-  refused : (number place : ℕ) → Answers (verdict-checks (take max-input input)) number place → number ≢ 0
-      → Printed input (verdict number place ∷ [])
-  admitted : (t : Table) (sets plan : List ℕ) → t ≡ fileTable (take max-input input) → Answers (verdict-checks (take max-input input)) 0 0
-      → Sets t sets → WholePlan t plan
-      → Printed input
-      (verdict 0 0
-      ∷ (cut-lines t ++ (values (shortest t) (hyperperiod t) (reported t sets) ++ (set-lines sets ++ slot-lines plan))))
+pub data PrintedFor (a : Ask) : List Line → Type 0 where
+  refused : (number place : ℕ) → Answers (a .checks) number place → number ≢ 0 → PrintedFor a (verdict number place ∷ [])
+  admitted : (sets plan : List ℕ) → Answers (a .checks) 0 0 → Sets (a .table) sets → WholePlan (a .table) plan
+      → PrintedFor a (table-lines (a .table) sets plan)
+
+abbrev pub Printed : (input : List ℕ) → List Line → Type 0
+Printed input = PrintedFor (fileAsk (take max-input input))
+
+-- With a relay sets and slots are those of split rows.
+abbrev pub RelayPrinted : (input : List ℕ) (relay : ℕ) → List Line → Type 0
+RelayPrinted input relay = PrintedFor (relayedAsk (take max-input input) relay)
 
 -- ---- where rows meet (#102): number and place, a line for each row of a set, and one for each segment that the rows share
 

@@ -19,6 +19,7 @@ use Rattle.rules.specs.TableFile.{ringsOf, fileRings, fileTable, fileLab
 use Rattle.rules.specs.Line.{setAt, Sets}
 use Rattle.rules.specs.Loads.{hyperperiod, start, end, light, over}
 use Rattle.rules.specs.Parties.{max-limit, ours, theirs, own, overLimit}
+use Rattle.rules.specs.Relay.{split}
 use Rattle.rules.specs.ElementList.{
   ElementList,
   list-mark,
@@ -152,6 +153,14 @@ over-limit number t limit s = refuse number s (T (overLimit t limit s))
 abbrev pub wrong-limit : (our their : ℕ) → Check
 wrong-limit our their = refuse 23 0 ((max-limit < our) ⊎ (max-limit < their))
 
+-- a relay not in 1..M (#113)
+abbrev pub wrong-relay : Table → ℕ → Check
+wrong-relay t r = refuse 27 0 (¬ In r 1 (t .elements))
+
+-- more than 64 rows after splitting (#113)
+abbrev pub many-rows : Table → ℕ → Check
+many-rows t r = refuse 28 0 (max-rows < split t r .rows)
+
 -- an element not in 1..M (#101)
 abbrev pub wrong-element : Table → ℕ → Check
 wrong-element t e = refuse 29 0 (¬ In e 1 (t .elements))
@@ -269,11 +278,25 @@ limited-checks f our their =
     wrong-limit our their
     ∷ one-ring-checks f (given-checks f ++ (line-checks t ++ (limit-checks (fileLabelled f) our their ++ bound-checks t)))
 
--- the list of sets 1 to 9, 18, 10 and 11, then 17
-unfoldable pub sets-checks : List ℕ → ℕ → List Check
-sets-checks f room =
-    given-checks f ++ line-checks (fileTable f)
-    ++ (short-output ((ws : List ℕ) × Sets (fileTable f) ws × (room < length ws)) ∷ [])
+-- of a table that is to be split at a relay 27, then 28
+unfoldable pub relay-checks : Table → ℕ → List Check
+relay-checks t r = wrong-relay t r ∷ many-rows t r ∷ []
+
+-- of its file 1 to 9, 2 for RB2 too, and 18 before them: all that is refused of the table as it is given (#113)
+unfoldable pub split-checks : List ℕ → ℕ → List Check
+split-checks f r = one-ring-checks f (given-checks f) ++ relay-checks (fileTable f) r
+
+-- then 11 of the split table; 10 doesn't occur
+unfoldable pub relayed-line-checks : List ℕ → ℕ → List Check
+relayed-line-checks f r = split-checks f r ++ (long-hyperperiod (split (fileTable f) r) ∷ [])
+
+-- the verdict with a relay then 13 and 14
+unfoldable pub relayed-checks : List ℕ → ℕ → List Check
+relayed-checks f r = relayed-line-checks f r ++ bound-checks (split (fileTable f) r)
+
+-- the list of sets the verdict's up to 11, here cs, then 17
+unfoldable pub sets-checks : List Check → Table → ℕ → List Check
+sets-checks cs t room = cs ++ (short-output ((ws : List ℕ) × Sets t ws × (room < length ws)) ∷ [])
 
 -- set number k and where its rows meet: 1 to 9, 18, 10 and 11, then 32 (#102)
 unfoldable pub set-checks : List ℕ → ℕ → List Check

@@ -19,8 +19,10 @@ use Rattle.planner.specs.Proper.{Proper}
 use Rattle.planner.proofs.Asks.{file-proper}
 use Rattle.planner.proofs.Promises.{carried}
 use Rattle.limited_plan.proofs.Promises.{limited-proper, same-plan}
+use Rattle.relayed_plan.proofs.Promises.{relayed-carried}
 use Rattle.supervisor.specs.ToC.{VerdictToC, Valued, ValuesToC, PlanToC}
-use Rattle.supervisor.specs.Boundary.{Carried-to-C, Limited-to-C, Values-are, Carried-by-value, Listed-by-value, Boundary}
+use Rattle.supervisor.specs.Boundary.{Carried-to-C, Limited-to-C, Relayed-to-C, Values-are, Carried-by-value, Listed-by-value}
+use Rattle.supervisor.specs.Boundary.{Boundary}
 use Rattle.supervisor.proofs.Values.{values-none}
 use Rattle.supervisor.proofs.Lists.{told-apart, element-of-plan}
 
@@ -34,7 +36,7 @@ place-zero r n p e z = omega arith
 one-zero : (r n p : ℕ) → r ≡ c-answer n p → n ≡ 0 → p ≡ 0 → r ≡ 0
 one-zero r n p e z q = omega arith
 
--- of any proper ask, with limits or without
+-- of any proper ask, with limits, with a relay, or without
 module _ (a : Ask) (N : Proper a) (was now : List ℕ) (r s : ℕ) (A : VerdictToC a r) (P : PlanToC a was now s) (z : r ≡ 0)
     (room : hyperperiod (a .table) ≤ length was) where
   n-zero : A .number ≡ 0
@@ -59,6 +61,13 @@ limited-to-c f was now then our their r s q A P Q z room =
     let number : Q .answer .number ≡ 0 = sym (ap (λ (b : Answer). b .number) (e .0)) ∙ w .0 in
     let place : Q .answer .place ≡ 0 = sym (ap (λ (b : Answer). b .place) (e .0)) ∙ w .1 in
     (carried-by a (limited-proper f our their) was now r s A P z room, one-zero q _ _ (Q .as-one) number place, sym (e .1))
+
+pub relayed-to-c : Relayed-to-C
+relayed-to-c f was now relay r s A P z room =
+    let place = place-zero r (A .number) (A .place) (A .as-one) z in
+    let n = number-zero r (A .number) (A .place) (A .as-one) z in
+    let w = relayed-carried f relay (P .answer) was now (P .planned) (rw (n, place) at (A .answers)) room in
+    (one-zero s _ _ (P .as-one) (w .0) (w .1), w .2)
 
 -- ---- with the values
 
@@ -91,7 +100,7 @@ module _ (f was now : List ℕ) (r : ℕ) (A : ValuesToC f was now r) (z : r ≡
   abbrev no-room : ℕ → Check
   no-room room = short-output ((ws : List ℕ) × Sets (fileTable f) ws × (room < length ws))
 
-  listed : (room : ℕ) → at now 5 ≤ room → Answers (sets-checks f room) 0 0
+  listed : (room : ℕ) → at now 5 ≤ room → Answers (sets-checks (outline-checks f) (fileTable f) room) 0 0
   unfolding sets-checks
   listed room l =
       joined (outline-checks f) (no-room room ∷ []) 0 0 outline-none
@@ -112,7 +121,7 @@ carried-by-value f was now plan plan′ r s A P z room =
 pub listed-by-value : Listed-by-value
 listed-by-value f was now list list′ r s A S z room =
     let e =
-    answers-only (sets-checks f (length list)) (S .number) 0 (S .place) 0 (S .listed .answers)
+    answers-only (sets-checks (outline-checks f) (fileTable f) (length list)) (S .number) 0 (S .place) 0 (S .listed .answers)
     (listed f was now r A z (length list) room) in
     let w = S .listed .done (e .0) in
     (one-zero s _ _ (S .as-one) (e .0) (e .1), (w .0, w .1, length-at f was now r A z (w .0) (w .1), w .3))
@@ -121,6 +130,7 @@ pub boundary : Boundary
 boundary = record {
   carried = carried-to-c;
   limited = limited-to-c;
+  relayed = relayed-to-c;
   values-are = values-are;
   carried-by-value = carried-by-value;
   listed-by-value = listed-by-value;

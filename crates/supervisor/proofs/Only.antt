@@ -8,7 +8,7 @@ use Rattle.rules.specs.Refusals.{shared-checks, verdict-checks}
 use Rattle.rules.specs.Calls.{lent, c-answer, Ask}
 use Rattle.rules.proofs.Answers.{None, answered, answers-only}
 use Rattle.table.specs.declared.Answer.{Answer}
-use Rattle.outline.proofs.Listed.{listed-only}
+use Rattle.outline.proofs.Listed.{file-listed-only}
 use Rattle.verdict.specs.declared.Verdict.{Verdict}
 use Rattle.verdict.specs.declared.Verdict.the-variants.{Admitted}
 use Rattle.verdict.specs.Verdict.{cutOf, otherOf, intervalOf, hyperOf, loadOf, setsOf, IsVerdict}
@@ -67,7 +67,7 @@ shared-to-c-only f i j was now then r s A B =
 
 pub sets-to-c-only : (f was now then : List ℕ) (r s : ℕ) → SetsToC f was now r → SetsToC f was then s → (r ≡ s) × (now ≡ then)
 sets-to-c-only f was now then r s A B =
-    let e = listed-only f was now then _ _ _ _ _ _ (A .listed) (B .listed) in
+    let e = file-listed-only f was now then _ _ _ _ _ _ (A .listed) (B .listed) in
     (A .as-one ∙ ap₂ c-answer (e .1) (e .2) ∙ sym (B .as-one), e .0)
 
 pub plan-to-c-only : (a : Ask) (was now then : List ℕ) (r s : ℕ) → PlanToC a was now r → PlanToC a was then s → (r ≡ s) × (now ≡ then)

@@ -34,7 +34,7 @@ module _ (f : List ℕ) where
       (λ a. answers-fit last-number last-place (short-output A ∷ []) n p (lit≤ tt, lit≤ tt, tt) (a .1))
       (answers-split (outline-checks f) (short-output A ∷ []) n p r)
 
-  pub sets-small : (room n p : ℕ) → Answers (sets-checks f room) n p → (n ≤ last-number) × (p ≤ last-place)
+  pub sets-small : (room n p : ℕ) → Answers (sets-checks (outline-checks f) (fileTable f) room) n p → (n ≤ last-number) × (p ≤ last-place)
   unfolding sets-checks
   sets-small room n p r = room-small ((ws : List ℕ) × Sets (fileTable f) ws × (room < length ws)) n p r
 

@@ -3,6 +3,7 @@
 --   Carried f was now r   a plan of file f was answered with r, and r is 0 and its words carry the table
 --   Carried-to-C          where ring_verdict answers 0 and there is room for h words, so is every plan
 --   Limited-to-C          the same with limits, and the words are those without
+--   Relayed-to-C          the same with a relay, and the words relay the table (#113)
 --   Values-are            where ring_values answers 0, so does ring_verdict, and the fourth value is h
 --   Carried-by-value      the first again, with the fourth value for h
 --   Listed-by-value       the list of sets, with room for as many as the sixth value says
@@ -18,10 +19,12 @@ use Rattle.numbers.specs.Lists.{at}
 use Rattle.rules.specs.Bounds.{max-slots}
 use Rattle.rules.specs.TableFile.{table-mark, mark, fileTable}
 use Rattle.rules.specs.Line.{Sets}
+use Rattle.rules.specs.Relay.{split}
 use Rattle.rules.specs.Loads.{hyperperiod}
 use Rattle.rules.specs.ElementList.{listHeader, entrySize, listBytes, movesList}
-use Rattle.rules.specs.Calls.{lent, fileAsk, limitedAsk}
+use Rattle.rules.specs.Calls.{lent, fileAsk, limitedAsk, relayedAsk}
 use Rattle.promises.specs.Demands.{Carries}
+use Rattle.relay_jobs.specs.Jobs.{Relays}
 use Rattle.supervisor.specs.ToC.{VerdictToC, ValuesToC, SetsToC, PlanToC, ListToC}
 
 -- A plan that held `was` and now holds `now` is answered with 0, and its front carries the table of file f.
@@ -39,6 +42,13 @@ abbrev pub Limited-to-C : Type 0
 Limited-to-C = (f was now then : List ℕ) (our their r s q : ℕ) → VerdictToC (limitedAsk f our their) r
     → PlanToC (limitedAsk f our their) was now s → PlanToC (fileAsk f) was then q → r ≡ 0 → hyperperiod (fileTable f) ≤ length was
     → Carried f was now s × (q ≡ 0) × (then ≡ now)
+
+-- If ring_verdict_relayed answers 0 and there is room for the h words of the split table, ring_plan_relayed answers 0 and the words relay
+-- the table as it was given (#113).
+abbrev pub Relayed-to-C : Type 0
+Relayed-to-C = (f was now : List ℕ) (relay r s : ℕ) → VerdictToC (relayedAsk f relay) r → PlanToC (relayedAsk f relay) was now s → r ≡ 0
+    → hyperperiod (split (fileTable f) relay) ≤ length was
+    → (s ≡ 0) × ((ws : List ℕ) × Relays (fileTable f) relay ws × (now ≡ lent ws was))
 
 -- ring_values answers 0 only for a table that ring_verdict admits, and the fourth value is then h.
 abbrev pub Values-are : Type 0
@@ -73,6 +83,7 @@ Element-of-plan = (f plan plan′ : List ℕ) (e : ℕ) (was now : List ℕ) (s 
 pub record Boundary : Type 0 where
   pub carried : Carried-to-C
   pub limited : Limited-to-C
+  pub relayed : Relayed-to-C
   pub values-are : Values-are
   pub carried-by-value : Carried-by-value
   pub listed-by-value : Listed-by-value

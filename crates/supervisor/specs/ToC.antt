@@ -12,7 +12,7 @@
 --   list-refusal n p          a refusal of the list of an element, whose place may be a slot
 --   ListToC f ws e was now r  r answers for the list of element e's moves in the plan ws: how many bytes it has, or a refusal
 --
--- Verdict and whole plan have forms with limits (#108), so they are said of an ask.
+-- Verdict and whole plan have forms with limits (#108) and with a relay (#113), so they are said of an ask.
 use mathlib.Core.Path.{_≡_}
 use mathlib.Core.Logic.{_≢_}
 use mathlib.Core.List.{List, [], _∷_, _++_}
@@ -22,7 +22,7 @@ use Rattle.rules.specs.TableFile.{fileTable}
 use Rattle.rules.specs.Bus.{shared}
 use Rattle.rules.specs.Refusals.{Check, Answers, short-output, shared-checks, verdict-checks}
 use Rattle.rules.specs.ElementList.{listHeader, entrySize, listBytes}
-use Rattle.rules.specs.Calls.{Call, lent, Ask, Admitted, Listed, ListMade, oneRingAsk, c-answer}
+use Rattle.rules.specs.Calls.{Call, lent, Ask, Admitted, Listed, ListMade, lineAsk, oneRingAsk, c-answer}
 use Rattle.rules.specs.Raising.{Raised}
 use Rattle.table.specs.declared.Answer.{Answer}
 use Rattle.planner.specs.Answers.{PlanAnswer}
@@ -76,7 +76,7 @@ pub record SetsToC (f was now : List ℕ) (r : ℕ) : Type 0 where
   pub number : ℕ
   pub place : ℕ
   pub sets : ℕ
-  pub listed : Listed f was now number place sets
+  pub listed : Listed (lineAsk f) was now number place sets
   pub as-one : r ≡ c-answer number place
 
 pub record PlanToC (a : Ask) (was now : List ℕ) (r : ℕ) : Type 0 where

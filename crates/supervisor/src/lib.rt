@@ -1,5 +1,6 @@
 // The functions for the supervisor, a C program: verdict, its values, shared segments, list of sets, whole plan and raised file, and
-// verdict and whole plan with limits, each answering 256 × number + place; and the list of one element (include/ringplan.h).
+// verdict and whole plan with limits and with a relay, each answering 256 × number + place; and the list of one element
+// (include/ringplan.h).
 use limits::Limits;
 use lists::Head;
 use table::Answer;
@@ -8,7 +9,7 @@ ghost use mathlib.Core.Path.{_≡_};
 ghost use Prim.Native.Nat.{_≤_};
 ghost use lib.ListN.{length};
 ghost use Rattle.rules.specs.Refusals.{last-number};
-ghost use Rattle.rules.specs.Calls.{lent, fileAsk, limitedAsk, c-answer};
+ghost use Rattle.rules.specs.Calls.{lent, fileAsk, limitedAsk, relayedAsk, c-answer};
 ghost use Rattle.supervisor.specs.ToC.{VerdictToC, values, value-count, ValuesToC, SharedToC, SetsToC, PlanToC, RaiseToC};
 ghost use Rattle.supervisor.specs.ToC.{list-refusal, ListToC};
 
@@ -150,7 +151,29 @@ pub extern "C" fn ring_plan_limited(file: &[u8], ours: u32, theirs: u32, plan: &
     joined(planned.number, planned.place)
 }
 
-// The file of the table with its light rows' costs raised to the least that passes, as long as the file (#111).
+// ---- with a relay (#113)
+
+// Whether the bus can carry the table of a file with a relay.
+#[no_mangle]
+pub extern "C" fn ring_verdict_relayed(file: &[u8], relay: u32) -> u32
+    ensures { λ r. ⌜ VerdictToC (relayedAsk (now (file .entry)) relay) r ⌝ }
+{
+    let split = relayed::judge(file, relay as usize);
+    joined(split.number(), split.place())
+}
+
+// Fills the whole plan of a table that is admitted with a relay: the words are of split rows.
+#[no_mangle]
+pub extern "C" fn ring_plan_relayed(file: &[u8], relay: u32, plan: &mut [u64]) -> u32
+    ensures { λ r. ⌜ PlanToC (relayedAsk (now (file .entry)) relay) (now (plan .entry)) (now (plan .exit)) r ⌝ }
+{
+    let relays = relayed_plan::whole_plan(file, relay as usize, plan);
+    joined(relays.number, relays.place)
+}
+
+// ---- light rows raised (#111)
+
+// The file of the table with its light rows' costs raised to the least that passes, as long as the file.
 #[no_mangle]
 pub extern "C" fn ring_raise(file: &[u8], out: &mut [u8]) -> u32
     ensures { λ r. ⌜ RaiseToC (now (file .entry)) (now (out .entry)) (now (out .exit)) r ⌝ }

@@ -197,6 +197,10 @@ impl Answer {
 
     pub const WRONG_WAY: u32 = 26;
 
+    pub const WRONG_RELAY: u32 = 27;
+
+    pub const MANY_ROWS: u32 = 28;
+
     pub const WRONG_ELEMENT: u32 = 29;
 
     pub const WRONG_LIST: u32 = 30;

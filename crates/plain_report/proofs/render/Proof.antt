@@ -1,32 +1,58 @@
 -- render: the verdict's line where it refuses, else the slot lines of both planners.
 use borrow.Author.Needs.{needs}
 use native.Mathlib.Omega.{arith}
+use mathlib.Core.Path.{_≡_}
 use mathlib.Core.List.{List}
 use Prim.Native.Nat.{ℕ}
-use Rattle.report.proofs.Printed.{admits, hyper-is}
+use Rattle.rules.specs.TableFile.{fileTable}
+use Rattle.rules.specs.Calls.{fileAsk}
+use Rattle.verdict.specs.Analysed.{Accepted}
+use Rattle.verdict.specs.Verdict.{IsVerdict}
+use Rattle.verdict.proofs.Bound.{verdict-numbered}
+use Rattle.verdict.proofs.Judging.{judged-on}
+use Rattle.planner.specs.Analysed.{Usable}
+use Rattle.planner.proofs.Asks as asks
+use Rattle.report.proofs.Printed.{is-admitted}
 use Rattle.plain_report.proofs.Printed.{rendered-refused, rendered-admitted}
 use Rattle.plain_report.proofs.render.Statement.{statement}
 use Rattle.plain_report.proofs.render.Tie as tie
 
-abbrev file : tie.After-judge → List ℕ
-file z = z .before .before .before .args .file .now
+abbrev file : tie.After-analyse → List ℕ
+file a = a .before .before .before .args .file .now
+
+usable : (a : tie.After-analyse) → Usable (a .analyse .result)
+usable a = asks.usable (fileAsk (file a)) (a .analyse .ensures)
+
+judged : (z : tie.After-verdict-of) → IsVerdict (file (z .before)) (z .verdict-of .result)
+judged z = judged-on (verdict-numbered (file (z .before))) (z .before .analyse .ensures) (z .verdict-of .ensures)
 
 -- where the verdict is taken apart
-abbrev judged : tie.After-answer → tie.After-judge
-judged d = d .before .before
+abbrev opened : tie.After-enum-told → tie.After-verdict-of
+opened d = d .before .before
+
+zero-is : (d : tie.After-enum-told) → opened d .before .analyse .result .outline .answer .number ≡ 0
+zero-is d =
+    let z = opened d in
+    is-admitted (usable (z .before)) (z .verdict-of .ensures) _ _ _ _ _ _ (d .enum-told .given .1)
+
+accepted : (d : tie.After-enum-told) → Accepted (fileTable (file (opened d .before))) (opened d .before .analyse .result)
+accepted d = opened d .before .analyse .ensures .found (zero-is d)
 
 -- where the plain plan's lines are put
-abbrev opened : tie.After-put-plan → tie.After-answer
-opened c = c .before .before .before
+abbrev told : tie.After-put-plan → tie.After-enum-told
+told l = l .before .before
 
-judge-requires : tie.Need-judge-requires
-judge-requires c κs = search needs
+analyse-requires : tie.Need-analyse-requires
+analyse-requires c κs = search needs
 
-enum-known-answer : tie.Need-enum-known-answer
-enum-known-answer c = search needs
+verdict-of-requires : tie.Need-verdict-of-requires
+verdict-of-requires c κs = usable c
 
 enum-told : tie.Need-enum-told
 enum-told c = search needs
+
+enum-told-2 : tie.Need-enum-told-2
+enum-told-2 c = search needs
 
 number-requires : tie.Need-number-requires
 number-requires c κs = search needs
@@ -46,27 +72,17 @@ returns c =
     let p = v .before .before in
     let n = p .before in
     let z = n .before .before .before in
-    rendered-refused (file z) (z .judge .result) (z .judge .ensures) (n .number .result) (p .place .result)
-    (n .number .ensures) (p .place .ensures) _ (n .before .enum-told .given .1) (v .put-verdict .ensures)
+    rendered-refused (file (z .before)) (z .verdict-of .result) (judged z) (n .number .result) (p .place .result)
+    (n .number .ensures) (p .place .ensures) _ (n .before .enum-told2 .given .1) (v .put-verdict .ensures)
 
 put-plan-requires : tie.Need-put-plan-requires
-put-plan-requires c κs =
-    let d = c .before .before in
-    let z = judged d in (
-      admits (file z) (z .judge .result) (z .judge .ensures) _ _ _ _ _ _ (d .answer .given .1),
-      hyper-is (file z) (z .judge .result) (z .judge .ensures) _ _ _ _ _ _ (d .answer .given .1),
-      omega arith,
-    )
+put-plan-requires c κs = let d = c .before in (usable (opened d .before), zero-is d, omega arith)
 
 put-plan-requires-2 : tie.Need-put-plan-requires-2
 put-plan-requires-2 c κs =
     let l = c .before .before .before in
-    let d = opened l in
-    let z = judged d in (
-      admits (file z) (z .judge .result) (z .judge .ensures) _ _ _ _ _ _ (d .answer .given .1),
-      hyper-is (file z) (z .judge .result) (z .judge .ensures) _ _ _ _ _ _ (d .answer .given .1),
-      omega (arith, l .put-plan .ensures .2 .1),
-    )
+    let d = told l in
+    (usable (opened d .before), zero-is d, omega (arith, l .put-plan .ensures _ (accepted d) .2 .1))
 
 same-length-2 : tie.Need-same-length-2
 same-length-2 c = search needs
@@ -75,18 +91,19 @@ returns-2 : tie.Need-returns-2
 returns-2 c =
     let m = c .before .before in
     let l = m .before .before .before .before in
-    let d = opened l in
-    let z = judged d in
-    rendered-admitted (file z) (z .judge .result) (z .judge .ensures) _ _ _ _ _ _ (d .answer .given .1) (l .put-plan .ensures)
-    (m .put-plan2 .ensures)
+    let d = told l in
+    let z = opened d in
+    rendered-admitted (file (z .before)) (z .verdict-of .result) (judged z) _ _ _ _ _ _ (d .enum-told .given .1)
+    (l .put-plan .ensures _ (accepted d)) (m .put-plan2 .ensures _ (accepted d))
 
 pub render-spec : {M : Type 1} → statement M
 render-spec =
     tie.close
     (tie.spec
-    judge-requires
-    enum-known-answer
+    analyse-requires
+    verdict-of-requires
     enum-told
+    enum-told-2
     number-requires
     place-requires
     put-verdict-requires

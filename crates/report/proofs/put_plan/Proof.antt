@@ -1,66 +1,62 @@
--- put_plan: an admitted table's plan fits, and is written line by line.
+-- put_plan: an analysed table's plan fits, and is written line by line.
 use borrow.Author.Needs.{needs}
 use native.Mathlib.Omega.{arith}
-use mathlib.Core.Path.{_≡_, sym}
+use mathlib.Core.Path.{_≡_, refl, sym}
 use mathlib.Core.List.{List}
 use Prim.Native.Nat.{ℕ, _≤_}
 use lib.ListN.{length, take, length-take}
 use Rattle.rules.specs.Bounds.{max-slots}
-use Rattle.rules.specs.TableFile.{fileTable}
+use Rattle.rules.specs.Bus.{Table}
 use Rattle.rules.specs.Planner.{WholePlan}
-use Rattle.report.proofs.Printed.{planned}
+use Rattle.verdict.specs.Analysed.{Accepted}
+use Rattle.report.proofs.Printed.{planned-on}
 use Rattle.report.proofs.put_plan.Statement.{statement}
 use Rattle.report.proofs.put_plan.Tie as tie
 
-abbrev entry : tie.After-plan-by → tie.Start
-entry z = z .before .before .before .before
+abbrev entry : tie.After-plan-on → tie.Start
+entry z = z .before .before .before
 
-abbrev file : tie.After-plan-by → List ℕ
-file z = entry z .args .file .now
+abbrev hyper : tie.After-plan-on → ℕ
+hyper z = entry z .args .table .outline .time .hyper
 
-abbrev hyper : tie.After-plan-by → ℕ
-hyper z = entry z .args .hyper
+abbrev words : tie.After-plan-on → List ℕ
+words z = z .plan-on .last .1 .1 .0
 
-abbrev plan : tie.After-plan-by → List ℕ
-plan z = take (hyper z) (z .plan-by .last .1 .1 .0)
+found : (z : tie.After-plan-on)
+    → (length (take (hyper z) (words z)) ≡ hyper z) × (hyper z ≤ max-slots)
+    × ((t : Table) → Accepted t (entry z .args .table) → WholePlan t (take (hyper z) (words z)))
+found z = planned-on (entry z .pre .0) (entry z .pre .1) (omega arith) refl (z .plan-on .ensures)
 
-found : (z : tie.After-plan-by) → WholePlan (fileTable (file z)) (plan z) × (length (plan z) ≡ hyper z) × (hyper z ≤ max-slots)
-found z = planned (file z) (entry z .pre .0) (omega arith) (entry z .pre .1) (z .plan-by .ensures)
+slice-aggregate-plan-on : tie.Need-slice-aggregate-plan-on
+slice-aggregate-plan-on c = search needs
 
-slice-aggregate-plan-by : tie.Need-slice-aggregate-plan-by
-slice-aggregate-plan-by c = search needs
-
-plan-by-requires : tie.Need-plan-by-requires
-plan-by-requires c κs = search needs
+plan-on-requires : tie.Need-plan-on-requires
+plan-on-requires c κs = c .before .before .pre .0
 
 array-share-prefix-plan : tie.Need-array-share-prefix-plan
-array-share-prefix-plan c =
-    let z = c .before in
-    omega (arith, length-take (hyper z) (z .plan-by .last .1 .1 .0), found z .1)
+array-share-prefix-plan c = let z = c .before in omega (arith, length-take (hyper z) (words z), found z .0)
 
 slice-aggregate-put-slots : tie.Need-slice-aggregate-put-slots
-slice-aggregate-put-slots c = sym (found (c .before .before) .1)
+slice-aggregate-put-slots c = sym (found (c .before .before) .0)
 
 put-slots-requires : tie.Need-put-slots-requires
-put-slots-requires c κs =
-    let z = c .before .before .before in
-    omega (arith, found z .1, found z .2)
+put-slots-requires c κs = let z = c .before .before .before in omega (arith, found z .0, found z .1, entry z .pre .2)
 
 same-length : tie.Need-same-length
 same-length c = search needs
 
 returns : tie.Need-returns
-returns c =
+returns c t A =
     let z = c .before .before .before .before .before .before in
     let P = c .before .before .put-slots .ensures in
-    (plan z, found z .0, (P .0, omega (arith, P .1, found z .1, found z .2)))
+    (take (hyper z) (words z), found z .2 t A, (P .0, omega (arith, P .1, found z .0, found z .1)))
 
 pub put-plan-spec : {M : Type 1} → statement M
 put-plan-spec =
     tie.close
     (tie.spec
-    slice-aggregate-plan-by
-    plan-by-requires
+    slice-aggregate-plan-on
+    plan-on-requires
     array-share-prefix-plan
     slice-aggregate-put-slots
     put-slots-requires

@@ -15,8 +15,11 @@ table-file-requires c κs = search needs
 array-share-prefix-file : tie.Need-array-share-prefix-file
 array-share-prefix-file c = search needs
 
-slice-aggregate-answer : tie.Need-slice-aggregate-answer
-slice-aggregate-answer c = sym (length-take-le _ _ (omega arith))
+slice-aggregate-judge : tie.Need-slice-aggregate-judge
+slice-aggregate-judge c = sym (length-take-le _ _ (omega arith))
+
+judge-requires : tie.Need-judge-requires
+judge-requires c κs = search needs
 
 answer-requires : tie.Need-answer-requires
 answer-requires c κs = search needs
@@ -38,7 +41,8 @@ judged-spec =
     slice-aggregate-table-file
     table-file-requires
     array-share-prefix-file
-    slice-aggregate-answer
+    slice-aggregate-judge
+    judge-requires
     answer-requires
     returns
     returns-2)

@@ -1,0 +1,58 @@
+-- main: what is rendered fits.
+use borrow.Author.Needs.{needs}
+use native.Mathlib.Omega.{arith}
+use mathlib.Core.Path.{sym}
+use lib.Seq.{length-take-le}
+use Rattle.by_relay.proofs.main.Statement.{statement}
+use Rattle.by_relay.proofs.main.Tie as tie
+
+slice-aggregate-read-full : tie.Need-slice-aggregate-read-full
+slice-aggregate-read-full c = search needs
+
+read-full-requires : tie.Need-read-full-requires
+read-full-requires c κs = search needs
+
+array-share-prefix-input : tie.Need-array-share-prefix-input
+array-share-prefix-input c = search needs
+
+slice-aggregate-render-relayed : tie.Need-slice-aggregate-render-relayed
+slice-aggregate-render-relayed c = search needs
+
+relay-requires : tie.Need-relay-requires
+relay-requires c κs = search needs
+
+slice-aggregate-render-relayed-2 : tie.Need-slice-aggregate-render-relayed-2
+slice-aggregate-render-relayed-2 c = search needs
+
+render-relayed-requires : tie.Need-render-relayed-requires
+render-relayed-requires c κs = search needs
+
+array-share-prefix-out : tie.Need-array-share-prefix-out
+array-share-prefix-out c = omega (arith, c .before .render-relayed .ensures .fits, c .before .render-relayed .kept)
+
+slice-aggregate-write-all : tie.Need-slice-aggregate-write-all
+slice-aggregate-write-all c =
+    let r = c .before .before .render-relayed in
+    sym (length-take-le _ _ (omega (arith, r .ensures .fits, r .kept)))
+
+write-all-requires : tie.Need-write-all-requires
+write-all-requires c κs = search needs
+
+returns : tie.Need-returns
+returns c = search needs
+
+pub main-spec : {M : Type 1} → statement M
+main-spec =
+    tie.close
+    (tie.spec
+    slice-aggregate-read-full
+    read-full-requires
+    array-share-prefix-input
+    slice-aggregate-render-relayed
+    relay-requires
+    slice-aggregate-render-relayed-2
+    render-relayed-requires
+    array-share-prefix-out
+    slice-aggregate-write-all
+    write-all-requires
+    returns)

@@ -1,0 +1,100 @@
+// The cases with a relay (#113): of the verdict, the list of sets and the planner, with the relay before the other numbers:
+//
+//     NAME*: relay / elements (cost,period,first,second) ..
+//     CALL NAME*: relay / room / interval / four totals / elements (cost,period,first,second) ..
+//
+// A call is plan, step or standings, as without a relay, or list. For a list a line is printed with number and place, how many sets there
+// are, and all of the lent words; for the others what is printed without.
+use crate::byte_at;
+use crate::is_board;
+use crate::plans;
+use crate::verdicts;
+use cases::find;
+use cases::number_at;
+use cases::print;
+use cases::table_file;
+use planner::Planner;
+
+fn list(heading: &[u8], relay: usize, file: &[u8], words: &mut [u64]) {
+    let r = relayed::list_of_sets(file, relay, words);
+    plans::print_answer(heading, r.answer.number, r.answer.place);
+    print(b" sets", &[r.sets as u64]);
+    plans::print_words(words);
+}
+
+fn plan(heading: &[u8], relay: usize, file: &[u8], words: &mut [u64]) {
+    let r = relayed_plan::whole_plan(file, relay, words);
+    plans::print_planned(heading, r, words);
+}
+
+fn step(heading: &[u8], relay: usize, planner: Planner, file: &[u8], words: &mut [u64]) {
+    let r = relayed_plan::step(planner, file, relay, words);
+    plans::print_moved(heading, r, words);
+}
+
+// The calls are told apart by a letter each.
+fn call(heading: &[u8], relay: usize, planner: Planner, file: &[u8], words: &mut [u64]) {
+    if byte_at(heading, 0) == b'l' {
+        list(heading, relay, file, words);
+        return;
+    }
+    if byte_at(heading, 0) == b'p' {
+        plan(heading, relay, file, words);
+        return;
+    }
+    if byte_at(heading, 2) == b'e' {
+        step(heading, relay, planner, file, words);
+        return;
+    }
+    plans::print_standings(heading, relayed_plan::standings(planner, file, relay));
+}
+
+// The call with as many words as it is lent.
+fn lend(heading: &[u8], file: &[u8], given: &[u64]) {
+    let mut words = [plans::KEPT; plans::WORDS];
+    let room = number_at(given, 1) as usize;
+    if given.len() < 1 {
+        return;
+    }
+    let planner = plans::planner_of(plans::stage_of(heading, number_at(given, 2)), &given[1..]);
+    if room <= plans::WORDS {
+        call(
+            heading,
+            number_at(given, 0) as usize,
+            planner,
+            file,
+            &mut words[..room],
+        );
+    }
+}
+
+fn called(heading: &[u8], given: &[u64]) {
+    if given.len() < 7 {
+        return;
+    }
+    let mut file = [0u8; verdicts::SIZE];
+    let size = table_file(is_board(heading), &given[7..], &mut file);
+    if size <= verdicts::SIZE {
+        lend(heading, &file[..size], given);
+    }
+}
+
+fn judged(name: &[u8], given: &[u64]) {
+    if given.len() < 1 {
+        return;
+    }
+    let mut file = [0u8; verdicts::SIZE];
+    let size = table_file(is_board(name), &given[1..], &mut file);
+    if size <= verdicts::SIZE {
+        let r = relayed::judge(&file[..size], number_at(given, 0) as usize);
+        verdicts::answer(name, r);
+    }
+}
+
+pub(crate) fn run(heading: &[u8], given: &[u64]) {
+    if find(heading, 0, b' ') == heading.len() {
+        judged(heading, given);
+    } else {
+        called(heading, given);
+    }
+}

@@ -1,0 +1,4 @@
+pub mod Rows
+pub mod Clear
+pub mod Columns
+pub mod Given

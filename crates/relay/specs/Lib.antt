@@ -1,0 +1,3 @@
+pub mod Clear
+pub mod Splitting
+pub mod Splits
