@@ -18,7 +18,7 @@
 
 /* The version of these functions. The second number grows where something is added, the first where something changes. */
 #define RINGPLAN_VERSION_MAJOR 6
-#define RINGPLAN_VERSION_MINOR 1
+#define RINGPLAN_VERSION_MINOR 2
 
 #ifdef __cplusplus
 extern "C" {
@@ -57,7 +57,13 @@ enum {
     RING_WRONG_ELEMENT = 29,    /* the ring has no such element */
     RING_WRONG_LIST = 30,       /* not given by these functions: a list file's element is not 1 to 32, or its hyperperiod not 1 to 4096 */
     RING_WRONG_ENTRY = 31,      /* not given by these functions: a list file's slot, row, way or order is wrong; place: the entry */
-    RING_NO_ROW = 32            /* a row that is asked for is past the last; place: 0 for the first of the two, 1 for the second */
+    RING_NO_ROW = 32,           /* a row that is asked for is past the last; place: 0 for the first of the two, 1 for the second */
+    RING_LONG_TEXT = 33,        /* not given by these functions: a table in text has more than 65,536 bytes */
+    RING_NO_NUMBER = 34,        /* not given by these functions: a field of a table in text is no number */
+    RING_LARGE_NUMBER = 35,     /* not given by these functions: a number of a table in text is above 65,535 */
+    RING_NO_HEADING = 36,       /* not given by these functions: a table in text begins neither with "elements" nor with "board" */
+    RING_MISSING_FIELD = 37,    /* not given by these functions: a line of a table in text lacks a field */
+    RING_SPARE_FIELD = 38       /* not given by these functions: a line of a table in text has a field too many */
 };
 
 /* number and place of an answer */

@@ -7,6 +7,7 @@ function list(word,    rows) {
 }
 END {
     printf "{\n  \"verdict\": {\"number\": %d, \"place\": %d", number, place
+    gsub(/["\\]/, "\\\\&", words)
     if (number) printf ", \"words\": \"%s\"", words
     printf "}"
     if (!number && relay != "") {

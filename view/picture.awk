@@ -1,6 +1,6 @@
-# The plan as a picture (SVG): a lane for each segment of each ring, time to the right, a colour for each row. A dashed line stands where an interval
-# ends. Below, each row has a strip with the slots that it is given, and a tick at the end of each job, its deadline. A long plan goes on
-# in the next band.
+# The plan as a picture (SVG): a lane for each segment of each ring, time to the right, a colour for each row; the lanes of a board's
+# second ring are a group of their own. A dashed line stands where an interval ends. Below, each row has a strip with the slots that it is
+# given, and a tick at the end of each job, its deadline. A long plan goes on in the next band.
 function hex(v) {
     return sprintf("%02x", int(v * 255 + 0.5))
 }
@@ -32,9 +32,14 @@ function x_of(s) {
     return left + (s - start) * wide
 }
 
+# Where lane l begins; a route has its lanes on one ring.
+function lane_top(l) {
+    return above + l * tall + int(l / elements) * apart
+}
+
 # Row i from slot a up to slot b, within one band.
 function move(i, a, b,    top, high) {
-    top = above + lane(i) * tall
+    top = lane_top(lane(i))
     high = steps(i) * tall - 1
     printf "<rect class=\"move\" data-row=\"%d\" data-from=\"%d\" data-until=\"%d\" data-lane=\"%d\" data-lanes=\"%d\" ", \
         i, a, b, lane(i), steps(i)
@@ -56,9 +61,11 @@ function band_end(s,    e) {
 
 function lanes(    l, i) {
     for (l = 0; l < lanes_of(); l++) {
-        printf "<rect x=\"%g\" y=\"%g\" width=\"%g\" height=\"%g\" fill=\"%s\"/>\n", left, above + l * tall, (stop - start) * wide, tall - 1, \
-            l % 2 ? "#f4f4f1" : "#ecece8"
-        printf "<text class=\"name\" x=\"%g\" y=\"%g\">%d → %d</text>\n", left - 8, above + l * tall + tall / 2 + 4, lane_from(l), lane_to(l)
+        printf "<rect x=\"%g\" y=\"%g\" width=\"%g\" height=\"%g\" fill=\"%s\"/>\n", left, lane_top(l), (stop - start) * wide, tall - 1, \
+            l % elements % 2 ? "#f4f4f1" : "#ecece8"
+        printf "<text class=\"name\" x=\"%g\" y=\"%g\">%d → %d</text>\n", left - 8, lane_top(l) + tall / 2 + 4, lane_from(l), lane_to(l)
+        if (rings > 1 && l % elements == 0)
+            printf "<text class=\"ring\" x=\"%g\" y=\"%g\">%s</text>\n", left - 8, lane_top(l) - 5, l ? "counterclockwise" : "clockwise"
     }
     for (i = 0; i < rows; i++)
         printf "<text class=\"small\" x=\"%g\" y=\"%g\">row %d</text>\n", left - 8, below + i * strip + strip - 2, i
@@ -94,14 +101,15 @@ function moves(    s, n, k, i, here, on, now) {
 }
 
 END {
-    left = 84
+    left = rings > 1 ? 104 : 84
     tall = 22
     strip = 9
     wide = int(1120 / hyper)
     wide = wide > 40 ? 40 : wide < 4 ? 4 : wide
     band = int(1120 / wide)
     gap = 34
-    high = lanes_of() * tall + 10 + rows * strip
+    apart = rings > 1 ? 20 : 0
+    high = lanes_of() * tall + apart + 10 + rows * strip
     bands = 0
     for (start = 0; start < hyper; start = band_end(start)) bands++
     width = left + (hyper < band ? hyper : band) * wide + 20
@@ -110,7 +118,8 @@ END {
     total = head + bands * (high + gap)
     printf "<svg xmlns=\"http://www.w3.org/2000/svg\" width=\"%d\" height=\"%d\" viewBox=\"0 0 %d %d\">\n", width, total, width, total
     print "<style>text{font-family:Helvetica,Arial,sans-serif;font-size:12px;fill:#222}.name,.small{text-anchor:end}" \
-        ".small{font-size:8px;fill:#666}.slot{font-size:9px;fill:#666}.on{text-anchor:middle}.pale{fill:#fff}.head{font-size:16px;font-weight:bold}" \
+        (rings > 1 ? ".ring{text-anchor:end;font-size:9px;fill:#666}" : "") ".small{font-size:8px;fill:#666}" \
+        ".slot{font-size:9px;fill:#666}.on{text-anchor:middle}.pale{fill:#fff}.head{font-size:16px;font-weight:bold}" \
         ".end{stroke:#444;stroke-width:1;stroke-dasharray:4 3}.due{stroke:#222;stroke-width:2}</style>"
     printf "<rect width=\"%d\" height=\"%d\" fill=\"#ffffff\"/>\n", width, total
     printf "<text class=\"head\" x=\"16\" y=\"24\">%s</text>\n", name
@@ -119,7 +128,7 @@ END {
     above = head + gap / 2
     for (start = 0; start < hyper; start = stop) {
         stop = band_end(start)
-        below = above + lanes_of() * tall + 8
+        below = above + lanes_of() * tall + apart + 8
         lanes()
         moves()
         marks()

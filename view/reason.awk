@@ -1,8 +1,9 @@
 # Why a table is refused, in its own numbers: what was found, what would pass. Reads the file's size, its first bytes and its rows as far as
-# they are there, and then the verdict line; beside 13 also the lines of the program that raises light rows. Limits of the two parties, where
-# there are some, are in `ours` and `theirs`, a relay is in `relay`.
+# they are there, and then the verdict line; beside 13 also the lines of the program that raises light rows, beside 14 a line `member` for
+# each row of the set. Limits of the two parties, where there are some, are in `ours` and `theirs`, a relay is in `relay`.
 $1 == "bytes" { bytes = $2 }
 $1 == "raise" { least[$2] = $4 }
+$1 == "member" { member[members++] = $2 }
 $1 == "head" { head = $2 " " $3 " " $4; version = $5 + 256 * $6; said = $8 }
 
 function ends_of(i) {
@@ -119,6 +120,7 @@ function on_set(k,    c, i, e, end, n, list, from, to, s, segments) {
         s = between(0, c, first[i])
         if (s >= e || s + steps(i) < e) continue
         list = list (list == "" ? "" : " ") i
+        member[members++] = i
         if (s > from) from = s
         if (s + steps(i) < to) to = s + steps(i)
     }
@@ -126,8 +128,39 @@ function on_set(k,    c, i, e, end, n, list, from, to, s, segments) {
     return "rows of that set, as split: " list "; all use segment" (segments ~ / / ? "s " : " ") segments
 }
 
+function fraction(over, under,    d) {
+    d = gcd(over, under)
+    return over / d "/" under / d
+}
+
+# What the rows of a set ask for, beside the bound: 1 where all periods are equal, else (L - 1) / L. Then the row that would pass with the
+# least less of the bus, if one alone can: a row keeps a slot, and isn't light.
+function on_over(    i, k, h, l, same, over, most, few, less, best) {
+    h = 1
+    same = 1
+    for (i = 0; i < rows; i++) {
+        h = h / gcd(h, period[i]) * period[i]
+        if (period[i] != period[0]) same = 0
+    }
+    for (k = 0; k < members; k++) over += h / period[member[k]] * cost[member[k]]
+    l = same ? h : shortest()
+    most = same ? h : h / l * (l - 1)
+    best = -1
+    for (k = 0; k < members; k++) {
+        i = member[k]
+        less = int((over - most + h / period[i] - 1) / (h / period[i]))
+        few = same ? 1 : int((period[i] + l - 1) / l)
+        if (cost[i] - less < few) continue
+        if (best < 0 || less / period[i] < gives / period[best]) { best = i; gives = less }
+    }
+    return "they ask for " fraction(over, h) " of it (" int((1000 * over + h - 1) / h) " thousandths, rounded up); the bound is " \
+        fraction(most, h) " (" int(1000 * most / h) ", rounded down), so it is " fraction(over - most, h) " too much\n" \
+        (best < 0 ? "no row of it alone can make up for that" : \
+        "with " plural(gives, "slot") " less in row " best ", " cost[best] - gives " of " period[best] ", it would pass")
+}
+
 # What a party's rows ask for of segment s, as a fraction in lowest terms, beside its limit; its sum is over its own periods.
-function on_limit(whose, second_maker, limit, s,    i, under, over, list, d, part, asks) {
+function on_limit(whose, second_maker, limit, s,    i, under, over, list, asks) {
     under = 1
     for (i = 0; i < rows; i++)
         if ((label[i] >= 32768) == second_maker) under = under / gcd(under, period[i]) * period[i]
@@ -136,10 +169,8 @@ function on_limit(whose, second_maker, limit, s,    i, under, over, list, d, par
         over += under / period[i] * cost[i]
         list = list (list == "" ? "" : ", ") i
     }
-    d = gcd(over, under)
-    part = over / d "/" under / d
     asks = list ~ /,/ ? " rows " list " ask for " : " row " list " asks for "
-    return "on segment " s " " whose asks part "; " whose " limit is " limit "/1000"
+    return "on segment " s " " whose asks fraction(over, under) "; " whose " limit is " limit "/1000"
 }
 
 function reason(n, i) {
@@ -156,7 +187,8 @@ function reason(n, i) {
     if (n == 10) return on_cut(i)
     if (n == 11) return on_hyper()
     if (n == 13) return on_light()
-    if (n == 14 && relay != "") return on_set(i)
+    if (n == 14 && relay != "") return on_set(i) "\n" on_over()
+    if (n == 14 && members) return on_over()
     if (n == 18) return on_pasted(i)
     if (n == 21) return on_limit("our", 0, ours, i)
     if (n == 22) return on_limit("the second maker's", 1, theirs, i)

@@ -70,7 +70,7 @@ decimal-short (suc k) n l =
 
 -- ---- read back
 
-value-join : (v : ℕ) (xs ys : List ℕ) → valueFrom v (xs ++ ys) ≡ valueFrom (valueFrom v xs) ys
+pub value-join : (v : ℕ) (xs ys : List ℕ) → valueFrom v (xs ++ ys) ≡ valueFrom (valueFrom v xs) ys
 unfolding valueFrom
 value-join v [] ys = refl
 value-join v (x ∷ xs) ys = value-join (v * 10 + (x - zero-byte)) xs ys

@@ -32,7 +32,7 @@ pub fn put_bytes(text: &[u8], out: &mut [u8], at: usize) -> usize
     next
 }
 
-fn put_decimal(n: u64, out: &mut [u8], at: usize) -> usize
+pub fn put_decimal(n: u64, out: &mut [u8], at: usize) -> usize
     requires { ⌜ at + 20 ≤ limit ⌝ }
     ensures { λ r. ⌜ Puts (decimal n) (now (out .entry)) at (now (out .exit)) r × (r ≤ at + 20) ⌝ }
 {

@@ -356,7 +356,7 @@ bytes-length v t o =
     (header-says v t o [] .0)
 
 -- version 1 has no bytes for labels, and refuses to write any but 0
-labels-fit : (v : ℕ) (t : Labelled) → Known (t .table .rings) v → None (label-checks v t) → Fits (lastSize (t .table .rings) v) t
+pub labels-fit : (v : ℕ) (t : Labelled) → Known (t .table .rings) v → None (label-checks v t) → Fits (lastSize (t .table .rings) v) t
 unfolding label-checks labelSize lastOf
 labels-fit v t k a e i l = go (ℕ-discrete (t .table .rings) max-rings)
   where
@@ -455,7 +455,7 @@ module _ (r v M n : ℕ) (xs : List ℕ) (o : OneOrTwo r) where
 
 -- ---- the two calls
 
-reader-numbered : (f : List ℕ) (room : ℕ) → Numbered (reader-checks f room)
+pub reader-numbered : (f : List ℕ) (room : ℕ) → Numbered (reader-checks f room)
 unfolding reader-checks Numbered
 reader-numbered f room = numbered-join (file-checks f) _ (file-numbered f) (omega arith)
 
@@ -468,7 +468,7 @@ unfolding reader-checks
 read-none f room a = none-left (file-checks f) _ a
 
 -- what is not refused as a mark is one
-known-mark : (m : List ℕ) → (unknown-mark m .applies → ⊥) → Marked m
+pub known-mark : (m : List ℕ) → (unknown-mark m .applies → ⊥) → Marked m
 known-mark m h = go (ℕ-discrete (length m) 3)
   where
     go : Dec (length m ≡ 3) → Marked m

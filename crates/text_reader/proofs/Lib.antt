@@ -1,0 +1,4 @@
+pub mod Lines
+pub mod RowByRow
+pub mod Texts
+pub mod Only
