@@ -23,12 +23,12 @@ fn list(heading: &[u8], relay: usize, file: &[u8], words: &mut [u64]) {
 }
 
 fn plan(heading: &[u8], relay: usize, file: &[u8], words: &mut [u64]) {
-    let r = relayed_plan::whole_plan(file, relay, words);
+    let r = relayed::whole_plan(file, relay, words);
     plans::print_planned(heading, r, words);
 }
 
 fn step(heading: &[u8], relay: usize, planner: Planner, file: &[u8], words: &mut [u64]) {
-    let r = relayed_plan::step(planner, file, relay, words);
+    let r = relayed::step(planner, file, relay, words);
     plans::print_moved(heading, r, words);
 }
 
@@ -46,7 +46,7 @@ fn call(heading: &[u8], relay: usize, planner: Planner, file: &[u8], words: &mut
         step(heading, relay, planner, file, words);
         return;
     }
-    plans::print_standings(heading, relayed_plan::standings(planner, file, relay));
+    plans::print_standings(heading, relayed::standings(planner, file, relay));
 }
 
 // The call with as many words as it is lent.

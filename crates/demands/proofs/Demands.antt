@@ -26,13 +26,13 @@ use Rattle.planner.specs.State.{stageOf, plannerOf}
 use Rattle.planner.proofs.Only.{step-only}
 use Rattle.planner.proofs.Asks.{file-proper}
 use Rattle.planner.proofs.Promises.{admitted-table, steps-run, standings-between, never-refused, whole-is-steps, carried, exactly-one-plan}
-use Rattle.limited_plan.proofs.Promises.{limited-proper, same-plan}
+use Rattle.limited.proofs.Promises.{limited-proper, same-plan}
 use Rattle.relay.proofs.Clear.{relay-clear}
 use Rattle.relay_jobs.proofs.Jobs.{two-held}
 use Rattle.relayed.proofs.Checked.{relayed-numbered}
 use Rattle.relayed.proofs.Without.{as-without, same-table}
-use Rattle.relayed_plan.proofs.Promises as relayed
-use Rattle.relayed_plan.proofs.Promises.{relayed-proper, relayed-carried}
+use Rattle.relayed.proofs.Promises as relayed
+use Rattle.relayed.proofs.Promises.{relayed-proper, relayed-carried}
 use Rattle.raising.proofs.Costs.{raise-raises}
 use Rattle.raising.proofs.Result.{raised-verdict}
 use Rattle.raising.proofs.Data.{data-arrives}

@@ -59,12 +59,12 @@ use Rattle.planner.specs.State.{plannerOf}
 use Rattle.planner.specs.Answers.{StepAnswer, StandingsAnswer, PlanAnswer}
 use Rattle.planner.specs.Proper.{Proper, Admits}
 use Rattle.planner.specs.Promises.{File-proper, Steps, Standings-between, Never-refused, Whole-is-steps, Carried, Exactly-one-plan}
-use Rattle.limited_plan.specs.Promises.{Limited-proper, Same-plan}
+use Rattle.limited.specs.Promises.{Limited-proper, Same-plan}
 use Rattle.relay.specs.Clear.{Relay-clear}
 use Rattle.relay_jobs.specs.Jobs.{Two-held}
 use Rattle.relayed.specs.Without.{As-without, Same-table}
-use Rattle.relayed_plan.specs.Promises as relayed
-use Rattle.relayed_plan.specs.Promises.{Relayed-proper, Relayed-carried}
+use Rattle.relayed.specs.Promises as relayed
+use Rattle.relayed.specs.Promises.{Relayed-proper, Relayed-carried}
 use Rattle.kept.specs.InPlace.{joined, MovedInPlace}
 use Rattle.raising.specs.Raises.{Raise-raises, Raised-verdict, Data-arrives}
 

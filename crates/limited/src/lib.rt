@@ -1,6 +1,8 @@
-// The verdict with a limit for each of two parties (#108): 23 before all else, and 21 and 22 between the outline's refusals and those of
-// the bound. One ring alone is taken.
+// The verdict, a step and the whole plan with a limit for each of two parties (#108): 23 before all else, and 21 and 22 between the
+// outline's refusals and those of the bound. One ring alone is taken. Limits refuse, and choose nothing: the words are those without.
 use limits::Limits;
+use planner::MovedOn;
+use planner::Planner;
 use table::Answer;
 use table::Table;
 use verdict::Analysis;
@@ -18,7 +20,10 @@ ghost use Rattle.table.specs.Columns.{columnTable};
 ghost use Rattle.limits.specs.Limits.{labelled};
 ghost use Rattle.verdict.specs.Analysed.{blank, Analysed};
 ghost use Rattle.verdict.specs.Verdict.{numberOf, placeOf, cutOf, otherOf, intervalOf, hyperOf, loadOf, setsOf};
+ghost use Rattle.planner.specs.Answers.{StepAnswer, PlanAnswer};
 ghost use Rattle.limited.specs.Limited.{within-checks};
+
+// ---- the analysis and the verdict
 
 // The analysis of a table with labels and one ring: 10 and 11, then 21 and 22, then 13 and 14.
 fn analysis_within<'a>(
@@ -97,4 +102,22 @@ pub fn judge(file: &[u8], limits: Limits) -> Verdict
         (cutOf r) (otherOf r) (intervalOf r) (hyperOf r) (loadOf r) (setsOf r) ⌝ }
 {
     verdict::verdict_of(analyse(file, limits))
+}
+
+// ---- the plan
+
+// One interval of a file's table within limits.
+pub fn step(p: Planner, file: &[u8], limits: Limits, out: &mut [u64]) -> MovedOn
+    ensures { λ r. ⌜ StepAnswer (limitedAsk (now (file .entry)) (limits .ours) (limits .theirs)) p r
+        (now (out .entry)) (now (out .exit)) ⌝ }
+{
+    p.step_on(analyse(file, limits), out)
+}
+
+// The whole plan of a file's table within limits.
+pub fn whole_plan(file: &[u8], limits: Limits, plan: &mut [u64]) -> Answer
+    ensures { λ r. ⌜ PlanAnswer (limitedAsk (now (file .entry)) (limits .ours) (limits .theirs)) r
+        (now (plan .entry)) (now (plan .exit)) ⌝ }
+{
+    planner::plan_on(analyse(file, limits), false, plan)
 }

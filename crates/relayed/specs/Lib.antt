@@ -1,1 +1,2 @@
 pub mod Without
+pub mod Promises

@@ -1,7 +1,10 @@
-// The verdict and the list of sets with a relay (#113): those on the table split at it. The split table is looked at as any other, and has
-// a cut.
+// The verdict, the list of sets and the planner's calls with a relay (#113): those on the table split at it. The split table is looked at as
+// any other, and has a cut. Totals, standings and bits are those of split rows.
 use outline::Listing;
 use outline::Outline;
+use planner::MovedOn;
+use planner::Planner;
+use planner::Standings;
 use table::Answer;
 use verdict::Analysis;
 use verdict::Verdict;
@@ -12,6 +15,9 @@ ghost use Rattle.rules.specs.Calls.{Judged, Listed, relayedAsk, relayedLineAsk}
 ghost use Rattle.outline.specs.Outlined.{Outlined};
 ghost use Rattle.verdict.specs.Analysed.{Analysed};
 ghost use Rattle.verdict.specs.Verdict.{numberOf, placeOf, cutOf, otherOf, intervalOf, hyperOf, loadOf, setsOf};
+ghost use Rattle.planner.specs.Answers.{StepAnswer, StandingsAnswer, PlanAnswer};
+
+// ---- the analysis, the verdict and the sets
 
 // The analysis of a file's table split at a relay, or the first refusal of 1 to 9, 18, 27, 28, 11, 13 and 14.
 pub fn analyse(file: &[u8], relay: usize) -> Analysis
@@ -68,4 +74,27 @@ pub fn list_of_sets(file: &[u8], relay: usize, out: &mut [u64]) -> Listing
         (r .answer .number) (r .answer .place) (r .sets) ⌝ }
 {
     outline::list_on(outline_file(file, relay), out)
+}
+
+// ---- the plan
+
+// One interval of a file's table with a relay.
+pub fn step(p: Planner, file: &[u8], relay: usize, out: &mut [u64]) -> MovedOn
+    ensures { λ r. ⌜ StepAnswer (relayedAsk (now (file .entry)) relay) p r (now (out .entry)) (now (out .exit)) ⌝ }
+{
+    p.step_on(analyse(file, relay), out)
+}
+
+// The standings on a file's table with a relay.
+pub fn standings(p: Planner, file: &[u8], relay: usize) -> Standings
+    ensures { λ r. ⌜ StandingsAnswer (relayedAsk (now (file .entry)) relay) p r ⌝ }
+{
+    p.standings_on(analyse(file, relay))
+}
+
+// The whole plan of a file's table with a relay.
+pub fn whole_plan(file: &[u8], relay: usize, plan: &mut [u64]) -> Answer
+    ensures { λ r. ⌜ PlanAnswer (relayedAsk (now (file .entry)) relay) r (now (plan .entry)) (now (plan .exit)) ⌝ }
+{
+    planner::plan_on(analyse(file, relay), false, plan)
 }

@@ -18,8 +18,8 @@ use Rattle.promises.specs.Demands.{Carries}
 use Rattle.planner.specs.Proper.{Proper}
 use Rattle.planner.proofs.Asks.{file-proper}
 use Rattle.planner.proofs.Promises.{carried}
-use Rattle.limited_plan.proofs.Promises.{limited-proper, same-plan}
-use Rattle.relayed_plan.proofs.Promises.{relayed-carried}
+use Rattle.limited.proofs.Promises.{limited-proper, same-plan}
+use Rattle.relayed.proofs.Promises.{relayed-carried}
 use Rattle.supervisor.specs.ToC.{VerdictToC, Valued, ValuesToC, PlanToC}
 use Rattle.supervisor.specs.Boundary.{Carried-to-C, Limited-to-C, Relayed-to-C, Values-are, Carried-by-value, Listed-by-value}
 use Rattle.supervisor.specs.Boundary.{Boundary}

@@ -147,7 +147,7 @@ pub extern "C" fn ring_plan_limited(file: &[u8], ours: u32, theirs: u32, plan: &
         ours: ours,
         theirs: theirs,
     };
-    let planned = limited_plan::whole_plan(file, limits, plan);
+    let planned = limited::whole_plan(file, limits, plan);
     joined(planned.number, planned.place)
 }
 
@@ -167,7 +167,7 @@ pub extern "C" fn ring_verdict_relayed(file: &[u8], relay: u32) -> u32
 pub extern "C" fn ring_plan_relayed(file: &[u8], relay: u32, plan: &mut [u64]) -> u32
     ensures { λ r. ⌜ PlanToC (relayedAsk (now (file .entry)) relay) (now (plan .entry)) (now (plan .exit)) r ⌝ }
 {
-    let relays = relayed_plan::whole_plan(file, relay as usize, plan);
+    let relays = relayed::whole_plan(file, relay as usize, plan);
     joined(relays.number, relays.place)
 }
 

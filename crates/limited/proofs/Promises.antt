@@ -10,8 +10,8 @@ use Rattle.rules.specs.Refusals.{Check, Answers, short-output, verdict-checks, 
 use Rattle.rules.specs.Calls.{fileAsk}
 use Rattle.rules.proofs.Answers.{Numbered, answered, answers-only, none-of, none-join, none-left, none-right, numbered-join}
 use Rattle.planner.proofs.Only.{plan-only}
 use Rattle.limited.proofs.Checked.{limited-numbered, limited-none, limited-admissible}
-use Rattle.limited_plan.specs.Promises.{Limited-proper, Same-plan}
+use Rattle.limited.specs.Promises.{Limited-proper, Same-plan}
 
 pub limited-proper : Limited-proper
 limited-proper f our their = record { numbered = limited-numbered f our their; admissible = limited-admissible f our their }

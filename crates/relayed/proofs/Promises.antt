@@ -20,13 +20,13 @@ use Rattle.verdict.specs.Analysed.{table-checks}
 use Rattle.verdict.proofs.Bound.{verdict-numbered, verdict-split}
 use Rattle.rules.specs.Relay.{split}
 use Rattle.relay.proofs.Given.{given-sound}
 use Rattle.relayed.specs.Without.{Unused}
 use Rattle.relayed.proofs.Checked.{relayed-numbered, relayed-admissible, relayed-split}
 use Rattle.relayed.proofs.Without.{same-table, as-without}
 use Rattle.relay_jobs.proofs.Jobs.{split-relays}
 use Rattle.planner.proofs.Only.{plan-only}
 use Rattle.planner.proofs.Promises.{carried}
-use Rattle.relayed_plan.specs.Promises.{Relayed-proper, Relayed-carried, Same-plan}
+use Rattle.relayed.specs.Promises.{Relayed-proper, Relayed-carried, Same-plan}
 
 pub relayed-proper : Relayed-proper
 relayed-proper f r = record { numbered = relayed-numbered f r; admissible = relayed-admissible f r }

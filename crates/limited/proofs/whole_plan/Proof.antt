@@ -1,16 +1,16 @@
--- `relayed_plan::whole_plan` meets its contract: the analysis answers the file's checks with a relay.
+-- `limited::whole_plan` meets its contract: the analysis answers the file's checks with limits.
 use borrow.Author.Needs.{needs}
-use Rattle.rules.specs.Calls.{relayedAsk}
+use Rattle.rules.specs.Calls.{limitedAsk}
 use Rattle.planner.proofs.Asks.{usable, plan-asked}
-use Rattle.relayed.proofs.Checked.{relayed-numbered}
-use Rattle.relayed_plan.proofs.whole_plan.Statement.{statement}
-use Rattle.relayed_plan.proofs.whole_plan.Tie as tie
+use Rattle.limited.proofs.Checked.{limited-numbered}
+use Rattle.limited.proofs.whole_plan.Statement.{statement}
+use Rattle.limited.proofs.whole_plan.Tie as tie
 
 analyse-requires : tie.Need-analyse-requires
 analyse-requires c κs = search needs
 
 plan-on-requires : tie.Need-plan-on-requires
-plan-on-requires c κs = usable (relayedAsk _ _) (c .before .analyse .ensures)
+plan-on-requires c κs = usable (limitedAsk _ _ _) (c .before .analyse .ensures)
 
 same-length : tie.Need-same-length
 same-length c = search needs
@@ -21,8 +21,9 @@ returns c =
     let A = O .before .before in
     let a = A .before .before .before .args in
     let f = a .file .now in
-    let r = a .relay in
-    plan-asked (relayedAsk f r) (relayed-numbered f r) (A .analyse .ensures) (O .plan-on .result) (a .plan .now) _
+    let our = a .limits .ours in
+    let their = a .limits .theirs in
+    plan-asked (limitedAsk f our their) (limited-numbered f our their) (A .analyse .ensures) (O .plan-on .result) (a .plan .now) _
     (O .plan-on .ensures)
 
 pub whole-plan-spec : {M : Type 1} → statement M

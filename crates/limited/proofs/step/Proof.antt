@@ -1,13 +1,13 @@
--- `relayed_plan::step` meets its contract: the analysis answers the file's checks with a relay.
+-- `limited::step` meets its contract: the analysis answers the file's checks with limits.
 use mathlib.Core.Path.{_≡_}
 use borrow.Author.Needs.{needs}
 use lib.ListN.{length}
 use Rattle.rules.specs.Bounds.{max-rows}
-use Rattle.rules.specs.Calls.{relayedAsk}
+use Rattle.rules.specs.Calls.{limitedAsk}
 use Rattle.planner.proofs.Asks.{usable, step-asked}
-use Rattle.relayed.proofs.Checked.{relayed-numbered}
-use Rattle.relayed_plan.proofs.step.Statement.{statement}
-use Rattle.relayed_plan.proofs.step.Tie as tie
+use Rattle.limited.proofs.Checked.{limited-numbered}
+use Rattle.limited.proofs.step.Statement.{statement}
+use Rattle.limited.proofs.step.Tie as tie
 
 size : (c : tie.Start) → length (c .args .p .totals) ≡ max-rows
 size c = search needs
@@ -16,7 +16,7 @@ analyse-requires : tie.Need-analyse-requires
 analyse-requires c κs = search needs
 
 step-on-requires : tie.Need-step-on-requires
-step-on-requires c κs = usable (relayedAsk _ _) (c .before .analyse .ensures)
+step-on-requires c κs = usable (limitedAsk _ _ _) (c .before .analyse .ensures)
 
 same-length : tie.Need-same-length
 same-length c = search needs
@@ -27,8 +27,9 @@ returns c =
     let A = O .before .before in
     let S = A .before .before .before in
     let f = S .args .file .now in
-    let r = S .args .relay in
-    step-asked (relayedAsk f r) (relayed-numbered f r) (A .analyse .ensures) (S .args .p) (O .step-on .result)
+    let our = S .args .limits .ours in
+    let their = S .args .limits .theirs in
+    step-asked (limitedAsk f our their) (limited-numbered f our their) (A .analyse .ensures) (S .args .p) (O .step-on .result)
     (S .args .out .now) _ (size S) (O .step-on .ensures)
 
 pub step-spec : {M : Type 1} → statement M

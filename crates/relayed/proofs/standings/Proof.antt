@@ -1,10 +1,10 @@
--- `relayed_plan::standings` meets its contract: the analysis answers the file's checks with a relay.
+-- `relayed::standings` meets its contract: the analysis answers the file's checks with a relay.
 use borrow.Author.Needs.{needs}
 use Rattle.rules.specs.Calls.{relayedAsk}
 use Rattle.planner.proofs.Asks.{usable, standings-asked}
 use Rattle.relayed.proofs.Checked.{relayed-numbered}
-use Rattle.relayed_plan.proofs.standings.Statement.{statement}
-use Rattle.relayed_plan.proofs.standings.Tie as tie
+use Rattle.relayed.proofs.standings.Statement.{statement}
+use Rattle.relayed.proofs.standings.Tie as tie
 
 analyse-requires : tie.Need-analyse-requires
 analyse-requires c κs = search needs
