@@ -1,3 +1,4 @@
 pub mod Cuts
 pub mod Printed
 pub mod Only
+pub mod Plain

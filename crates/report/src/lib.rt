@@ -18,12 +18,16 @@ ghost use Rattle.planner.specs.Analysed.{Usable};
 ghost use Rattle.decimal.specs.Puts.{limit, lineOf, max-line, PutsLine, PutsLines};
 ghost use Rattle.rules.specs.Program.{verdict, values, set, slot, set-lines, slot-lines};
 ghost use Rattle.report.specs.Rendered.{cuts, Rendered, RelayRendered, RenderedOn};
+ghost use Rattle.report.specs.Plain.{PlainRendered};
 
 // The program's input: one byte more than the longest table file has, so that a longer one is refused for its length.
 pub const INPUT: usize = Table::FILE_BYTES + 1;
 
 // Room for every report: 64 bytes for each of the verdict, two cuts, the three values, the sets and the slots.
 pub const SIZE: usize = 64 * (6 + Table::ROWS + Table::SLOTS);
+
+// Room for the slots of both planners, or a refusal.
+pub const PLAIN_SIZE: usize = 64 * 2 * Table::SLOTS;
 
 // ---- lines
 
@@ -115,7 +119,7 @@ fn put_list(table: Analysis, out: &mut [u8], at: usize) -> usize
 }
 
 // The slots of its whole plan, by the plain planner (#114) or by the other: they are the same.
-pub fn put_plan(table: Analysis, plain: bool, out: &mut [u8], at: usize) -> usize
+fn put_plan(table: Analysis, plain: bool, out: &mut [u8], at: usize) -> usize
     requires { ⌜ Usable table × (table .outline .answer .number ≡ 0) × (at + max-line * max-slots ≤ limit) ⌝ }
     ensures { λ r. ⌜ ((t : bus.Table) → Accepted t table → (ws : List ℕ) × WholePlan t ws
         × PutsLines (slot-lines ws) max-slots (now (out .entry)) at (now (out .exit)) r) ⌝ }
@@ -129,7 +133,7 @@ pub fn put_plan(table: Analysis, plain: bool, out: &mut [u8], at: usize) -> usiz
 // ---- the report
 
 // What is printed of an analysed table, at the front of `out`; how many bytes it is. Of a refusal it is the first line only.
-pub fn put_analysis(table: Analysis, out: &mut [u8]) -> usize
+fn put_analysis(table: Analysis, out: &mut [u8]) -> usize
     requires { ⌜ Usable table ⌝ }
     ensures { λ r. ⌜ RenderedOn table (now (out .entry)) (now (out .exit)) r ⌝ }
 {
@@ -172,4 +176,25 @@ pub fn render_relayed(input: &[u8], relay: usize, out: &mut [u8]) -> usize
 {
     let read = least(input.len(), INPUT);
     put_analysis(relayed::analyse(&input[..read], relay), out)
+}
+
+// What the program of both planners prints for a table file (#114). Of a refusal it is the verdict's line only.
+pub fn render_plain(file: &[u8], out: &mut [u8]) -> usize
+    ensures { λ r. ⌜ PlainRendered (now (file .entry)) (now (out .entry)) (now (out .exit)) r ⌝ }
+{
+    let table = verdict::analyse(file);
+    let answer = verdict::verdict_of(table);
+    let Verdict::Admitted {
+        cut: _,
+        other: _,
+        interval: _,
+        hyper: _,
+        load: _,
+        sets: _,
+    } = answer
+    else {
+        return put_verdict(answer.number(), answer.place(), out);
+    };
+    let next = put_plan(table, true, out, 0);
+    put_plan(table, false, out, next)
 }

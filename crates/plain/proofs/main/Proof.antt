@@ -15,21 +15,21 @@ read-full-requires c κs = search needs
 array-share-prefix-input : tie.Need-array-share-prefix-input
 array-share-prefix-input c = search needs
 
-slice-aggregate-render : tie.Need-slice-aggregate-render
-slice-aggregate-render c = search needs
+slice-aggregate-render-plain : tie.Need-slice-aggregate-render-plain
+slice-aggregate-render-plain c = search needs
 
-slice-aggregate-render-2 : tie.Need-slice-aggregate-render-2
-slice-aggregate-render-2 c = search needs
+slice-aggregate-render-plain-2 : tie.Need-slice-aggregate-render-plain-2
+slice-aggregate-render-plain-2 c = search needs
 
-render-requires : tie.Need-render-requires
-render-requires c κs = search needs
+render-plain-requires : tie.Need-render-plain-requires
+render-plain-requires c κs = search needs
 
 array-share-prefix-out : tie.Need-array-share-prefix-out
-array-share-prefix-out c = omega (arith, c .before .render .ensures .fits, c .before .render .kept)
+array-share-prefix-out c = omega (arith, c .before .render-plain .ensures .fits, c .before .render-plain .kept)
 
 slice-aggregate-write-all : tie.Need-slice-aggregate-write-all
 slice-aggregate-write-all c =
-    let r = c .before .before .render in
+    let r = c .before .before .render-plain in
     sym (length-take-le _ _ (omega (arith, r .ensures .fits, r .kept)))
 
 write-all-requires : tie.Need-write-all-requires
@@ -45,9 +45,9 @@ main-spec =
     slice-aggregate-read-full
     read-full-requires
     array-share-prefix-input
-    slice-aggregate-render
-    slice-aggregate-render-2
-    render-requires
+    slice-aggregate-render-plain
+    slice-aggregate-render-plain-2
+    render-plain-requires
     array-share-prefix-out
     slice-aggregate-write-all
     write-all-requires

@@ -1,4 +1,4 @@
--- The lines that `render` writes are those that the program prints, and only one answer fits.
+-- The lines that `render_plain` writes are those that the program prints, and only one answer fits.
 use mathlib.Core.Path.{_≡_, sym, ap, ap₂, subst, _∙_}
 use mathlib.Core.List.{List, [], _∷_, _++_}
 use Prim.Native.Nat.{ℕ, _+_}
@@ -22,7 +22,7 @@ use Rattle.decimal.specs.Puts.{Puts, PutsLine, PutsLines}
 use Rattle.decimal.proofs.Puts.{puts-more}
 use Rattle.decimal.proofs.Text.{text-join, text-one}
 use Rattle.verdict.proofs.Judging.{refused-number}
-use Rattle.plain_report.specs.Printed.{PlainPrinted, refused, admitted, PlainRendered}
+use Rattle.report.specs.Plain.{PlainPrinted, refused, admitted, PlainRendered}
 
 module _ (f : List ℕ) (r : Verdict) (J : IsVerdict f r) where
   by : (v : Verdict) → r ≡ v → IsVerdict f v

@@ -1,4 +1,4 @@
--- render: the verdict's line where it refuses, else the slot lines of both planners.
+-- render_plain: the verdict's line where it refuses, else the slot lines of both planners.
 use borrow.Author.Needs.{needs}
 use native.Mathlib.Omega.{arith}
 use mathlib.Core.Path.{_≡_}
@@ -12,10 +12,10 @@ use Rattle.verdict.proofs.Bound.{verdict-numbered}
 use Rattle.verdict.proofs.Judging.{judged-on}
 use Rattle.planner.specs.Analysed.{Usable}
 use Rattle.planner.proofs.Asks as asks
 use Rattle.report.proofs.Printed.{is-admitted}
-use Rattle.plain_report.proofs.Printed.{rendered-refused, rendered-admitted}
-use Rattle.plain_report.proofs.render.Statement.{statement}
-use Rattle.plain_report.proofs.render.Tie as tie
+use Rattle.report.proofs.Plain.{rendered-refused, rendered-admitted}
+use Rattle.report.proofs.render_plain.Statement.{statement}
+use Rattle.report.proofs.render_plain.Tie as tie
 
 abbrev file : tie.After-analyse → List ℕ
 file a = a .before .before .before .args .file .now
@@ -96,8 +96,8 @@ returns-2 c =
     rendered-admitted (file (z .before)) (z .verdict-of .result) (judged z) _ _ _ _ _ _ (d .enum-told .given .1)
     (l .put-plan .ensures _ (accepted d)) (m .put-plan2 .ensures _ (accepted d))
 
-pub render-spec : {M : Type 1} → statement M
-render-spec =
+pub render-plain-spec : {M : Type 1} → statement M
+render-plain-spec =
     tie.close
     (tie.spec
     analyse-requires
