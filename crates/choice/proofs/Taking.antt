@@ -1,13 +1,14 @@
 -- The greedy theorem: rows that are rounded up in turn, where all their sets have room left, are the greatest loads, if no set's sum is
 -- then below its parts rounded down.
-use mathlib.Core.Path.{_≡_, refl, ap, _∙_}
-use mathlib.Core.Bool.{Bool, true, false, _||_}
-use Prim.Native.Nat.{ℕ, suc, _+_, _-_, _*_, _≤_, _<_}
+use mathlib.Core.Path.{_≡_, refl, sym, ap, _∙_}
+use mathlib.Core.Bool.{Bool, true, false, _&&_, _||_, true≢false}
+use mathlib.Core.Logic.{_≢_}
+use Prim.Native.Nat.{ℕ, zero, suc, _+_, _-_, _*_, _≤_, _<_}
 use native.Mathlib.Decide.{decLt, decLe, ℕ-discrete}
 use native.Mathlib.Nat.{mul-le-mul-right, lt-of-mul-lt-mul-right}
 use native.Mathlib.Omega.{arith}
-use lib.Dec.{eqb}
-use borrow.Author.Tests.{eq-eqb, ne-eqb}
+use lib.Dec.{eqb, ltb}
+use borrow.Author.Tests.{eq-eqb, ne-eqb, lt-ltb, le-ltb, ltb-true}
 use Rattle.numbers.specs.Finite.{sumIn, only}
 use Rattle.numbers.specs.Rounding.{up, Rounded}
 use Rattle.numbers.specs.Word.{bit}
@@ -15,14 +16,22 @@ use Rattle.numbers.proofs.Finite.{only-true, only-false, only-zero, only-le, su
 use Rattle.numbers.proofs.Rounding.{up-over, rounded-is, rounded-of, rounded-between}
 use Rattle.numbers.proofs.Word.{bit-zero}
 use Rattle.flow.specs.Network.{Put}
-use Rattle.flow.proofs.Words.{or-same, or-right}
+use Rattle.flow.proofs.Words.{or-same, or-right, and-both, in-first}
 use Rattle.rules.specs.Interval.{Greatest}
 use Rattle.loads.specs.Loads.{inSet, digit, none, Spans, Parts, Summed, Qualified}
 use Rattle.loads.specs.Line.{carried, line}
 use Rattle.loads.proofs.Line.{covers-in, covers-before, covers-after}
 use Rattle.loads.proofs.Choice.{both, zero-plus, sum-none}
 use Rattle.loads.proofs.Settling.{digit-on, digit-off, carried-row, carried-set}
-use Rattle.choice.specs.Taken.{Open, Lowered, Fits, Taken}
+use Rattle.choice.specs.Taken.{Open, Lowered, Uneven, Fits, Taken}
+
+and-none : (b : Bool) → (b && false) ≡ false
+and-none true = refl
+and-none false = refl
+
+and-all : (b : Bool) → (b && true) ≡ b
+and-all true = refl
+and-all false = refl
 
 module _ (n K : ℕ) (a b : ℕ → ℕ) (h : ℕ) (f : ℕ → ℕ) (S : Spans n K a b) (P : Parts n h f) where
   -- ---- before the first row
@@ -153,6 +162,97 @@ module _ (n K : ℕ) (a b : ℕ → ℕ) (h : ℕ) (f : ℕ → ℕ) (S : Spans 
             omega (arith, sum-is k, only-true _ (digit top m) c, only-true _ 1 c, off) in
             let room = o .goes refl k (omega arith) (omega arith) in
             rw s (omega (arith, d .inside k (omega arith) (omega arith), t .sets k g), omega (arith, room, t .sets k g))
+
+  -- ---- whole rows, up to one
+
+  pub taken-wholes : (m d top : ℕ) (left : ℕ → ℕ) → m + d ≤ n → ((i : ℕ) → m ≤ i → i < m + d → f i ≡ 0) → Taken n K m a b h f top left
+      → Taken n K (m + d) a b h f top left
+  taken-wholes m zero top left l z t = let e : m + 0 ≡ m = omega arith in rw e t
+  taken-wholes m (suc d) top left l z t =
+      let e : m + suc d ≡ m + d + 1 = omega arith in
+      rw e (taken-whole (m + d) top left (omega arith) (taken-wholes m d top left (omega arith) (λ i p q. z i p (omega arith)) t)
+      (z (m + d) (omega arith) (omega arith)))
+
+  -- ---- the rows in a word, those below m done
+
+  module _ (w : ℕ) (only-rows : Uneven n f w) where
+    pub record Passed (done top : ℕ) (left : ℕ → ℕ) : Type 0 where
+      pub m : ℕ
+      pub few : m ≤ n
+      pub rows : (i : ℕ) → bit done i ≡ (bit w i && ltb i m)
+      pub taken : Taken n K m a b h f top left
+
+    pub passed-start : (left : ℕ → ℕ) → Summed n K a b f left → Passed 0 0 left
+    passed-start left s = record {
+      m = 0;
+      few = omega arith;
+      rows = λ i. bit-zero i ∙ sym (rw (le-ltb i 0 (omega arith)) (and-none (bit w i)));
+      taken = taken-start left s;
+    }
+
+    module _ {done top : ℕ} {left : ℕ → ℕ} (p : Passed done top left) where
+      -- a row that is not in the word is whole
+      whole : (i : ℕ) → i < n → bit w i ≡ false → f i ≡ 0
+      whole i l e = go (decLt 0 (f i))
+        where
+          go : Dec (0 < f i) → f i ≡ 0
+          go (yes d) = absurd (true≢false (sym (only-rows i ∙ rw (lt-ltb i n l, lt-ltb 0 (f i) d) refl) ∙ e))
+          go (no d) = omega arith
+
+      past : (i : ℕ) → p .m ≤ i → bit done i ≡ false
+      past i l = p .rows i ∙ rw (le-ltb i (p .m) l) (and-none (bit w i))
+
+      -- the first row that is not done: those between are whole
+      module _ (i : ℕ) (ne : bit w i ≢ bit done i) (first : (j : ℕ) → j < i → bit w j ≡ bit done j) where
+        here : bit w i ≡ true
+        here = in-first (bit w i) (bit done i) ne (λ e. and-both (bit w i) (ltb i (p .m)) (sym (p .rows i) ∙ e) .0) .0
+
+        pub passed-row : (i < n) × (0 < f i)
+        passed-row =
+            let t = and-both (ltb i n) (ltb 0 (f i)) (sym (only-rows i) ∙ here) in
+            (ltb-true i n (t .0), ltb-true 0 (f i) (t .1))
+
+        pub passed-new : bit done i ≡ false
+        passed-new = in-first (bit w i) (bit done i) ne (λ e. and-both (bit w i) (ltb i (p .m)) (sym (p .rows i) ∙ e) .0) .1
+
+        above : p .m ≤ i
+        above = go (decLt i (p .m))
+          where
+            go : Dec (i < p .m) → p .m ≤ i
+            go (yes l) = absurd (true≢false (sym (p .rows i ∙ rw (here, lt-ltb i (p .m) l) refl) ∙ passed-new))
+            go (no l) = omega arith
+
+        pub passed-to : Taken n K i a b h f top left
+        passed-to =
+            let e : p .m + (i - p .m) ≡ i = omega (arith, above) in
+            rw e at (taken-wholes (p .m) (i - p .m) top left (omega (arith, above, passed-row .0))
+            (λ j u v. whole j (omega (arith, above, passed-row .0)) (first j (omega (arith, above)) ∙ past j u)) (p .taken))
+
+        pub passed-next : (done' top' : ℕ) (left' : ℕ → ℕ) → ((j : ℕ) → bit done' j ≡ (bit done j || eqb j i))
+            → Taken n K (i + 1) a b h f top' left' → Passed done' top' left'
+        passed-next done' top' left' one t = record {
+          m = i + 1;
+          few = omega (arith, passed-row .0);
+          rows = λ j. one j ∙ row j (ℕ-discrete j i) (decLt j i);
+          taken = t;
+        }
+          where
+            row : (j : ℕ) → Dec (j ≡ i) → Dec (j < i) → (bit done j || eqb j i) ≡ (bit w j && ltb j (i + 1))
+            row j (yes q) d =
+                rw (q) (or-right (bit done i) (eqb i i) (eq-eqb i i refl) ∙ sym (rw (here, lt-ltb i (i + 1) (omega arith)) refl))
+            row j (no q) (yes d) =
+                or-same (bit done j) (eqb j i) (ne-eqb j i q) ∙ sym (first j d)
+                ∙ sym (rw (lt-ltb j (i + 1) (omega arith)) (and-all (bit w j)))
+            row j (no q) (no d) =
+                or-same (bit done j) (eqb j i) (ne-eqb j i q) ∙ past j (omega (arith, above))
+                ∙ sym (rw (le-ltb j (i + 1) (omega arith)) (and-none (bit w j)))
+
+      -- all of the word is done
+      pub passed-end : done ≡ w → Taken n K n a b h f top left
+      passed-end e =
+          let q : p .m + (n - p .m) ≡ n = omega (arith, p .few) in
+          rw q at (taken-wholes (p .m) (n - p .m) top left (omega (arith, p .few))
+          (λ j u v. whole j (omega (arith, p .few)) (ap (λ (x : ℕ). bit x j) (sym e) ∙ past j u)) (p .taken))
 
   -- ---- after the last row
 

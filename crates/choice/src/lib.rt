@@ -10,17 +10,16 @@ use flow::PLACES;
 use loads::Size;
 use table::Table;
 ghost use mathlib.Core.Path.{_≡_};
-ghost use mathlib.Core.Bool.{true, _&&_};
+ghost use mathlib.Core.Bool.{true};
 ghost use Prim.Native.Nat.{ℕ, _+_, _-_, _<_, _≤_};
-ghost use lib.Dec.{ltb};
 ghost use lib.ListN.{length};
 ghost use Rattle.numbers.specs.Lists.{at};
 ghost use Rattle.numbers.specs.Word.{bit};
-ghost use Rattle.rules.specs.Bounds.{max-elements, max-rows};
+ghost use Rattle.rules.specs.Bounds.{max-elements};
 ghost use Rattle.rules.specs.Interval.{Greatest};
-ghost use Rattle.loads.specs.Loads.{part-most, digit, last, none, Spans, Parts, Summed, Qualified};
-ghost use Rattle.loads.specs.State.{Laid};
-ghost use Rattle.choice.specs.Taken.{Lifted, Lowered, Open, Taken};
+ghost use Rattle.loads.specs.Loads.{part-most, digit, among, last, none, Spans, Parts, Summed, Qualified};
+ghost use Rattle.loads.specs.State.{Ends};
+ghost use Rattle.choice.specs.Taken.{Lifted, Lowered, Open, Uneven, Taken};
 
 const ROWS: usize = Table::ROWS;
 
@@ -41,26 +40,29 @@ fn lift(sum: &mut [u32; SETS], from: usize, to: usize, v: u32)
     }
 }
 
-// Adds each row's part to the sums of its sets, which are 0.
+// Adds the parts of these rows to the sums of their sets, which are 0.
 fn add_parts(
     tail: &[u8; ROWS],
     head: &[u8; ROWS],
     part: &[u32; ROWS],
-    size: Size,
+    rows: u64,
     sum: &mut [u32; SETS],
 )
-    requires { ⌜ Spans (size .rows) (size .sets) (at (now tail)) (last (now head)) × ((i : ℕ) → i < size .rows → 0 < at (now head) i)
-        × Parts (size .rows) (size .hyper) (at (now part)) × ((k : ℕ) → at (now sum) k ≡ 0) × (length (now sum) ≡ max-elements) ⌝ }
+    requires { ⌜ ((n : ℕ) × (K : ℕ) × (h : ℕ) × Spans n K (at (now tail)) (last (now head)) × ((i : ℕ) → i < n → 0 < at (now head) i)
+        × Parts n h (at (now part)) × ((i : ℕ) → bit rows i ≡ true → i < n))
+        × ((k : ℕ) → at (now sum) k ≡ 0) × (length (now sum) ≡ max-elements) ⌝ }
     ensures { λ r. ⌜ (length (now (sum .exit)) ≡ max-elements)
-        × Summed (size .rows) (size .sets) (at (now (tail .entry))) (last (now (head .entry))) (at (now (part .entry)))
-        (at (now (sum .exit))) ⌝ }
+        × ((n K : ℕ) → Spans n K (at (now (tail .entry))) (last (now (head .entry)))
+        → ((i : ℕ) → i < n → 0 < at (now (head .entry)) i) → ((i : ℕ) → bit rows i ≡ true → i < n)
+        → Summed n K (at (now (tail .entry))) (last (now (head .entry))) (among rows (at (now (part .entry)))) (at (now (sum .exit)))) ⌝ }
 {
-    let mut i: usize = 0;
-    while i < size.rows {
+    let mut done: u64 = 0;
+    while done != rows {
+        let i = flow::pick(rows, done);
         let from = tail[i] as usize;
         let to = head[i] as usize;
         lift(sum, from, to, part[i]);
-        i += 1;
+        done = done | (1u64 << i);
     }
 }
 
@@ -104,35 +106,29 @@ fn lower(left: &mut [u32; SETS], from: usize, to: usize, h: u32)
     }
 }
 
-// Rounds up one row after the other, where its sets have room. `left` holds the sets' sums, and then what is left of them.
-fn take_rows(
-    tail: &[u8; ROWS],
-    head: &[u8; ROWS],
-    part: &[u32; ROWS],
-    size: Size,
-    left: &mut [u32; SETS],
-) -> u64
-    requires { ⌜ Spans (size .rows) (size .sets) (at (now tail)) (last (now head)) × ((i : ℕ) → i < size .rows → 0 < at (now head) i)
-        × Parts (size .rows) (size .hyper) (at (now part))
-        × Summed (size .rows) (size .sets) (at (now tail)) (last (now head)) (at (now part)) (at (now left))
-        × (length (now left) ≡ max-elements) ⌝ }
+// Rounds up one after the other of the rows with a part, where its sets have room. `left` holds the sets' sums, and then what is left of
+// them.
+fn take_rows(tail: &[u8; ROWS], head: &[u8; ROWS], rows: u64, h: u32, left: &mut [u32; SETS]) -> u64
+    requires { ⌜ ((n : ℕ) × (K : ℕ) × (f : ℕ → ℕ) × Spans n K (at (now tail)) (last (now head))
+        × ((i : ℕ) → i < n → 0 < at (now head) i) × Parts n h f × Uneven n f rows
+        × Summed n K (at (now tail)) (last (now head)) f (at (now left))) × (length (now left) ≡ max-elements) ⌝ }
     ensures { λ r. ⌜ (length (now (left .exit)) ≡ max-elements)
-        × Taken (size .rows) (size .sets) (size .rows) (at (now (tail .entry))) (last (now (head .entry))) (size .hyper)
-        (at (now (part .entry))) r (at (now (left .exit))) ⌝ }
+        × ((n K : ℕ) (f : ℕ → ℕ) → Spans n K (at (now (tail .entry))) (last (now (head .entry)))
+        → ((i : ℕ) → i < n → 0 < at (now (head .entry)) i) → Parts n h f → Uneven n f rows
+        → Summed n K (at (now (tail .entry))) (last (now (head .entry))) f (at (now (left .entry)))
+        → Taken n K n (at (now (tail .entry))) (last (now (head .entry))) h f r (at (now (left .exit)))) ⌝ }
 {
-    let h = size.hyper as u32;
     let mut top: u64 = 0;
-    let mut i: usize = 0;
-    while i < size.rows {
+    let mut done: u64 = 0;
+    while done != rows {
+        let i = flow::pick(rows, done);
         let from = tail[i] as usize;
         let to = head[i] as usize;
-        if part[i] != 0 {
-            if has_room(left, from, to) {
-                lower(left, from, to, h);
-                top = top | (1u64 << i);
-            }
+        if has_room(left, from, to) {
+            lower(left, from, to, h);
+            top = top | (1u64 << i);
         }
-        i += 1;
+        done = done | (1u64 << i);
     }
     top
 }
@@ -152,46 +148,36 @@ fn all_less(left: &[u32; SETS], sets: usize, h: u32) -> bool
     true
 }
 
-// The rows that are not whole.
-fn parted_rows(part: &[u32; ROWS], rows: usize) -> u64
-    requires { ⌜ rows ≤ max-rows ⌝ }
-    ensures { λ r. ⌜ ((i : ℕ) → bit r i ≡ (ltb i rows && ltb 0 (at (now (part .entry)) i))) ⌝ }
-{
-    let mut parted: u64 = 0;
-    let mut i: usize = 0;
-    while i < rows {
-        parted = loads::mark(parted, i, 0 < part[i]);
-        i += 1;
-    }
-    parted
-}
-
 // ---- the choice
 
-// The rows that are rounded up, for shares with these parts above whole slots.
+// The rows that are rounded up among these, which have a part above whole slots; the others are whole.
 pub fn choose(
     tail: &[u8; ROWS],
     head: &[u8; ROWS],
     out: &[u64; PLACES],
     into: &[u64; PLACES],
-    words: &[u64; ROWS],
     size: Size,
     part: &[u32; ROWS],
+    rows: u64,
 ) -> u64
-    requires { ⌜ Laid (size .rows) (size .sets) (now tail) (now head) (now out) (now into) (now words)
-        × Parts (size .rows) (size .hyper) (at (now part)) ⌝ }
+    requires { ⌜ Ends (size .rows) (size .sets) (now tail) (now head) (now out) (now into)
+        × Parts (size .rows) (size .hyper) (at (now part))
+        × ((i : ℕ) → bit rows i ≡ true → (i < size .rows) × (0 < at (now part) i)) ⌝ }
     ensures { λ r. ⌜ Greatest (size .rows) (Qualified (size .rows) (size .sets) (at (now (tail .entry))) (last (now (head .entry)))
-        (size .hyper) (at (now (part .entry))) none) (digit r) ⌝ }
+        (size .hyper) (among rows (at (now (part .entry)))) none) (digit r) ⌝ }
 {
+    if rows == 0 {
+        return 0;
+    }
+    let h = size.hyper as u32;
     let mut sum = [0u32; SETS];
-    add_parts(tail, head, part, size, &mut sum);
+    add_parts(tail, head, part, rows, &mut sum);
     let mut left = sum;
-    let top = take_rows(tail, head, part, size, &mut left);
-    if all_less(&left, size.sets, size.hyper as u32) {
+    let top = take_rows(tail, head, rows, h, &mut left);
+    if all_less(&left, size.sets, h) {
         return top;
     }
-    let parted = parted_rows(part, size.rows);
-    let start = loads::compare(words, &sum, size, parted, top);
-    let mended = loads::mend(tail, head, out, into, words, &sum, size, start);
-    loads::raise_rows(tail, head, out, into, words, &sum, size, mended)
+    let start = loads::compare(out, into, &sum, size, rows, top);
+    let mended = loads::mend(tail, head, out, into, &sum, size, start);
+    loads::raise_rows(tail, head, out, into, &sum, size, mended)
 }

@@ -40,6 +40,7 @@ pub fn plan_intervals(
         sets: folded.sets,
         hyper: time.hyper,
     };
+    let inverse = interval::inverse_of(time.hyper);
     let mut load = [0u64; Table::ROWS];
     let mut part = [0u32; Table::ROWS];
     let mut after = totals;
@@ -47,29 +48,42 @@ pub fn plan_intervals(
     let mut at: usize = 0;
     while slot < until {
         let end = time.next_end(slot);
-        interval::advance(
-            plain,
-            slot as usize,
-            end as usize,
-            size,
-            top,
-            &table.outline.first,
-            &table.outline.second,
-            &table.rate,
+        let slots = (end - slot) as usize;
+        let parted = interval::part_shares(&table.rate, end, size, inverse, &mut load, &mut part);
+        let rounded = interval::round_rows(
             folded.upper,
-            &words,
             &places.tail,
             &places.head,
             &places.out,
             &places.into,
-            &places.heads,
-            &places.next,
-            &mut load,
-            &mut part,
-            &mut after,
-            &mut plan[at..],
+            size,
+            &part,
+            parted,
         );
-        at += (end - slot) as usize;
+        interval::give(rounded, rows, &mut load, &mut after);
+        if plain {
+            plain_slots::fill_plain(
+                &table.outline.first,
+                &table.outline.second,
+                &places.heads,
+                &places.next,
+                &load,
+                top,
+                slots,
+                &mut plan[at..],
+            );
+        } else {
+            slots::fill(
+                &table.outline.second,
+                &places.heads,
+                &places.next,
+                &load,
+                top,
+                slots,
+                &mut plan[at..],
+            );
+        }
+        at += slots;
         slot = end;
     }
     after

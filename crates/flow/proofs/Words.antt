@@ -12,7 +12,7 @@ use borrow.Author.Tests.{eq-eqb, ne-eqb, eqb-true}
 use Rattle.numbers.specs.Finite.{only, count}
 use Rattle.numbers.specs.Word.{bit}
 use Rattle.numbers.proofs.Finite.{only-true, only-false, sum-bump}
-use Rattle.numbers.proofs.Word.{one-shl, bit-or, bit-and, bit-pow, bit-suc, low-eq}
+use Rattle.numbers.proofs.Word.{one-shl, bit-or, bit-and, bit-pow, bit-low, bit-suc, low-eq}
 
 pub or-left : (p q : Bool) → p ≡ true → (p || q) ≡ true
 or-left true q e = refl
@@ -74,6 +74,7 @@ differ-same (suc a) (suc b) e = differ-same a b (omega arith)
 
 pub first-differ : (d a b : ℕ) → a < 2 ^ d → b < 2 ^ d → a ≢ b
     → (trailingZeros d (bitXor a b) < d) × (bit a (trailingZeros d (bitXor a b)) ≢ bit b (trailingZeros d (bitXor a b)))
+    × ((j : ℕ) → j < trailingZeros d (bitXor a b) → bit a j ≡ bit b j)
 unfolding trailingZeros
 first-differ zero a b p q ne = absurd (ne (omega arith))
 first-differ (suc d) a b p q ne =
@@ -94,14 +95,25 @@ first-differ (suc d) a b p q ne =
 
     go : (r : ℕ) → bitXor a b % 2 ≡ r
         → (¬ (a / 2 ≡ b / 2) → (trailingZeros d (bitXor (a / 2) (b / 2)) < d)
-        × (bit (a / 2) (trailingZeros d (bitXor (a / 2) (b / 2))) ≢ bit (b / 2) (trailingZeros d (bitXor (a / 2) (b / 2)))))
+        × (bit (a / 2) (trailingZeros d (bitXor (a / 2) (b / 2))) ≢ bit (b / 2) (trailingZeros d (bitXor (a / 2) (b / 2))))
+        × ((j : ℕ) → j < trailingZeros d (bitXor (a / 2) (b / 2)) → bit (a / 2) j ≡ bit (b / 2) j))
         → (under r (trailingZeros d (bitXor a b / 2)) < suc d)
         × (bit a (under r (trailingZeros d (bitXor a b / 2))) ≢ bit b (under r (trailingZeros d (bitXor a b / 2))))
+        × ((j : ℕ) → j < under r (trailingZeros d (bitXor a b / 2)) → bit a j ≡ bit b j)
     go zero e ih =
         let z : a % 2 ≡ b % 2 = differ-zero (a % 2) (b % 2) la lb (sym low ∙ e) in
         let i = ih (λ k. ne (omega arith)) in
-        rw half (omega (arith, i .0), λ k. i .1 (sym (bit-suc a _) ∙ k ∙ bit-suc b _))
-    go (suc r) e ih = (omega arith, λ k. absurd (omega (arith, e, low, differ-same (a % 2) (b % 2) (low-eq a b k))))
+        rw half (
+          omega (arith, i .0),
+          λ k. i .1 (sym (bit-suc a _) ∙ k ∙ bit-suc b _),
+          below (trailingZeros d (bitXor (a / 2) (b / 2))) z (i .2),
+        )
+      where
+        below : (t : ℕ) → a % 2 ≡ b % 2 → ((j : ℕ) → j < t → bit (a / 2) j ≡ bit (b / 2) j) → (j : ℕ) → j < suc t → bit a j ≡ bit b j
+        below t z f zero l = bit-low a ∙ ap (λ (r : ℕ). eqb r 1) z ∙ sym (bit-low b)
+        below t z f (suc j) l = bit-suc a j ∙ f j (omega arith) ∙ sym (bit-suc b j)
+    go (suc r) e ih =
+        (omega arith, λ k. absurd (omega (arith, e, low, differ-same (a % 2) (b % 2) (low-eq a b k))), λ j l. absurd (omega arith))
 
 -- `v ^ w`
 pub bit-xor : (v w i : ℕ) → bit (bitXor v w) i ≡ cond (bit w i) (not (bit v i)) (bit v i)

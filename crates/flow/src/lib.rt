@@ -41,7 +41,7 @@ pub struct Outcome {
 // The first digit in which two words differ.
 pub fn pick(v: u64, w: u64) -> usize
     requires { ⌜ v ≢ w ⌝ }
-    ensures { λ r. ⌜ (r < 64) × (bit v r ≢ bit w r) ⌝ }
+    ensures { λ r. ⌜ (r < 64) × (bit v r ≢ bit w r) × ((j : ℕ) → j < r → bit v j ≡ bit w j) ⌝ }
 {
     u64::trailing_zeros(v ^ w) as usize
 }

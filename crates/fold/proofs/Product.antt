@@ -4,7 +4,6 @@ use mathlib.Core.Bool.{Bool, true, false, cond}
 use mathlib.Core.Logic.{_≢_}
 use Prim.Native.Nat.{ℕ, zero, suc, _+_, _*_, _/_, _%_, _^_, _<_}
 use native.Mathlib.Decide.{ℕ-discrete}
-use native.Mathlib.Nat.{le-refl}
 use native.Mathlib.Omega.{arith}
 use lib.Bits.{bitOr, or-zero-l}
 use lib.Dec.{eqb}
@@ -12,13 +11,13 @@ use borrow.Author.Tests.{eq-eqb, ne-eqb}
 use Rattle.numbers.specs.Finite.{only}
 use Rattle.numbers.specs.Rounding.{Rounded}
 use Rattle.numbers.specs.Word.{bit}
-use Rattle.numbers.proofs.Finite.{only-true, only-false, only-le, sumIn-eq}
+use Rattle.numbers.proofs.Finite.{only-true, only-false, sumIn-eq}
 use Rattle.numbers.proofs.Rounding.{rounded-of, rounded-whole}
 use Rattle.numbers.proofs.Word.{bit-shr, bit-zero, bit-or}
 use Rattle.flow.proofs.Words.{or-same}
 use Rattle.rules.specs.Bounds.{max-rings}
 use Rattle.rules.specs.Interval.{Greatest}
-use Rattle.loads.specs.Loads.{inSet, digit, none, Parts, Qualified}
+use Rattle.loads.specs.Loads.{inSet, digit, none, Qualified}
 use Rattle.loads.proofs.Choice.{sum-none}
 use Rattle.loads.proofs.Settling.{digit-on, digit-off, digit-le}
 use Rattle.fold.specs.Rings.{onRing, OnEach, ringCount, Chosen}
@@ -51,21 +50,11 @@ or-right v w i e = ap (λ (b : Bool). only b 1) (bit-or v w i ∙ rw (digit-none
 -- ---- parts and loads, by rows
 
 -- with one ring all rows are of ring 0
-pub alone : (f : ℕ → ℕ) → onRing 0 0 f ≡ f
+alone : (f : ℕ → ℕ) → onRing 0 0 f ≡ f
 alone f = fun-ext (λ i. only-true _ (f i) (eq-eqb (digit 0 i) 0 (digit-off 0 i (bit-zero i))))
 
 nobody : (f : ℕ → ℕ) → onRing 1 0 f ≡ none
 nobody f = fun-ext (λ i. only-false _ (f i) (ne-eqb (digit 0 i) 1 (λ q. omega (arith, digit-off 0 i (bit-zero i)))))
-
--- the parts of one ring's rows are parts
-pub parts-own : (n h d upper : ℕ) (f g : ℕ → ℕ) → Parts n h f → ((i : ℕ) → i < n → g i ≡ onRing d upper f i) → Parts n h g
-parts-own n h d upper f g P e = record {
-  some = P .some;
-  fits = P .fits;
-  row = λ i l.
-      let u = only-le (eqb (digit upper i) d) true (f i) (f i) (λ t. tt) (λ t. le-refl (f i)) in
-      omega (arith, e i l, P .row i l, u, only-true true (f i) refl);
-}
 
 pub rounded-none : (h : ℕ) → 0 < h → Rounded 0 0 h
 rounded-none h pos = rounded-of 0 h pos 0 (omega arith) (omega arith)
@@ -164,19 +153,12 @@ module _ (n K : ℕ) (a b : ℕ → ℕ) (h : ℕ) where
 
 -- ---- ring after ring
 
-pub rings-few : (upper d : ℕ) → d < ringCount upper → (d < max-rings) × (upper ≡ 0 → d ≡ 0)
-rings-few upper d l = go (ℕ-discrete upper 0)
+pub rings-few : (upper d : ℕ) → d < ringCount upper → d < max-rings
+rings-few upper d l = go (eqb upper 0) l
   where
-    go : Dec (upper ≡ 0) → (d < max-rings) × (upper ≡ 0 → d ≡ 0)
-    go (yes z) = let h : d < 1 = rw (eq-eqb upper 0 z) at l in (omega arith, λ e. omega arith)
-    go (no z) = (rw (ne-eqb upper 0 z) at l, λ e. absurd (z e))
-
-pub rings-some : (upper : ℕ) → 0 < ringCount upper
-rings-some upper = go (eqb upper 0)
-  where
-    go : (b : Bool) → 0 < cond b 1 max-rings
-    go true = omega arith
-    go false = omega arith
+    go : (b : Bool) → d < cond b 1 max-rings → d < max-rings
+    go true l = omega arith
+    go false l = l
 
 module _ (n K : ℕ) (a b : ℕ → ℕ) (h upper : ℕ) (f : ℕ → ℕ) (pos : 0 < h) where
   pub chosen-start : Chosen n K a b h upper f 0 0

@@ -2,7 +2,7 @@
 use mathlib.Core.Path.{_≡_, sym, ap, ap₂, _∙_, subst}
 use mathlib.Core.List.{List}
 use Prim.Native.Nat.{ℕ, _+_, _-_, _*_, _/_, _%_, _≤_, _<_}
-use native.Mathlib.Nat.{mod-add-div'}
+use native.Mathlib.Nat.{mod-lt, mod-add-div'}
 use native.Mathlib.Omega.{arith}
 use lib.ListN.{length, take}
 use Rattle.numbers.specs.Lists.{at}
@@ -12,9 +12,9 @@ use Rattle.rules.specs.Line.{meet}
 use Rattle.rules.specs.Loads.{hyperperiod, start, end, share}
 use Rattle.rules.specs.Interval.{Greatest, SlotWords}
 use Rattle.lags.specs.Lags.{Steady}
-use Rattle.lags.proofs.Intervals.{hyperperiod-positive, end-far, end-le}
-use Rattle.loads.specs.Loads.{last, digit, none, share-most, Spans, Qualified}
-use Rattle.loads.specs.State.{Laid}
+use Rattle.lags.proofs.Intervals.{hyperperiod-positive, end-le}
+use Rattle.loads.specs.Loads.{last, digit, none, share-most, Spans, Parts, Qualified}
+use Rattle.loads.specs.State.{Ends}
 use Rattle.loads.specs.declared.Size.{Size}
 use Rattle.loads.proofs.Choice.{greatest-shift}
 use Rattle.fold.specs.Folded.{lowSets}
@@ -26,7 +26,7 @@ use Rattle.places.specs.declared.Places.{Places}
 use Rattle.interval.specs.Interval.{Given}
 use Rattle.interval.specs.Ready.{Ready, Due, Advanced}
 use Rattle.interval.proofs.Choice.{share-small, had-le, whole-small, moved-of}
-use Rattle.interval.proofs.RowSets.{low-some, ring-few, ranged-low, ranged-high, ranged-ends, ranged-spans, ranged-listed}
+use Rattle.interval.proofs.RowSets.{low-some, ring-few, ranged-low, ranged-high, ranged-ends, ranged-spans}
 use Rattle.interval.proofs.Ready.{line-narrow, ready-ends, ready-words, ready-share}
 
 module _ {t : Table} {size : Size} {top upper : ℕ} {first second rate words : List ℕ} {L : Places}
@@ -58,23 +58,20 @@ module _ {t : Table} {size : Size} {top upper : ℕ} {first second rate words : 
   heads-laid : (i : ℕ) → i < t .rows → 0 < at (L .head) i
   heads-laid i l = omega (arith, R .laid .ranged .highest .row i l)
 
-  network-laid : Laid (t .rows) (size .sets) (L .tail) (L .head) (L .out) (L .into) words
+  network-laid : Ends (t .rows) (size .sets) (L .tail) (L .head) (L .out) (L .into)
   network-laid = record {
-    ends = record {
-      spans = spans-laid;
-      heads = heads-laid;
-      wired = record {
-        few-rows = spans-laid .few-rows;
-        few-places = omega (arith, spans-laid .few-sets);
-        ends = λ i l. let r = spans-laid .row i l in (omega (arith, r), omega (arith, r, heads-laid i l));
-        starting = λ v i l. R .laid .starting v i (omega (arith, spans-laid .few-sets));
-        ending = λ v i l. R .laid .ending v i (omega (arith, spans-laid .few-sets));
-      };
+    spans = spans-laid;
+    heads = heads-laid;
+    wired = record {
+      few-rows = spans-laid .few-rows;
+      few-places = omega (arith, spans-laid .few-sets);
+      ends = λ i l. let r = spans-laid .row i l in (omega (arith, r), omega (arith, r, heads-laid i l));
+      starting = λ v i l. R .laid .starting v i (omega (arith, spans-laid .few-sets));
+      ending = λ v i l. R .laid .ending v i (omega (arith, spans-laid .few-sets));
     };
-    listed = ranged-listed (R .admissible) (R .list) (R .firsts) (R .folded) (R .laid .ranged);
   }
 
-  pub all-laid : Laid (size .rows) (size .sets) (L .tail) (L .head) (L .out) (L .into) words
+  pub all-laid : Ends (size .rows) (size .sets) (L .tail) (L .head) (L .out) (L .into)
   all-laid = rw (R .row-count) network-laid
 
   pub rows-chained : ChainedRows (size .rows) (at first) (at second) top (L .heads) (L .next)
@@ -86,9 +83,6 @@ module _ {t : Table} {size : Size} {top upper : ℕ} {first second rate words : 
   }
 
   module _ {k b e : ℕ} {totals : List ℕ} (D : Due t k b e totals) where
-    pub ends-after : b ≤ e
-    ends-after = omega (arith, end-far (R .admissible .sound) k (D .in-range))
-
     pub interval-short : e - b ≤ max-slots
     interval-short = omega (arith, D .ends, end-le (R .admissible .sound) k (D .in-range), R .admissible .short)
 
@@ -107,44 +101,46 @@ module _ {t : Table} {size : Size} {top upper : ℕ} {first second rate words : 
 
     -- ---- the loads, from the shares' whole slots and the parts above them
 
-    module _ (whole : List ℕ) (wholes : (i : ℕ) → i < size .rows → at whole i ≡ at rate i * e / size .hyper) where
+    module _ (whole part : List ℕ) (shares : (i : ℕ) → i < size .rows → (at whole i ≡ at rate i * e / size .hyper)
+        × (at part i ≡ at rate i * e % size .hyper)) where
+      pub are-parts : Parts (size .rows) (size .hyper) (at part)
+      are-parts = record {
+        some = hyper-some;
+        fits = hyper-short;
+        row = λ i l. omega (arith, shares i l .1, mod-lt (at rate i * e) hyper-some);
+      }
+
       pub whole-fit : (i : ℕ) → i < size .rows → (at totals i ≤ at whole i) × (at whole i ≤ max-slots)
       whole-fit i l =
           let m : i < t .rows = omega (arith, R .row-count) in
-          let w : at whole i ≡ at rate i * e / hyperperiod t = rw (R .hyper-is) at (wholes i l) in (
+          let w : at whole i ≡ at rate i * e / hyperperiod t = rw (R .hyper-is) at (shares i l .0) in (
             omega (arith, w, had-le (R .admissible) (D .in-range) steady (λ i. at rate i * e) row-share i m),
             omega (arith, w, whole-small (R .admissible) (D .in-range) steady (λ i. at rate i * e) row-share i m),
           )
 
       module _ (rounded : ℕ) (x now : ℕ → ℕ)
           (C : Greatest (size .rows)
-          (OnEach (size .rows) (size .sets) (at (L .tail)) (last (L .head)) (size .hyper) upper (λ i. at rate i * e % size .hyper))
+          (OnEach (size .rows) (size .sets) (at (L .tail)) (last (L .head)) (size .hyper) upper (at part))
           (digit rounded))
           (B : Given (size .rows) rounded (at whole) (at totals) x now) where
-        -- the parts of the shares above whole slots
-        abbrev part : ℕ → ℕ
-        part i = at rate i * e % size .hyper
-
         -- on the line that is not folded
-        unfolded : Greatest (t .rows) (Qualified (t .rows) (length sets) from to (size .hyper) part none) (digit rounded)
+        unfolded : Greatest (t .rows) (Qualified (t .rows) (length sets) from to (size .hyper) (at part) none) (digit rounded)
         unfolded =
             unfolded-greatest (t .rows) (length sets) (size .sets) (lowSets upper sets) (at (L .tail)) (last (L .head)) (size .hyper) upper
             hyper-some (low-some (R .admissible) (R .list) (R .firsts) (R .folded))
             (ring-few (R .admissible) (R .list) (R .firsts) (R .folded))
             (ranged-ends (R .admissible) (R .list) (R .firsts) (R .folded) (R .laid .ranged))
-            part (digit rounded) (rw (R .row-count) at C)
+            (at part) (digit rounded) (rw (R .row-count) at C)
 
         chosen : Greatest (t .rows) (Qualified (t .rows) (length sets) from to (hyperperiod t) (λ i. at rate i * e) (at totals)) x
         chosen =
             subst (λ (h : ℕ). Greatest (t .rows) (Qualified (t .rows) (length sets) from to h (λ i. at rate i * e) (at totals)) x)
             (R .hyper-is)
-            (greatest-shift (t .rows) (length sets) from to (size .hyper) (λ i. at rate i * e) (at totals) part (at whole) x
+            (greatest-shift (t .rows) (length sets) from to (size .hyper) (λ i. at rate i * e) (at totals) (at part) (at whole) x
             (digit rounded) hyper-some
-            (λ i l. omega (
-              arith,
-              mod-add-div' (at rate i * e) (size .hyper),
-              ap (λ (w : ℕ). w * size .hyper) (wholes i (omega (arith, R .row-count))),
-            ))
+            (λ i l.
+            let r = shares i (omega (arith, R .row-count)) in
+            omega (arith, mod-add-div' (at rate i * e) (size .hyper), ap (λ (w : ℕ). w * size .hyper) (r .0), r .1))
             (λ i l. B .loads i (omega (arith, R .row-count))) unfolded)
 
         -- ---- the slots and the totals

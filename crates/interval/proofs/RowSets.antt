@@ -1,7 +1,7 @@
 -- Rows and the listed overlap sets of an admitted table: a row is in exactly the sets from its lowest to its highest.
 use mathlib.Core.Path.{_≡_, refl, sym, ap, _∙_}
 use mathlib.Core.List.{List}
-use mathlib.Core.Bool.{Bool, not, _&&_}
+use mathlib.Core.Bool.{Bool, not}
 use Prim.Native.Nat.{ℕ, zero, suc, _+_, _*_, _≤_, _<_}
 use native.Mathlib.Decide.{decLt}
 use native.Mathlib.Omega.{arith}
@@ -12,7 +12,7 @@ use borrow.Author.Tests.{le-leb, leb-true, lt-ltb, le-ltb}
 use Rattle.numbers.specs.Finite.{lowest, highest}
 use Rattle.numbers.specs.Word.{bit}
 use Rattle.numbers.specs.Lists.{at}
-use Rattle.numbers.proofs.Truth.{both, fst, snd, same, is-true, is-false, of-true, of-false, along}
+use Rattle.numbers.proofs.Truth.{both, fst, snd, same, is-true, of-true, of-false, along}
 use Rattle.numbers.proofs.Finite.{lowest-is, lowest-has, lowest-under, lowest-le, highest-is, highest-lt, highest-has, highest-above}
 use Rattle.numbers.proofs.Word.{bit-zero, bit-word}
 use Rattle.rules.specs.Bounds.{max-rings}
@@ -27,11 +27,10 @@ use Rattle.sets.proofs.List.{listed, consecutive}
 use Rattle.sets.proofs.Transfer.{list-agree}
 use Rattle.lags.specs.Lags.{Admissible}
 use Rattle.loads.specs.Loads.{covers, inSet, last, digit, Spans}
-use Rattle.loads.proofs.Line.{covers-after}
 use Rattle.loads.proofs.Settling.{digit-on, digit-off}
 use Rattle.fold.specs.declared.Folded.{Folded}
 use Rattle.fold.specs.Folded.{upperRows, lowSets, FoldedSets}
-use Rattle.fold.proofs.Unfolding.{ringSets, covers-shift}
+use Rattle.fold.proofs.Unfolding.{ringSets}
 use Rattle.promises.proofs.Words.{overlap-agrees}
 use Rattle.places.specs.Ranges.{lowestSet, highestSet, Ranged}
 use Rattle.interval.proofs.Rings.{in-ring, few-folded}
@@ -210,23 +209,3 @@ module _ {t : Table} {K : ℕ} {was first : List ℕ} {F : Folded} {vs : List �
         omega (arith, ranged-ends i l, ring-few (digit (F .upper) i)),
       );
     }
-
-    -- a word of the folded line has the rows that its place says
-    pub ranged-listed : (k i : ℕ) → k < F .sets → bit (at vs k) i ≡ (ltb i (t .rows) && inSet (at tail) (last head) k i)
-    ranged-listed k i g = G .word k i g ∙ go (decLt i (t .rows)) (decLt m (length ws))
-      where
-        m : ℕ
-        m = digit (F .upper) i * low + k
-
-        go : Dec (i < t .rows) → Dec (m < length ws) → bit (at ws m) i ≡ (ltb i (t .rows) && inSet (at tail) (last head) k i)
-        go (yes l) (yes h) =
-            set-rows A S from to ranged-low ranged-high i m l h
-            ∙ covers-shift (digit (F .upper) i * low) (at tail i) (last head i) k
-            ∙ sym (ap (λ (b : Bool). b && inSet (at tail) (last head) k i) (lt-ltb i (t .rows) l))
-        go (yes l) (no h) =
-            is-false (bit (at ws m) i) (λ u. h (listed-at m i u))
-            ∙ sym (ap (λ (b : Bool). b && inSet (at tail) (last head) k i) (lt-ltb i (t .rows) l)
-            ∙ covers-after (at tail i) (last head i) k (omega (arith, row-span A S from to ranged-low ranged-high i l)))
-        go (no l) h =
-            is-false (bit (at ws m) i) (λ u. l (S .each m (listed-at m i u) .rows i u))
-            ∙ sym (ap (λ (b : Bool). b && inSet (at tail) (last head) k i) (le-ltb i (t .rows) (omega arith)))

@@ -1,50 +1,73 @@
-// One planning interval of an admitted table: from totals that keep step at its first slot to its loads, its words and the totals after it
-// (document 01, "Loads of one interval, and its slots").
-use chains::Chains;
+// One planning interval of an admitted table, in pieces: from totals that keep step at its first slot to its loads and the totals after it
+// (document 01, "Loads of one interval, and its slots"). Who plans intervals calls them in turn, and then fills the slots; that they make
+// an interval is a law (proofs/Course, `advanced-of`).
 use flow::PLACES;
 use loads::Size;
 use table::Table;
 ghost use mathlib.Core.Path.{_≡_};
-ghost use Prim.Native.Nat.{ℕ, _-_, _*_, _/_, _%_, _≤_, _<_};
+ghost use mathlib.Core.Bool.{_&&_};
+ghost use Prim.Native.Nat.{ℕ, _*_, _/_, _%_, _≤_, _<_};
+ghost use lib.Dec.{eqb};
 ghost use lib.ListN.{length};
-ghost use Rattle.numbers.specs.Finite.{only};
 ghost use Rattle.numbers.specs.Lists.{at};
-ghost use Rattle.rules.specs.Bounds.{max-rows, max-slots};
-ghost use Rattle.rules.specs.Bus as bus;
+ghost use Rattle.numbers.specs.Word.{bit};
+ghost use Rattle.rules.specs.Bounds.{max-rows, max-rings, max-slots};
 ghost use Rattle.rules.specs.Interval.{Greatest};
-ghost use Rattle.loads.specs.Loads.{share-most, digit, last};
-ghost use Rattle.loads.specs.State.{Laid};
-ghost use Rattle.fold.specs.Rings.{onRing, OnEach, ringCount};
-ghost use Rattle.chains.specs.Chained.{ChainedRows};
-ghost use Rattle.placing.specs.Filled.{FilledSlots};
-ghost use Rattle.places.specs.PlacesOf.{places};
-ghost use Rattle.interval.specs.Interval.{Given};
-ghost use Rattle.interval.specs.Ready.{Ready, Due, Advanced};
+ghost use Rattle.loads.specs.Loads.{share-most, digit, last, Parts};
+ghost use Rattle.loads.specs.State.{Ends};
+ghost use Rattle.choice.specs.Taken.{Uneven};
+ghost use Rattle.fold.specs.Rings.{OnEach, ringCount};
+ghost use Rattle.interval.specs.Interval.{Inverse, Given};
 
 // ---- shares
 
-// Each row's share of so many slots: its whole slots, and the part above them.
-fn part_shares(
+// What shares are multiplied by to be divided by h: 2^36 / h, rounded up. A plan has a share for each row and interval, and a product takes
+// a fraction of a quotient's time.
+pub fn inverse_of(h: u64) -> u64
+    requires { ⌜ (0 < h) × (h ≤ max-slots) ⌝ }
+    ensures { λ r. ⌜ Inverse h r ⌝ }
+{
+    ((1u64 << 36) + (h - 1)) / h
+}
+
+// The whole slots of a share.
+fn whole_of(share: u64, inverse: u64) -> u64
+    requires { ⌜ ((h : ℕ) × (0 < h) × (h ≤ max-slots) × Inverse h inverse) × (share ≤ share-most) ⌝ }
+    ensures { λ r. ⌜ ((h : ℕ) → 0 < h → h ≤ max-slots → Inverse h inverse → r ≡ share / h) ⌝ }
+{
+    (share * inverse) >> 36
+}
+
+// Each row's share of so many slots: its whole slots, and the part above them. Gives the rows that have such a part.
+pub fn part_shares(
     rate: &[u16; Table::ROWS],
     slots: u64,
     size: Size,
+    inverse: u64,
     whole: &mut [u64; Table::ROWS],
     part: &mut [u32; Table::ROWS],
-)
-    requires { ⌜ (size .rows ≤ max-rows) × (0 < size .hyper) × ((i : ℕ) → i < size .rows → at (now rate) i * slots ≤ share-most)
+) -> u64
+    requires { ⌜ (size .rows ≤ max-rows) × (0 < size .hyper) × (size .hyper ≤ max-slots) × Inverse (size .hyper) inverse
+        × ((i : ℕ) → i < size .rows → at (now rate) i * slots ≤ share-most)
         × (length (now whole) ≡ max-rows) × (length (now part) ≡ max-rows) ⌝ }
     ensures { λ r. ⌜ (length (now (whole .exit)) ≡ max-rows) × (length (now (part .exit)) ≡ max-rows)
         × ((i : ℕ) → i < size .rows → (at (now (whole .exit)) i ≡ at (now (rate .entry)) i * slots / size .hyper)
-        × (at (now (part .exit)) i ≡ at (now (rate .entry)) i * slots % size .hyper)) ⌝ }
+        × (at (now (part .exit)) i ≡ at (now (rate .entry)) i * slots % size .hyper))
+        × Uneven (size .rows) (at (now (part .exit))) r ⌝ }
 {
     let h = size.hyper;
+    let mut parted: u64 = 0;
     let mut i: usize = 0;
     while i < size.rows {
         let share = table::slots_at(rate, i) * slots;
-        whole[i] = share / h;
-        part[i] = (share % h) as u32;
+        let w = whole_of(share, inverse);
+        let rest = share - w * h;
+        whole[i] = w;
+        part[i] = rest as u32;
+        parted = loads::mark(parted, i, 0 < rest);
         i += 1;
     }
+    parted
 }
 
 // ---- the rings
@@ -59,64 +82,41 @@ fn ring_count(upper: u64) -> u64
     Table::RINGS as u64
 }
 
-// v where `on` says so, else 0.
-fn part_if(on: bool, v: u32) -> u32
-    ensures { λ r. ⌜ r ≡ only on v ⌝ }
+// Those of the rows that are on ring d.
+fn on_ring(d: u64, upper: u64, rows: u64) -> u64
+    requires { ⌜ d < max-rings ⌝ }
+    ensures { λ r. ⌜ ((i : ℕ) → bit r i ≡ (bit rows i && eqb (digit upper i) d)) ⌝ }
 {
-    if on {
-        return v;
+    let high = rows & upper;
+    if d == 0 {
+        return rows ^ high;
     }
-    0
+    high
 }
 
-// Keeps the parts of ring d's rows and makes the others 0. With one ring there are no others.
-fn keep_ring(d: u64, upper: u64, rows: usize, part: &mut [u32; Table::ROWS])
-    requires { ⌜ (rows ≤ max-rows) × (length (now part) ≡ max-rows) × (upper ≡ 0 → d ≡ 0) ⌝ }
-    ensures { λ _. ⌜ (length (now (part .exit)) ≡ max-rows)
-        × ((i : ℕ) → i < rows → at (now (part .exit)) i ≡ onRing d upper (at (now (part .entry))) i) ⌝ }
-{
-    if upper == 0 {
-        return;
-    }
-    let mut i: usize = 0;
-    while i < rows {
-        part[i] = part_if((upper >> i) % 2 == d, part[i]);
-        i += 1;
-    }
-}
-
-// Each row's share of so many slots: its whole slots, and the rows that are rounded up, on each ring by itself; `upper` are the rows of the
-// second. Shares are parted anew for each ring, so that a plain table's are parted once and kept as they are. `choose` is called in this
-// one place and so compiled into it.
-fn round_rows(
-    slots: u64,
+// The rows that are rounded up, on each ring by itself: `parted` are those with a part above whole slots, `upper` those of the second
+// ring. `choose` is called in this one place and so compiled into it.
+pub fn round_rows<'a>(
     upper: u64,
-    rate: &[u16; Table::ROWS],
-    tail: &[u8; Table::ROWS],
-    head: &[u8; Table::ROWS],
-    out: &[u64; PLACES],
-    into: &[u64; PLACES],
-    words: &[u64; Table::ROWS],
+    tail: &'a [u8; Table::ROWS],
+    head: &'a [u8; Table::ROWS],
+    out: &'a [u64; PLACES],
+    into: &'a [u64; PLACES],
     size: Size,
-    whole: &mut [u64; Table::ROWS],
-    part: &mut [u32; Table::ROWS],
+    part: &'a [u32; Table::ROWS],
+    parted: u64,
 ) -> u64
-    requires { ⌜ Laid (size .rows) (size .sets) (now tail) (now head) (now out) (now into) (now words)
-        × (size .rows ≤ max-rows) × (0 < size .hyper) × (size .hyper ≤ max-slots)
-        × ((i : ℕ) → i < size .rows → at (now rate) i * slots ≤ share-most)
-        × (length (now whole) ≡ max-rows) × (length (now part) ≡ max-rows) ⌝ }
-    ensures { λ r. ⌜ (length (now (whole .exit)) ≡ max-rows) × (length (now (part .exit)) ≡ max-rows)
-        × ((i : ℕ) → i < size .rows → at (now (whole .exit)) i ≡ at (now (rate .entry)) i * slots / size .hyper)
-        × Greatest (size .rows) (OnEach (size .rows) (size .sets) (at (now (tail .entry))) (last (now (head .entry)))
-        (size .hyper) upper (λ i. at (now (rate .entry)) i * slots % size .hyper)) (digit r) ⌝ }
+    requires { ⌜ Ends (size .rows) (size .sets) (now tail) (now head) (now out) (now into)
+        × Parts (size .rows) (size .hyper) (at (now part)) × Uneven (size .rows) (at (now part)) parted ⌝ }
+    ensures { λ r. ⌜ Greatest (size .rows) (OnEach (size .rows) (size .sets) (at (now (tail .entry))) (last (now (head .entry)))
+        (size .hyper) upper (at (now (part .entry)))) (digit r) ⌝ }
 {
     let rings = ring_count(upper);
     let mut rounded: u64 = 0;
     let mut d: u64 = 0;
     while d < rings {
-        part_shares(rate, slots, size, whole, part);
-        keep_ring(d, upper, size.rows, part);
-        rounded = rounded | choice::choose(tail, head, out, into, words, size, part);
+        let rows = on_ring(d, upper, parted);
+        rounded = rounded | choice::choose(tail, head, out, into, size, part, rows);
         d += 1;
     }
     rounded
@@ -126,7 +126,7 @@ fn round_rows(
 
 // Gives each row its whole slots, and one more to those in the word `top`: `load` holds the whole slots, and then what a row gets beside
 // those it has had.
-fn give(top: u64, rows: usize, load: &mut [u64; Table::ROWS], totals: &mut [u64; Table::ROWS])
+pub fn give(top: u64, rows: usize, load: &mut [u64; Table::ROWS], totals: &mut [u64; Table::ROWS])
     requires { ⌜ (rows ≤ max-rows) × ((i : ℕ) → i < rows → (at (now totals) i ≤ at (now load) i) × (at (now load) i ≤ max-slots))
         × (length (now load) ≡ max-rows) × (length (now totals) ≡ max-rows) ⌝ }
     ensures { λ r. ⌜ (length (now (load .exit)) ≡ max-rows) × (length (now (totals .exit)) ≡ max-rows)
@@ -139,97 +139,4 @@ fn give(top: u64, rows: usize, load: &mut [u64; Table::ROWS], totals: &mut [u64;
         totals[i] = all;
         i += 1;
     }
-}
-
-// ---- the interval
-
-// Writes the words of the interval's slots, by stretches or plainly (#114): they are the same.
-fn place_rows<'a>(
-    plain: bool,
-    rows: usize,
-    first: &'a [u8; Table::ROWS],
-    second: &'a [u8; Table::ROWS],
-    heads: &'a [u8; Chains::HEADS],
-    next: &'a [u8; Table::ROWS],
-    load: &'a [u64; Table::ROWS],
-    top: usize,
-    slots: usize,
-    plan: &mut [u64],
-)
-    requires { ⌜ ChainedRows rows (at (now first)) (at (now second)) top (now heads) (now next)
-        × (slots ≤ max-slots) × (slots ≤ length (now plan)) ⌝ }
-    ensures { λ _. ⌜ FilledSlots rows (at (now (first .entry))) (at (now (second .entry))) (at (now (load .entry))) slots
-        (now (plan .entry)) (now (plan .exit)) ⌝ }
-{
-    if plain {
-        plain_slots::fill_plain(rows, first, second, heads, next, load, top, slots, plan);
-    } else {
-        slots::fill(second, heads, next, load, top, slots, plan);
-    }
-}
-
-// Does one interval of a table, which runs from slot `start` up to slot `end`: writes its words to the front of `plan`, plainly or not, and
-// takes the totals on. From `upper` to `next` all is laid once for the table, on the folded line; `load` and `part` are room to work in,
-// whatever it holds.
-pub fn advance<'a>(
-    plain: bool,
-    start: usize,
-    end: usize,
-    size: Size,
-    top: usize,
-    first: &'a [u8; Table::ROWS],
-    second: &'a [u8; Table::ROWS],
-    rate: &'a [u16; Table::ROWS],
-    upper: u64,
-    words: &'a [u64; Table::ROWS],
-    tail: &'a [u8; Table::ROWS],
-    head: &'a [u8; Table::ROWS],
-    out: &'a [u64; PLACES],
-    into: &'a [u64; PLACES],
-    heads: &'a [u8; Chains::HEADS],
-    next: &'a [u8; Table::ROWS],
-    load: &mut [u64; Table::ROWS],
-    part: &mut [u32; Table::ROWS],
-    totals: &mut [u64; Table::ROWS],
-    plan: &mut [u64],
-)
-    requires { ⌜ ((t : bus.Table) × (k : ℕ)
-        × Ready t size top (now first) (now second) (now rate) upper (now words)
-        (places (now tail) (now head) (now out) (now into) (now heads) (now next))
-        × Due t k start end (now totals))
-        × (length (now load) ≡ max-rows) × (length (now part) ≡ max-rows)
-        × (length (now totals) ≡ max-rows) × (end - start ≤ length (now plan)) ⌝ }
-    ensures { λ r. ⌜ (length (now (load .exit)) ≡ max-rows) × (length (now (part .exit)) ≡ max-rows)
-        × ((t : bus.Table) (k : ℕ)
-        → Ready t size top (now (first .entry)) (now (second .entry)) (now (rate .entry)) upper (now (words .entry))
-        (places (now (tail .entry)) (now (head .entry)) (now (out .entry)) (now (into .entry)) (now (heads .entry)) (now (next .entry)))
-        → Due t k start end (now (totals .entry))
-        → Advanced t k (now (totals .entry)) (now (totals .exit)) (now (plan .entry)) (now (plan .exit))) ⌝ }
-{
-    let rounded = round_rows(
-        end as u64,
-        upper,
-        rate,
-        tail,
-        head,
-        out,
-        into,
-        words,
-        size,
-        load,
-        part,
-    );
-    give(rounded, size.rows, load, totals);
-    place_rows(
-        plain,
-        size.rows,
-        first,
-        second,
-        heads,
-        next,
-        load,
-        top,
-        end - start,
-        plan,
-    );
 }

@@ -19,22 +19,23 @@ use Rattle.flow.specs.Raised.{Raised, Settled}
 use Rattle.flow.proofs.Raising.{settle-next}
 use Rattle.loads.specs.Loads.{inSet, last, digit, part-most}
 use Rattle.loads.specs.Line.{carried, line}
-use Rattle.loads.specs.State.{Compared, Ends, Asked, State, Mended}
+use Rattle.loads.specs.State.{Compared, over, Ends, Asked, State, Mended}
 use Rattle.loads.specs.declared.Sides.{Sides}
 use Rattle.loads.proofs.Choice.{both}
 use Rattle.loads.proofs.Settling.{carried-set, row-low, not-low}
 use Rattle.loads.proofs.Comparing.{ones-sum, compared-eq}
+use Rattle.loads.proofs.Over.{over-set}
 use Rattle.loads.proofs.Turning.{low-no}
 
 -- a row ends at the place after its last set
 pub heads-are : {n K : ℕ} {tail head out into : List ℕ} → Ends n K tail head out into → (i : ℕ) → i < n → at head i ≡ suc (last head i)
 heads-are E i l = let z = E .heads i l in omega arith
 
-module _ {n K h : ℕ} {tail head out into words sums : List ℕ} {f : ℕ → ℕ} (A : Asked n K h tail head out into words sums f) where
+module _ {n K h : ℕ} {tail head out into sums : List ℕ} {f : ℕ → ℕ} (A : Asked n K h tail head out into sums f) where
   -- no set's sum is above this
   pub sums-most : (k : ℕ) → k < K → at sums k ≤ part-most
   sums-most k l =
-      let E = A .laid .ends .spans in
+      let E = A .ends .spans in
       omega (
         arith,
         A .summed k l,
@@ -42,13 +43,14 @@ module _ {n K h : ℕ} {tail head out into words sums : List ℕ} {f : ℕ → �
         E .few-rows,
       )
 
-  counted : (top k : ℕ) → k < K → ones (bitAnd top (at words k)) ≡ sumIn n (inSet (at tail) (last head) k) (digit top)
-  counted top k l = ones-sum n top (at words k) (inSet (at tail) (last head) k) (λ i. A .laid .listed k i l)
+  counted : (top k : ℕ) → k < K → ones (bitAnd top (over (at out) (at into) (suc k))) ≡ sumIn n (inSet (at tail) (last head) k) (digit top)
+  counted top k l =
+      ones-sum n top (over (at out) (at into) (suc k)) (inSet (at tail) (last head) k) (λ i. over-set (A .ends) k i l)
 
   pub state-of : (s : Sides) (parted top : ℕ) → ((i : ℕ) → i < n → bit parted i ≡ ltb 0 (f i))
       → ((e : ℕ) → e < n + K → carried n (at tail) (last head) (digit top) e ≤ line n K (at tail) (last head) h f .high e)
       → s .parted ≡ parted → s .top ≡ top
-      → Compared K h (λ k. ones (bitAnd top (at words k))) (at sums) (s .more) (s .less) (s .low) → State n K h tail head f s
+      → Compared K h (λ k. ones (bitAnd top (over (at out) (at into) (suc k)))) (at sums) (s .more) (s .less) (s .low) → State n K h tail head f s
   state-of s parted top p u e d c = record {
     parted-is = rw e p;
     upper = rw d u;
@@ -58,9 +60,9 @@ module _ {n K h : ℕ} {tail head out into words sums : List ℕ} {f : ℕ → �
   -- what is needed still, by the network and by the arrays
   pub need-is : (top : ℕ) → sum K (λ k. line n K (at tail) (last head) h f .low (n + k) - carried n (at tail) (last head) (digit top)
       (n + k))
-      ≡ sum K (λ k. at sums k / h - ones (bitAnd top (at words k)))
+      ≡ sum K (λ k. at sums k / h - ones (bitAnd top (over (at out) (at into) (suc k))))
   need-is top =
-      let S = A .laid .ends .spans in
+      let S = A .ends .spans in
       sum-eq K _ _ (λ k l.
       ap₂ (λ (x y : ℕ). x / h - y) (carried-set n K (at tail) (last head) h f S (A .parts) f k ∙ sym (A .summed k l))
       (carried-set n K (at tail) (last head) h f S (A .parts) (digit top) k ∙ sym (counted top k l)))
@@ -70,7 +72,7 @@ module _ {n K h : ℕ} {tail head out into words sums : List ℕ} {f : ℕ → �
   mended-of s St z = record {
     state = St;
     within =
-        let S = A .laid .ends .spans in
+        let S = A .ends .spans in
         both (λ e. (line n K (at tail) (last head) h f .low e ≤ carried n (at tail) (last head) (digit (s .top)) e)
         × (carried n (at tail) (last head) (digit (s .top)) e ≤ line n K (at tail) (last head) h f .high e)) n K
         (λ i l. (omega (arith, row-low n K (at tail) (last head) h f S (A .parts) i l), St .upper i (omega arith)))
@@ -112,7 +114,7 @@ after-step n i later p a j l = a j l ∙ ap (λ (b : Bool). b && p j) (go (decLt
 
 -- ---- one row raised
 
-module _ {n K h : ℕ} {tail head out into words sums : List ℕ} {f : ℕ → ℕ} (A : Asked n K h tail head out into words sums f) (s : Sides)
+module _ {n K h : ℕ} {tail head out into sums : List ℕ} {f : ℕ → ℕ} (A : Asked n K h tail head out into sums f) (s : Sides)
     (w i : ℕ)
     (St : State n K h tail head f s)
     (Se : Settled i (line n K (at tail) (last head) h f) (carried n (at tail) (last head) (digit (s .top))))
@@ -120,7 +122,7 @@ module _ {n K h : ℕ} {tail head out into words sums : List ℕ} {f : ℕ → �
     (carried n (at tail) (last head) (digit (bitXor (s .top) w)))) where
   -- by a way
   pub raised-next : (s' : Sides) → s' .parted ≡ s .parted → s' .top ≡ bitXor (s .top) w
-      → Compared K h (λ k. ones (bitAnd (bitXor (s .top) w) (at words k))) (at sums) (s' .more) (s' .less) (s' .low)
+      → Compared K h (λ k. ones (bitAnd (bitXor (s .top) w) (over (at out) (at into) (suc k)))) (at sums) (s' .more) (s' .less) (s' .low)
       → State n K h tail head f s' × Settled (i + 1) (line n K (at tail) (last head) h f)
       (carried n (at tail) (last head) (digit (s' .top)))
   raised-next s' e d c = (

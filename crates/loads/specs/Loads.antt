@@ -4,6 +4,7 @@
 --   inSet a b k             the rows of set k
 --   last head i             the last set of a row that ends at place head i, which is after it
 --   digit w i               1 where row i is in the word w, else 0
+--   among w f               f of the rows in the word w, 0 of the others
 --   none                    no slots were had
 --   share-most, part-most   no row's share, and no set's sum of parts, is above these, in units of 1 / h
 --   Spans n K a b           n rows and K sets, few enough, and every row's sets are among them
@@ -32,6 +33,9 @@ last head i = at head i - 1
 
 abbrev pub digit : ℕ → ℕ → ℕ
 digit w i = only (bit w i) 1
+
+abbrev pub among : ℕ → (ℕ → ℕ) → ℕ → ℕ
+among w f i = only (bit w i) (f i)
 
 abbrev pub none : ℕ → ℕ
 none i = 0

@@ -2,16 +2,17 @@
 --
 --   Compared K h C F more less low   of K sets, with C rows rounded up and parts that sum to F: those that can take one more (by the
 --                                    place after them), those that can do with one less, and those that are too low, as words
+--   over out into k                  the rows that start before place k and don't end before it: at place k + 1 those of set k
 --   Ends n K tail head out into      the rows' ends, and the rows that start and end at each place
---   Laid n K tail head out into ws   beside these the sets' rows, as words
---   Asked                            all that is given: what is laid, the parts f, and the sets' sums of them
+--   Asked                            all that is given: the rows' ends, the parts f, and the sets' sums of them
 --   State n K h tail head f s        no row and no set is above its part rounded up, and s says how they stand
 --   Mended                           no row and no set is below its part rounded down either
 --   Turn                             row i is the next to be raised, by the rows after it
 use mathlib.Core.Path.{_≡_}
 use mathlib.Core.Bool.{false, _&&_}
 use mathlib.Core.List.{List}
-use Prim.Native.Nat.{ℕ, suc, _+_, _*_, _≤_, _<_}
+use Prim.Native.Nat.{ℕ, zero, suc, _+_, _*_, _≤_, _<_}
+use lib.Bits.{bitXor}
 use lib.Dec.{ltb, leb}
 use Rattle.numbers.specs.Finite.{sumIn}
 use Rattle.numbers.specs.Lists.{at}
@@ -28,17 +29,17 @@ pub record Compared (K h : ℕ) (C F : ℕ → ℕ) (more less low : ℕ) : Type
   pub less-is : (k : ℕ) → bit less k ≡ (ltb k K && ltb (F k) (h * C k))
   pub low-is : (k : ℕ) → bit low k ≡ (ltb k K && leb (h * C k + h) (F k))
 
+unfoldable pub over : (out into : ℕ → ℕ) → ℕ → ℕ
+over out into zero = 0
+over out into (suc k) = bitXor (bitXor (over out into k) (out k)) (into k)
+
 pub record Ends (n K : ℕ) (tail head out into : List ℕ) : Type 0 where
   pub spans : Spans n K (at tail) (last head)
   pub heads : (i : ℕ) → i < n → 0 < at head i
   pub wired : Wired n K (at tail) (at head) (at out) (at into)
 
-pub record Laid (n K : ℕ) (tail head out into words : List ℕ) : Type 0 where
+pub record Asked (n K h : ℕ) (tail head out into sum : List ℕ) (f : ℕ → ℕ) : Type 0 where
   pub ends : Ends n K tail head out into
-  pub listed : (k i : ℕ) → k < K → bit (at words k) i ≡ (ltb i n && inSet (at tail) (last head) k i)
-
-pub record Asked (n K h : ℕ) (tail head out into words sum : List ℕ) (f : ℕ → ℕ) : Type 0 where
-  pub laid : Laid n K tail head out into words
   pub parts : Parts n h f
   pub summed : Summed n K (at tail) (last head) f (at sum)
 

@@ -13,7 +13,7 @@ use flow::PLACES;
 use table::Table;
 ghost use mathlib.Core.Path.{_≡_};
 ghost use mathlib.Core.Bool.{_&&_, not};
-ghost use Prim.Native.Nat.{ℕ, _+_, _^_, _<_, _≤_};
+ghost use Prim.Native.Nat.{ℕ, suc, _^_, _<_, _≤_};
 ghost use lib.Bits.{bitAnd, bitOr, bitXor};
 ghost use lib.Count.{ones};
 ghost use lib.Dec.{eqb};
@@ -25,7 +25,7 @@ ghost use Rattle.rules.specs.Interval.{Greatest};
 ghost use Rattle.flow.specs.Raised.{Raised};
 ghost use Rattle.loads.specs.Loads.{part-most, digit, last, none, Qualified};
 ghost use Rattle.loads.specs.Line.{line, carried};
-ghost use Rattle.loads.specs.State.{Compared, Asked, State, Mended, Turn};
+ghost use Rattle.loads.specs.State.{Compared, over, Asked, State, Mended, Turn};
 
 const ROWS: usize = Table::ROWS;
 
@@ -61,20 +61,29 @@ pub struct Sides {
     pub low: u64,
 }
 
-// Compares the sets' sums with the rows that are rounded up.
-pub fn compare(words: &[u64; ROWS], sum: &[u32; SETS], size: Size, parted: u64, top: u64) -> Sides
+// Compares the sets' sums with the rows that are rounded up. From set to set rows start and end: an exclusive or of both has the set's.
+pub fn compare(
+    out: &[u64; PLACES],
+    into: &[u64; PLACES],
+    sum: &[u32; SETS],
+    size: Size,
+    parted: u64,
+    top: u64,
+) -> Sides
     requires { ⌜ (size .sets ≤ max-elements) × (size .hyper ≤ max-slots) × ((k : ℕ) → k < size .sets → at (now sum) k ≤ part-most) ⌝ }
     ensures { λ r. ⌜ (r .parted ≡ parted) × (r .top ≡ top)
-        × Compared (size .sets) (size .hyper) (λ k. ones (bitAnd top (at (now (words .entry)) k))) (at (now (sum .entry)))
-        (r .more) (r .less) (r .low) ⌝ }
+        × Compared (size .sets) (size .hyper) (λ k. ones (bitAnd top (over (at (now (out .entry))) (at (now (into .entry))) (suc k))))
+        (at (now (sum .entry))) (r .more) (r .less) (r .low) ⌝ }
 {
     let h = size.hyper;
+    let mut rows: u64 = 0;
     let mut more: u64 = 0;
     let mut less: u64 = 0;
     let mut low: u64 = 0;
     let mut k: usize = 0;
     while k < size.sets {
-        let used = h * (u64::count_ones(top & words[k]) as u64);
+        rows = rows ^ out[k] ^ into[k];
+        let used = h * (u64::count_ones(top & rows) as u64);
         let all = sum[k] as u64;
         more = mark(more, k + 1, used < all);
         less = mark(less, k, all < used);
@@ -96,17 +105,16 @@ pub fn mend(
     head: &[u8; ROWS],
     out: &[u64; PLACES],
     into: &[u64; PLACES],
-    words: &[u64; ROWS],
     sum: &[u32; SETS],
     size: Size,
     start: Sides,
 ) -> Sides
     requires { ⌜ ((f : ℕ → ℕ)
-        × Asked (size .rows) (size .sets) (size .hyper) (now tail) (now head) (now out) (now into) (now words) (now sum) f
+        × Asked (size .rows) (size .sets) (size .hyper) (now tail) (now head) (now out) (now into) (now sum) f
         × State (size .rows) (size .sets) (size .hyper) (now tail) (now head) f start) ⌝ }
     ensures { λ r. ⌜ ((f : ℕ → ℕ)
         → Asked (size .rows) (size .sets) (size .hyper) (now (tail .entry)) (now (head .entry)) (now (out .entry)) (now (into .entry))
-        (now (words .entry)) (now (sum .entry)) f
+        (now (sum .entry)) f
         → State (size .rows) (size .sets) (size .hyper) (now (tail .entry)) (now (head .entry)) f start
         → Mended (size .rows) (size .sets) (size .hyper) (now (tail .entry)) (now (head .entry)) f r) ⌝ }
 {
@@ -121,7 +129,7 @@ pub fn mend(
             less: s.less,
         };
         let way = flow::find_way(tail, head, out, into, arcs, q, q + 1);
-        s = compare(words, sum, size, s.parted, s.top ^ way.rows);
+        s = compare(out, into, sum, size, s.parted, s.top ^ way.rows);
         low = s.low;
     }
     s
@@ -147,18 +155,16 @@ fn seek(
     head: &[u8; ROWS],
     out: &[u64; PLACES],
     into: &[u64; PLACES],
-    size: Size,
     s: Sides,
     later: u64,
     i: usize,
 ) -> u64
-    requires { ⌜ ((f : ℕ → ℕ) × Turn (size .rows) (size .sets) (size .hyper) (now tail) (now head) (now out) (now into) f s later i) ⌝ }
-    ensures { λ r. ⌜ ((f : ℕ → ℕ)
-        → Turn (size .rows) (size .sets) (size .hyper) (now (tail .entry)) (now (head .entry)) (now (out .entry)) (now (into .entry))
-        f s later i
-        → Raised (line (size .rows) (size .sets) (at (now (tail .entry))) (last (now (head .entry))) (size .hyper) f) i
-        (carried (size .rows) (at (now (tail .entry))) (last (now (head .entry))) (digit (s .top)))
-        (carried (size .rows) (at (now (tail .entry))) (last (now (head .entry))) (digit (bitXor (s .top) r)))) ⌝ }
+    requires { ⌜ ((n : ℕ) × (K : ℕ) × (h : ℕ) × (f : ℕ → ℕ) × Turn n K h (now tail) (now head) (now out) (now into) f s later i) ⌝ }
+    ensures { λ r. ⌜ ((n K h : ℕ) (f : ℕ → ℕ)
+        → Turn n K h (now (tail .entry)) (now (head .entry)) (now (out .entry)) (now (into .entry)) f s later i
+        → Raised (line n K (at (now (tail .entry))) (last (now (head .entry))) h f) i
+        (carried n (at (now (tail .entry))) (last (now (head .entry))) (digit (s .top)))
+        (carried n (at (now (tail .entry))) (last (now (head .entry))) (digit (bitXor (s .top) r)))) ⌝ }
 {
     if ((s.parted ^ s.top) >> i) % 2 == 0 {
         return 0;
@@ -185,17 +191,16 @@ pub fn raise_rows(
     head: &[u8; ROWS],
     out: &[u64; PLACES],
     into: &[u64; PLACES],
-    words: &[u64; ROWS],
     sum: &[u32; SETS],
     size: Size,
     start: Sides,
 ) -> u64
     requires { ⌜ ((f : ℕ → ℕ)
-        × Asked (size .rows) (size .sets) (size .hyper) (now tail) (now head) (now out) (now into) (now words) (now sum) f
+        × Asked (size .rows) (size .sets) (size .hyper) (now tail) (now head) (now out) (now into) (now sum) f
         × Mended (size .rows) (size .sets) (size .hyper) (now tail) (now head) f start) ⌝ }
     ensures { λ r. ⌜ ((f : ℕ → ℕ)
         → Asked (size .rows) (size .sets) (size .hyper) (now (tail .entry)) (now (head .entry)) (now (out .entry)) (now (into .entry))
-        (now (words .entry)) (now (sum .entry)) f
+        (now (sum .entry)) f
         → Mended (size .rows) (size .sets) (size .hyper) (now (tail .entry)) (now (head .entry)) f start
         → Greatest (size .rows)
         (Qualified (size .rows) (size .sets) (at (now (tail .entry))) (last (now (head .entry))) (size .hyper) f none) (digit r)) ⌝ }
@@ -205,9 +210,9 @@ pub fn raise_rows(
     let mut i: usize = 0;
     while i < size.rows {
         later = without(later, i);
-        let way = seek(tail, head, out, into, size, s, later, i);
+        let way = seek(tail, head, out, into, s, later, i);
         if way != 0 {
-            s = compare(words, sum, size, s.parted, s.top ^ way);
+            s = compare(out, into, sum, size, s.parted, s.top ^ way);
         }
         i += 1;
     }

@@ -1,6 +1,5 @@
 -- Places and chains of the rows, laid out once for a table's intervals.
 --
---   places ..               the places of these arrays
 --   PlacesOf n K words first P   P are the places and the chains of n rows, for K sets and the rows' first ends
 --
 -- Only one fits (proofs/Ranges `ranged-only`; a place's rows are an equation; chains' `head-only`, `next-only`).
@@ -12,10 +11,6 @@ use Rattle.flow.specs.Way.{ByPlace}
 use Rattle.chains.specs.Chained.{Chained}
 use Rattle.places.specs.Ranges.{Ranged}
 use Rattle.places.specs.declared.Places.{Places}
-
-abbrev pub places : (tail head out into heads next : List ℕ) → Places
-places tail head out into heads next =
-    record { tail = tail; head = head; out = out; into = into; heads = heads; next = next }
 
 pub record PlacesOf (n K : ℕ) (words first : List ℕ) (P : Places) : Type 0 where
   pub ranged : Ranged n K words (P .tail) (P .head)

@@ -1,7 +1,7 @@
 -- The plain walk: rows are given their slots one after another, element by element.
 --
 --   cleared-more          one more word is 0
---   Placing n f g i x l was s left now
+--   Placing f g i x l was s left now
 --                         row i goes through the slots: it has come to slot s, with `left` of its load to place
 --   placing-start, placing-skip, placing-take, placing-end
 --                         it begins; a slot is not open; it takes a slot; it is done, at the last slot or with no load left
@@ -14,17 +14,20 @@
 use mathlib.Core.Path.{_≡_, refl, sym, ap, _∙_, subst}
 use mathlib.Core.Logic.{_⊎_, ⊎-elim}
 use mathlib.Core.List.{List}
-use mathlib.Core.Bool.{Bool, true, false, _&&_, _||_, or-false}
+use mathlib.Core.Bool.{Bool, true, false, not, _&&_, _||_, or-false}
 use Prim.Native.Nat.{ℕ, _+_, _-_, _^_, _≤_, _<_}
 use native.Mathlib.Omega.{arith}
 use lib.Bits.{bitOr}
 use lib.Dec.{T, ltb, eqb, eqb→eq}
 use lib.ListN.{length, set}
 use lib.Seq.{getD-set-same, getD-set-other}
+use Rattle.numbers.specs.Finite.{any}
 use Rattle.numbers.specs.Lists.{at}
 use Rattle.numbers.specs.Word.{bit}
-use Rattle.numbers.proofs.Truth.{fst, decide, is-true, is-false, along, eqb-of}
+use Rattle.numbers.proofs.Truth.{fst, decide, same, is-true, is-false, along, eqb-of}
+use Rattle.numbers.proofs.Finite.{any-of, least}
 use Rattle.numbers.proofs.Word.{bit-zero, bit-or, bit-pow}
+use Rattle.rules.specs.Bounds.{max-rows}
 use Rattle.rules.specs.Line.{meet}
 use Rattle.rules.specs.Interval.{before, free}
 use Rattle.rules.proofs.Interval.{chosen-eq}
@@ -33,7 +36,7 @@ use Rattle.placing.specs.Filled.{Kept, FilledSlots}
 use Rattle.placing.proofs.Kept.{kept-none, kept-set}
 use Rattle.placing.proofs.Upto.{has, chosen, Upto, upto-none, upto-eq, upto-step, upto-words}
 use Rattle.placing.proofs.Scan.{within, within-is, within-of, Scan, scan-start, scan-skip, scan-take, scan-end}
-use Rattle.placing.proofs.Order.{taken, taken-ahead, taken-more, taken-skip, taken-next, taken-none, taken-all, free-among}
+use Rattle.placing.proofs.Order.{taken, taken-is, taken-ahead, taken-more, taken-skip, taken-next, taken-none, taken-all, free-among}
 use Rattle.plain_slots.specs.Plain.{isOpen, openAt, RowPlaced, Cleared}
 
 -- ---- clearing
@@ -49,35 +52,35 @@ cleared-more words s room h u m =
 
 -- ---- one row
 
-pub record Placing (n : ℕ) (f g : ℕ → ℕ) (i x l : ℕ) (was : List ℕ) (s left : ℕ) (now : List ℕ) : Type 0 where
-  pub scan : Scan l (has (at was)) (openAt n f g i was) i x s left (has (at now))
+pub record Placing (f g : ℕ → ℕ) (i x l : ℕ) (was : List ℕ) (s left : ℕ) (now : List ℕ) : Type 0 where
+  pub scan : Scan l (has (at was)) (openAt f g i was) i x s left (has (at now))
   pub later : (u : ℕ) → s ≤ u → u < l → at now u ≡ at was u
   pub kept : Kept l was now
 
-module _ {n : ℕ} {f g : ℕ → ℕ} {i x l : ℕ} {was : List ℕ} where
-  pub placing-start : Placing n f g i x l was 0 x was
+module _ {f g : ℕ → ℕ} {i x l : ℕ} {was : List ℕ} where
+  pub placing-start : Placing f g i x l was 0 x was
   placing-start = record { scan = scan-start 0 (λ u h. absurd (omega arith)); later = λ u a b. refl; kept = kept-none l was }
 
-  module _ {s left : ℕ} {now : List ℕ} (P : Placing n f g i x l was s left now) (h : s < l) where
+  module _ {s left : ℕ} {now : List ℕ} (P : Placing f g i x l was s left now) (h : s < l) where
     -- the slot that row i has come to has its old word
-    here : {b : Bool} → openAt n f g i now s ≡ b → (u : ℕ) → s ≤ u → u < s + 1 → openAt n f g i was u ≡ b
+    here : {b : Bool} → openAt f g i now s ≡ b → (u : ℕ) → s ≤ u → u < s + 1 → openAt f g i was u ≡ b
     here {b} q u a c =
         let e : u ≡ s = omega arith in
-        ap (openAt n f g i was) e
-        ∙ subst (λ (w : ℕ). isOpen n f g i w ≡ b) (P .later s (omega arith) h) q
+        ap (openAt f g i was) e
+        ∙ subst (λ (w : ℕ). isOpen f g i w ≡ b) (P .later s (omega arith) h) q
 
-    pub placing-skip : openAt n f g i now s ≡ false → Placing n f g i x l was (s + 1) left now
+    pub placing-skip : openAt f g i now s ≡ false → Placing f g i x l was (s + 1) left now
     placing-skip q = record {
       scan = scan-skip (P .scan) (omega arith) (here q);
       later = λ u a b. P .later u (omega arith) b;
       kept = P .kept;
     }
 
-    pub placing-take : {w : ℕ} → l ≤ length now → openAt n f g i now s ≡ true → 0 < left → w ≡ bitOr (at now s) (2 ^ i)
-        → Placing n f g i x l was (s + 1) (left - 1) (set now s w)
+    pub placing-take : {w : ℕ} → l ≤ length now → openAt f g i now s ≡ true → 0 < left → w ≡ bitOr (at now s) (2 ^ i)
+        → Placing f g i x l was (s + 1) (left - 1) (set now s w)
     placing-take {w} room q some e = record {
       scan = let z : left - (s + 1 - s) ≡ left - 1 = omega arith in
-          subst (λ (k : ℕ). Scan l (has (at was)) (openAt n f g i was) i x (s + 1) k (has (at (set now s w)))) z
+          subst (λ (k : ℕ). Scan l (has (at was)) (openAt f g i was) i x (s + 1) k (has (at (set now s w)))) z
           (scan-take (P .scan) (omega arith) (omega arith) (here q) put);
       later = λ u a b. getD-set-other now s u w 0 (λ z. let v : ⊥ = omega arith in v) ∙ P .later u (omega arith) b;
       kept = kept-set s w (P .kept) h;
@@ -99,11 +102,18 @@ module _ {n : ℕ} {f g : ℕ → ℕ} {i x l : ℕ} {was : List ℕ} where
             ∙ or-false (bit (at now u) j)))
             (decide (eqb u s))
 
-  pub placing-end : {s left : ℕ} {now : List ℕ} → Placing n f g i x l was s left now → (l ≤ s) ⊎ (left ≡ 0)
-      → RowPlaced n f g i x l was now
+  pub placing-end : {s left : ℕ} {now : List ℕ} → Placing f g i x l was s left now → (l ≤ s) ⊎ (left ≡ 0)
+      → RowPlaced f g i x l was now
   placing-end P over = record { had = scan-end (P .scan) over; kept = P .kept }
 
 -- ---- from element to element
+
+-- no row from n on is there
+any-more : (n m : ℕ) (p : ℕ → Bool) → n ≤ m → ((j : ℕ) → T (p j) → j < n) → any m p ≡ any n p
+any-more n m p le below =
+    same (any m p) (any n p)
+    (λ t. let w = least m p t in any-of n p (w .0) (below (w .0) (w .2)) (w .2))
+    (λ t. let w = least n p t in any-of m p (w .0) (omega (arith, w .1)) (w .2))
 
 pub record Coming (n : ℕ) (f g x : ℕ → ℕ) (l e : ℕ) (words : List ℕ) : Type 0 where
   pub upto : Upto n (meet f g) f x l (taken n f e 0) (has (at words))
@@ -132,9 +142,9 @@ module _ {n : ℕ} {f g x : ℕ → ℕ} {l e : ℕ} {words : List ℕ} where
   }
 
   -- the row that r links to is given its slots
-  pub along-more : {r i r′ : ℕ} {out : List ℕ} → Along n f g x l e r words → 0 < r → i ≡ r - 1 → Link n f (f i) (i + 1) r′
-      → RowPlaced n f g i (x i) l words out → Along n f g x l e r′ out
-  along-more {r} {i} {r′} {out} A some q L P = record {
+  pub along-more : {r i r′ : ℕ} {out : List ℕ} → n ≤ max-rows → Along n f g x l e r words → 0 < r → i ≡ r - 1
+      → Link n f (f i) (i + 1) r′ → RowPlaced f g i (x i) l words out → Along n f g x l e r′ out
+  along-more {r} {i} {r′} {out} few A some q L P = record {
     j = i + 1;
     link = subst (λ (d : ℕ). Link n f d (i + 1) r′) start L;
     upto =
@@ -157,18 +167,23 @@ module _ {n : ℕ} {f g x : ℕ → ℕ} {l e : ℕ} {words : List ℕ} where
       ahead : (j : ℕ) → T (taken n f e i j) → T (before f j i)
       ahead j = taken-ahead n f e i j start
 
-      -- all rows there come before row i, so a slot is free for it just when it is open
-      is-open : (u : ℕ) → u < l → openAt n f g i words u ≡ free n (meet f g) f (has (at words)) i u
+      -- the rows there are taken
+      there : (u : ℕ) → u < l → (j : ℕ) → T (has (at words) j u) → T (taken n f e i j)
+      there u m j t = fst (taken n f e i j) (chosen (free n (meet f g) f (has (at words)) j) (x j) u) (along (U .so j u m) t)
+
+      -- so all come before row i, and a slot is free for it just when it is open
+      is-open : (u : ℕ) → u < l → openAt f g i words u ≡ free n (meet f g) f (has (at words)) i u
       is-open u m =
-          sym (free-among n (meet f g) f (has (at words)) i u
-          (λ j t. ahead j (fst (taken n f e i j) (chosen (free n (meet f g) f (has (at words)) j) (x j) u) (along (U .so j u m) t))))
+          ap not (any-more n max-rows (λ j. has (at words) j u && meet f g j i) few
+          (λ j t. taken-is n f e i j (there u m j (fst (has (at words) j u) (meet f g j i) t)) .0))
+          ∙ sym (free-among n (meet f g) f (has (at words)) i u (λ j t. ahead j (there u m j t)))
 
       step : (j s : ℕ) → s < l
           → has (at out) j s ≡ (has (at words) j s || (eqb j i && chosen (free n (meet f g) f (has (at words)) i) (x i) s))
       step j s m =
           P .had j s m
           ∙ ap (λ (b : Bool). has (at words) j s || (eqb j i && b))
-          (chosen-eq (openAt n f g i words) (free n (meet f g) f (has (at words)) i) (x i) l s m is-open)
+          (chosen-eq (openAt f g i words) (free n (meet f g) f (has (at words)) i) (x i) l s m is-open)
 
   pub coming-end : {was : List ℕ} → Coming n f g x l e words → ((j : ℕ) → j < n → f j < e) → Kept l was words → l ≤ length words
       → FilledSlots n f g x l was words

@@ -5,24 +5,14 @@
 use chains::Chains;
 use table::Table;
 ghost use mathlib.Core.Path.{_≡_};
-ghost use mathlib.Core.Bool.{_&&_};
-ghost use Prim.Native.Nat.{_≤_, _<_};
+ghost use Prim.Native.Nat.{ℕ, _≤_, _<_};
 ghost use lib.ListN.{length};
 ghost use Rattle.numbers.specs.Lists.{at};
-ghost use Rattle.numbers.specs.Word.{bit};
 ghost use Rattle.rules.specs.Bounds.{max-rows};
 ghost use Rattle.rules.specs.Line.{meet};
 ghost use Rattle.chains.specs.Chained.{ChainedRows};
 ghost use Rattle.placing.specs.Filled.{FilledSlots};
 ghost use Rattle.plain_slots.specs.Plain.{isOpen, RowPlaced, Cleared};
-
-// Row `j` is in a slot with this word.
-fn is_there(word: u64, j: usize) -> bool
-    requires { ⌜ j < max-rows ⌝ }
-    ensures { λ r. ⌜ r ≡ bit word j ⌝ }
-{
-    (word >> j) % 2 == 1
-}
 
 // Rows `j` and `i` overlap: on the line the first end of each is below the second end of the other.
 fn do_overlap<'a>(
@@ -40,40 +30,23 @@ fn do_overlap<'a>(
     table::end_at(first, i) < table::end_at(second, j)
 }
 
-// Row `j` is in a slot with this word and overlaps row `i`.
-fn is_in_the_way<'a>(
-    first: &'a [u8; Table::ROWS],
-    second: &'a [u8; Table::ROWS],
-    word: u64,
-    j: usize,
-    i: usize,
-) -> bool
-    requires { ⌜ (j < max-rows) × (i < max-rows) ⌝ }
-    ensures { λ r. ⌜ r ≡ (bit word j && meet (at (now (first .entry))) (at (now (second .entry))) j i) ⌝ }
-{
-    if !is_there(word, j) {
-        return false;
-    }
-    do_overlap(first, second, j, i)
-}
-
 // No row in a slot with this word overlaps row `i`.
 fn is_free<'a>(
     first: &'a [u8; Table::ROWS],
     second: &'a [u8; Table::ROWS],
-    rows: usize,
     i: usize,
     word: u64,
 ) -> bool
-    requires { ⌜ (rows ≤ max-rows) × (i < max-rows) ⌝ }
-    ensures { λ r. ⌜ r ≡ isOpen rows (at (now (first .entry))) (at (now (second .entry))) i word ⌝ }
+    requires { ⌜ i < max-rows ⌝ }
+    ensures { λ r. ⌜ r ≡ isOpen (at (now (first .entry))) (at (now (second .entry))) i word ⌝ }
 {
-    let mut j: usize = 0;
-    while j < rows {
-        if is_in_the_way(first, second, word, j, i) {
+    let mut asked: u64 = 0;
+    while asked != word {
+        let j = flow::pick(word, asked);
+        if do_overlap(first, second, j, i) {
             return false;
         }
-        j += 1;
+        asked = asked | (1u64 << j);
     }
     true
 }
@@ -82,14 +55,13 @@ fn is_free<'a>(
 fn place_row<'a>(
     first: &'a [u8; Table::ROWS],
     second: &'a [u8; Table::ROWS],
-    rows: usize,
     i: usize,
     load: u64,
     slots: usize,
     words: &mut [u64],
 )
-    requires { ⌜ (rows ≤ max-rows) × (i < max-rows) × (slots ≤ length (now words)) ⌝ }
-    ensures { λ _. ⌜ RowPlaced rows (at (now (first .entry))) (at (now (second .entry))) i load slots
+    requires { ⌜ (i < max-rows) × (slots ≤ length (now words)) ⌝ }
+    ensures { λ _. ⌜ RowPlaced (at (now (first .entry))) (at (now (second .entry))) i load slots
         (now (words .entry)) (now (words .exit)) ⌝ }
 {
     let row = 1u64 << i;
@@ -99,7 +71,7 @@ fn place_row<'a>(
         if left == 0 {
             break 'slots;
         }
-        if is_free(first, second, rows, i, words[s]) {
+        if is_free(first, second, i, words[s]) {
             words[s] = words[s] | row;
             left -= 1;
         }
@@ -122,7 +94,6 @@ fn clear(slots: usize, words: &mut [u64])
 // Writes the words of an interval of `slots` slots to the front of `words`, for rows on a line of the elements 1 to `top` that are chained
 // so: what the fill by stretches writes.
 pub fn fill_plain<'a>(
-    rows: usize,
     first: &'a [u8; Table::ROWS],
     second: &'a [u8; Table::ROWS],
     head: &'a [u8; Chains::HEADS],
@@ -132,9 +103,10 @@ pub fn fill_plain<'a>(
     slots: usize,
     words: &mut [u64],
 )
-    requires { ⌜ ChainedRows rows (at (now first)) (at (now second)) top (now head) (now next) × (slots ≤ length (now words)) ⌝ }
-    ensures { λ _. ⌜ FilledSlots rows (at (now (first .entry))) (at (now (second .entry))) (at (now (load .entry))) slots
-        (now (words .entry)) (now (words .exit)) ⌝ }
+    requires { ⌜ ((n : ℕ) × ChainedRows n (at (now first)) (at (now second)) top (now head) (now next)) × (slots ≤ length (now words)) ⌝ }
+    ensures { λ _. ⌜ ((n : ℕ) → ChainedRows n (at (now (first .entry))) (at (now (second .entry))) top (now (head .entry)) (now (next .entry))
+        → FilledSlots n (at (now (first .entry))) (at (now (second .entry))) (at (now (load .entry))) slots
+        (now (words .entry)) (now (words .exit))) ⌝ }
 {
     clear(slots, words);
     let mut element: usize = 1;
@@ -142,7 +114,7 @@ pub fn fill_plain<'a>(
         let mut r = head[element];
         while r != 0 {
             let i = (r - 1) as usize;
-            place_row(first, second, rows, i, load[i], slots, words);
+            place_row(first, second, i, load[i], slots, words);
             r = next[i];
         }
         element += 1;

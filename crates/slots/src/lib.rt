@@ -47,11 +47,11 @@ fn clear(slots: usize, words: &mut [u64])
 // Writes the words of an interval of `slots` slots to the front of `words`, for any rows on a line of the elements 1 to `top` that are
 // chained so. For each stretch `end` has the slot after its last, `after` the stretch that follows and `last` the last second end there;
 // its word stands at its first slot. The scan has come to stretch k, which begins at slot s. Row i leaves stretch i + 1 of one it parts.
-pub fn fill(
-    second: &[u8; Table::ROWS],
-    head: &[u8; Chains::HEADS],
-    next: &[u8; Table::ROWS],
-    load: &[u64; Table::ROWS],
+pub fn fill<'a>(
+    second: &'a [u8; Table::ROWS],
+    head: &'a [u8; Chains::HEADS],
+    next: &'a [u8; Table::ROWS],
+    load: &'a [u64; Table::ROWS],
     top: usize,
     slots: usize,
     words: &mut [u64],

@@ -1,98 +1,123 @@
--- `add_parts` has added the parts of the rows that it has passed.
-use mathlib.Core.Path.{_≡_}
-use Prim.Native.Nat.{suc, _-_, _<_, _≤_}
+-- `add_parts` has added the parts of the rows in `done`.
+use mathlib.Core.Path.{_≡_, sym, _∙_}
+use mathlib.Core.Bool.{true, false, not, false≢true}
+use Prim.Native.Nat.{ℕ, _≤_, _<_}
 use native.Mathlib.Omega.{arith}
 use lib.ListN.{length}
+use Rattle.numbers.specs.Finite.{count}
 use Rattle.numbers.specs.Lists.{at}
+use Rattle.numbers.specs.Word.{bit}
+use Rattle.numbers.proofs.Word.{bit-zero}
 use Rattle.rules.specs.Bounds.{max-elements}
-use Rattle.loads.specs.Loads.{last, Summed}
-use Rattle.choice.proofs.Filling.{summed-none, summed-next, summed-room}
+use Rattle.flow.proofs.Words.{bit-one-more, in-first, fewer, one-of}
+use Rattle.loads.specs.Loads.{last, among, Spans, Summed}
+use Rattle.choice.proofs.Filling.{row-span, summed-none, summed-next, summed-room}
 use Rattle.choice.proofs.add_parts.Statement.{statement}
 use Rattle.choice.proofs.add_parts.Tie as tie
 
 abbrev Inv-loop : tie.InvT-loop
-Inv-loop tail head part size sum₀ i₀ sum i =
-    (length sum ≡ max-elements) × (i ≤ size .rows) × Summed i (size .sets) (at tail) (last head) (at part) (at sum)
+Inv-loop tail head part rows sum₀ done₀ sum done =
+    (length sum ≡ max-elements) × ((i : ℕ) → bit done i ≡ true → bit rows i ≡ true)
+    × ((n K : ℕ) → Spans n K (at tail) (last head) → ((i : ℕ) → i < n → 0 < at head i) → ((i : ℕ) → bit rows i ≡ true → i < n)
+    → Summed n K (at tail) (last head) (among done (at part)) (at sum))
 
 abbrev μ-loop : tie.MeasureT-loop
-μ-loop tail head part size sum₀ i₀ sum i = size .rows - i
+μ-loop tail head part rows sum₀ done₀ sum done = count 64 (λ i. not (bit done i))
 
--- the row's sets
-span : (t : tie.Then1 Inv-loop μ-loop)
-    → (at (t .before .before .before .args .tail .now) (t .before .before .loop .i) ≤ max-elements)
-    × (at (t .before .before .before .args .head .now) (t .before .before .loop .i) ≤ max-elements)
-    × (at (t .before .before .before .args .head .now) (t .before .before .loop .i) ≤ t .before .before .before .args .size .sets)
-    × (at (t .before .before .before .args .tail .now) (t .before .before .loop .i)
-    ≤ at (t .before .before .before .args .head .now) (t .before .before .loop .i))
-    × (at (t .before .before .before .args .head .now) (t .before .before .loop .i)
-    ≡ suc (last (t .before .before .before .args .head .now) (t .before .before .loop .i)))
-span t =
-    let z = t .before .before .before in
-    let r = z .pre .0 .row (t .before .before .loop .i) (t .if1 .taken) in
-    let p = z .pre .1 (t .before .before .loop .i) (t .if1 .taken) in
-    let f = z .pre .0 .few-sets in
-    (omega (arith, r, f), omega (arith, r, f), omega (arith, r), omega (arith, r), omega arith)
+abbrev start : tie.After-pick Inv-loop μ-loop → tie.Start Inv-loop μ-loop
+start p = p .before .before .before
 
-few : (t : tie.Then1 Inv-loop μ-loop) → t .before .before .loop .i < 64
-few t = omega (arith, t .if1 .taken, t .before .before .before .pre .0 .few-rows)
+-- the row that is taken
+picked : (p : tie.After-pick Inv-loop μ-loop)
+    → (bit (start p .args .rows) (p .pick .result) ≡ true) × (bit (p .before .before .loop .done) (p .pick .result) ≡ false)
+picked p = in-first _ _ (p .pick .ensures .1) (p .before .before .loop .inv .1 (p .pick .result))
+
+here : (p : tie.After-pick Inv-loop μ-loop) → p .pick .result < start p .pre .0 .0
+here p = start p .pre .0 .6 (p .pick .result) (picked p .0)
+
+-- its sets
+span : (p : tie.After-pick Inv-loop μ-loop) → let a = start p .args in
+    (at (a .tail .now) (p .pick .result) ≤ at (a .head .now) (p .pick .result)) × (at (a .head .now) (p .pick .result) ≤ max-elements)
+span p =
+    let a = start p .args in
+    let q = start p .pre .0 in
+    let r = row-span (a .tail .now) (a .head .now) (q .3) (p .pick .result) (here p) (q .4 _ (here p)) in
+    (r .0, r .1)
 
 loop-holds : tie.Need-loop-holds Inv-loop μ-loop
-loop-holds c = (c .pre .4, omega arith, summed-none _ _ _ _ _ (c .pre .3))
+loop-holds c = (
+  c .pre .2,
+  λ i q. absurd (false≢true (sym (bit-zero i) ∙ q)),
+  λ n K S H R. summed-none n K _ _ _ _ (c .pre .1),
+)
+
+pick-requires : tie.Need-pick-requires Inv-loop μ-loop
+pick-requires c κs = λ q. c .loop-test .taken (sym q)
 
 element-copy-out-from : tie.Need-element-copy-out-from Inv-loop μ-loop
-element-copy-out-from c = omega (arith, few c)
+element-copy-out-from c = omega (arith, c .pick .ensures .0)
 
 cast-from : tie.Need-cast-from Inv-loop μ-loop
 cast-from c = omega (arith, span (c .before))
 
 element-copy-out-to : tie.Need-element-copy-out-to Inv-loop μ-loop
-element-copy-out-to c = omega (arith, few (c .before))
+element-copy-out-to c = omega (arith, c .before .pick .ensures .0)
 
 cast-to : tie.Need-cast-to Inv-loop μ-loop
 cast-to c = omega (arith, span (c .before .before))
 
 mul-lift : tie.Need-mul-lift Inv-loop μ-loop
-mul-lift c = omega (arith, few (c .before .before .before))
+mul-lift c = omega (arith, c .before .before .before .pick .ensures .0)
 
 element-copy-out-lift : tie.Need-element-copy-out-lift Inv-loop μ-loop
-element-copy-out-lift c = omega (arith, few (c .before .before .before))
+element-copy-out-lift c = omega (arith, c .before .before .before .pick .ensures .0)
 
 lift-requires : tie.Need-lift-requires Inv-loop μ-loop
 lift-requires c κs =
-    let t = c .before .before .before .before in
-    let z = t .before .before .before in
-    let u = t .before .before .loop in (
-      omega (arith, span t),
-      omega (arith, span t),
+    let p = c .before .before .before .before in
+    let u = p .before .before .loop in
+    let q = start p .pre .0 in
+    let i = p .pick .result in
+    let l = p .pick .ensures .0 in
+    let H = q .4 i (here p) in (
+      span p .0,
+      span p .1,
       u .inv .0,
-      λ k l g. summed-room (z .args .size .sets) (u .i) (at (z .args .tail .now)) (last (z .args .head .now)) (at (z .args .part .now)) _
-          (u .inv .2)
-          (z .args .size .rows) (z .args .size .hyper) (z .pre .2) (z .pre .0 .few-rows) (t .if1 .taken) k (omega (arith, span t)),
+      λ k g v.
+          let r = row-span (start p .args .tail .now) (start p .args .head .now) (q .3) i (here p) H in
+          summed-room (q .0) (q .1) _ _ _ _ (u .done) _ i (here p) (picked p .1) (λ j. bit-one-more (u .done) i j l)
+          (u .inv .2 _ _ (q .3) (q .4) (q .6)) (q .2) (q .5) (q .3 .few-rows) k (omega (arith, r)) g (omega (arith, r)),
     )
 
-add-i : tie.Need-add-i Inv-loop μ-loop
-add-i c = omega (arith, few (c .before .before .before .before .before))
+shl-done : tie.Need-shl-done Inv-loop μ-loop
+shl-done c = omega (arith, c .before .before .before .before .before .pick .ensures .0)
 
 loop-less : tie.Need-loop-less Inv-loop μ-loop
-loop-less c = omega (arith, c .before .before .before .before .before .if1 .taken)
+loop-less c =
+    let p = c .before .before .before .before .before in
+    let l = p .pick .ensures .0 in
+    let d = p .before .before .loop .done in
+    fewer d _ (p .pick .result) l (picked p .1) (λ v. bit-one-more d (p .pick .result) v l)
 
 loop-again : tie.Need-loop-again Inv-loop μ-loop
 loop-again c =
-    let t = c .before .before .before .before .before in
-    let z = t .before .before .before in
-    let u = t .before .before .loop in (
+    let p = c .before .before .before .before .before in
+    let u = p .before .before .loop in
+    let i = p .pick .result in
+    let l = p .pick .ensures .0 in (
       c .lift .ensures .0,
-      omega (arith, t .if1 .taken),
-      summed-next (z .args .size .sets) (u .i) (at (z .args .tail .now)) (last (z .args .head .now)) (at (z .args .part .now)) _
-          (u .inv .2) _ _
-          (span t .4) (c .lift .ensures .1),
+      λ j q. one-of (bit (u .done) j) j i (sym (bit-one-more (u .done) i j l) ∙ q) (u .inv .1 j) (λ k. rw k (picked p .0)),
+      λ n K S H R.
+          let m = R i (picked p .0) in
+          summed-next n K _ _ _ _ (u .done) _ i m (picked p .1) (λ j. bit-one-more (u .done) i j l)
+          (u .inv .2 n K S H R) _ _ (row-span (start p .args .tail .now) (start p .args .head .now) S i m (H i m) .3) (c .lift .ensures .1),
     )
 
 returns : tie.Need-returns Inv-loop μ-loop
 returns c =
-    let u = c .before .before .loop in
-    let e : u .i ≡ c .before .before .before .args .size .rows = omega (arith, c .if1 .left, u .inv .1) in
-    (u .inv .0, rw e at (u .inv .2))
+    let u = c .before .loop in
+    let q : u .done ≡ c .before .before .args .rows = omega arith in
+    (u .inv .0, rw q at (u .inv .2))
 
 pub add-parts-spec : {M : Type 1} → statement M
 add-parts-spec =
@@ -101,6 +126,7 @@ add-parts-spec =
     Inv-loop
     μ-loop
     loop-holds
+    pick-requires
     element-copy-out-from
     cast-from
     element-copy-out-to
@@ -108,7 +134,7 @@ add-parts-spec =
     mul-lift
     element-copy-out-lift
     lift-requires
-    add-i
+    shl-done
     loop-less
     loop-again
     returns)

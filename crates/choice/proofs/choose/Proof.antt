@@ -1,7 +1,7 @@
--- `choose` is done where the rows in turn leave no set too low, or settles them.
-use borrow.Author.Needs.{needs}
-use mathlib.Core.Path.{refl, ap, _∙_}
+-- `choose` is done where no row has a part or the rows in turn leave no set too low, or settles them.
+use mathlib.Core.Path.{refl, sym, ap, _∙_}
 use mathlib.Core.Bool.{Bool, _&&_}
+use Prim.Native.Nat.{ℕ}
 use native.Mathlib.Omega.{arith}
 use lib.Dec.{ltb}
 use borrow.Author.Tests.{lt-ltb}
@@ -9,104 +9,146 @@ use Rattle.numbers.specs.Lists.{at}
 use Rattle.numbers.proofs.Lists.{zeros-at}
 use Rattle.rules.specs.Bounds.{max-elements}
 use Rattle.loads.proofs.States.{sums-most, state-of}
+use Rattle.loads.specs.Loads.{last, among, none, Parts, Summed}
 use Rattle.loads.specs.State.{Asked, State}
-use Rattle.choice.proofs.Taking.{taken-greatest, taken-upper}
+use Rattle.choice.specs.Taken.{Uneven, Taken}
+use Rattle.choice.proofs.Filling.{among-parts, among-uneven, summed-none}
+use Rattle.choice.proofs.Taking.{passed-start, passed-end, taken-greatest, taken-upper}
 use Rattle.choice.proofs.choose.Statement.{statement}
 use Rattle.choice.proofs.choose.Tie as tie
 
-add-parts-requires : tie.Need-add-parts-requires
-add-parts-requires c κs =
-    let p = c .before .pre in
-    (p .0 .ends .spans, p .0 .ends .heads, p .1, zeros-at max-elements, refl)
+-- the parts of the rows
+abbrev parts : tie.Start → ℕ → ℕ
+parts z = among (z .args .rows) (at (z .args .part .now))
 
-take-rows-requires : tie.Need-take-rows-requires
-take-rows-requires c κs = search needs
+are-parts : (z : tie.Start) → Parts (z .args .size .rows) (z .args .size .hyper) (parts z)
+are-parts z = among-parts (z .args .rows) (z .pre .1)
 
-cast-all-less : tie.Need-cast-all-less
-cast-all-less c = omega (arith, c .before .before .before .before .before .before .pre .1 .fits)
-
-all-less-requires : tie.Need-all-less-requires
-all-less-requires c κs = search needs
-
-abbrev entry : tie.After-all-less → tie.Start
-entry d = d .before .before .before .before .before .before .before
+uneven : (z : tie.Start) → Uneven (z .args .size .rows) (parts z) (z .args .rows)
+uneven z = among-uneven _ (z .args .rows) (at (z .args .part .now)) (z .pre .2)
 
 returns : tie.Need-returns
 returns c =
+    let z = c .before in
+    let E = z .pre .0 in
+    let P = are-parts z in
+    let U = uneven z in
+    let e = c .if1 .taken in
+    let s : Summed (z .args .size .rows) (z .args .size .sets) (at (z .args .tail .now)) (last (z .args .head .now)) (parts z) none =
+    rw e (summed-none _ _ _ _ _ none (λ k. refl)) in
+    taken-greatest _ _ _ _ _ _ (E .spans) P 0 none
+    (passed-end _ _ _ _ _ _ (E .spans) P _ U (passed-start _ _ _ _ _ _ (E .spans) P _ U none s) (sym e)) (λ k l. P .some)
+
+cast-h : tie.Need-cast-h
+cast-h c = omega (arith, c .before .before .pre .1 .fits)
+
+add-parts-requires : tie.Need-add-parts-requires
+add-parts-requires c κs =
+    let z = c .before .before .before in
+    let p = z .pre in (
+      (_, _, _, p .0 .spans, p .0 .heads, p .1, λ i q. p .2 i q .0),
+      zeros-at max-elements,
+      refl,
+    )
+
+abbrev summing : tie.After-take-rows → tie.After-add-parts
+summing t = t .before .before
+
+abbrev entry : tie.After-add-parts → tie.Start
+entry a = a .before .before .before .before
+
+sums : (a : tie.After-add-parts) → let z = entry a in
+    Summed (z .args .size .rows) (z .args .size .sets) (at (z .args .tail .now)) (last (z .args .head .now)) (parts z)
+    (at (a .add-parts .last .1 .1 .1 .1 .0))
+sums a = let p = entry a .pre in a .add-parts .ensures .1 _ _ (p .0 .spans) (p .0 .heads) (λ i q. p .2 i q .0)
+
+take-rows-requires : tie.Need-take-rows-requires
+take-rows-requires c κs =
+    let a = c .before in
+    let z = entry a in
+    ((_, _, parts z, z .pre .0 .spans, z .pre .0 .heads, are-parts z, uneven z, sums a), a .add-parts .ensures .0)
+
+-- the rows in turn
+taken : (t : tie.After-take-rows) → let z = entry (summing t) in
+    Taken (z .args .size .rows) (z .args .size .sets) (z .args .size .rows) (at (z .args .tail .now)) (last (z .args .head .now))
+    (z .args .size .hyper) (parts z) (t .take-rows .result) (at (t .take-rows .last .1 .1 .1 .1 .0))
+taken t =
+    let a = summing t in
+    let z = entry a in
+    t .take-rows .ensures .1 _ _ (parts z) (z .pre .0 .spans) (z .pre .0 .heads) (are-parts z) (uneven z) (sums a)
+
+all-less-requires : tie.Need-all-less-requires
+all-less-requires c κs = let z = entry (summing (c .before)) in z .pre .0 .spans .few-sets
+
+returns-2 : tie.Need-returns-2
+returns-2 c =
     let d = c .before in
-    let p = entry d .pre in
-    taken-greatest _ _ _ _ _ _ (p .0 .ends .spans) (p .1) _ _ (d .before .before .before .take-rows .ensures .1)
-    (d .all-less .ensures (c .if1 .taken))
+    let t = d .before .before in
+    let z = entry (summing t) in
+    taken-greatest _ _ _ _ _ _ (z .pre .0 .spans) (are-parts z) _ _ (taken t) (d .all-less .ensures (c .if2 .taken))
 
-parted-rows-requires : tie.Need-parted-rows-requires
-parted-rows-requires c κs = search needs
+-- what is asked, where the rows in turn have left a set too low
+abbrev settling : tie.After-sum2 → tie.After-take-rows
+settling w = w .before .before .before .before
 
-abbrev summing : tie.After-parted-rows → tie.After-add-parts
-summing w = w .before .before .before .before .before .before .before
-
--- what is asked
-abbrev Given : tie.After-parted-rows → Type 0
+abbrev Given : tie.After-sum2 → Type 0
 Given w =
-    let a = entry (w .before .before) .args in
-    Asked (a .size .rows) (a .size .sets) (a .size .hyper) (a .tail .now) (a .head .now) (a .out .now) (a .into .now) (a .words .now)
-    (summing w .add-parts .last .1 .1 .1 .1 .0) (at (a .part .now))
+    let a = entry (summing (settling w)) .args in
+    Asked (a .size .rows) (a .size .sets) (a .size .hyper) (a .tail .now) (a .head .now) (a .out .now) (a .into .now)
+    (summing (settling w) .add-parts .last .1 .1 .1 .1 .0) (parts (entry (summing (settling w))))
 
-given : (w : tie.After-parted-rows) → Given w
-given w = let p = entry (w .before .before) .pre in record { laid = p .0; parts = p .1; summed = summing w .add-parts .ensures .1 }
-
--- where the settling starts
-started : (k : tie.After-compare)
-    → State (entry (k .before .before .before .before) .args .size .rows) (entry (k .before .before .before .before) .args .size .sets)
-    (entry (k .before .before .before .before) .args .size .hyper) (entry (k .before .before .before .before) .args .tail .now)
-    (entry (k .before .before .before .before) .args .head .now) (at (entry (k .before .before .before .before) .args .part .now))
-    (k .compare .result)
-started k =
-    let w = k .before .before in
-    let d = w .before .before in
-    let p = entry d .pre in
-    let e = k .compare .ensures in
-    state-of (given w) (k .compare .result) (w .parted-rows .result) (d .before .before .before .take-rows .result)
-    (λ i l. w .parted-rows .ensures i ∙ ap (λ (b : Bool). b && ltb 0 (at (entry d .args .part .now) i))
-    (lt-ltb i (entry d .args .size .rows) l))
-    (taken-upper _ _ _ _ _ _ (p .0 .ends .spans) (p .1) _ _ (d .before .before .before .take-rows .ensures .1)) (e .0) (e .1) (e .2)
+given : (w : tie.After-sum2) → Given w
+given w = let a = summing (settling w) in record { ends = entry a .pre .0; parts = are-parts (entry a); summed = sums a }
 
 compare-requires : tie.Need-compare-requires
 compare-requires c κs =
-    let w = c .before in
-    let p = entry (w .before .before) .pre in
-    (p .0 .ends .spans .few-sets, p .1 .fits, sums-most (given w))
+    let p = entry (summing (settling c)) .pre in
+    (p .0 .spans .few-sets, p .1 .fits, sums-most (given c))
+
+-- where the settling starts
+started : (k : tie.After-compare) → let z = entry (summing (settling (k .before))) in
+    State (z .args .size .rows) (z .args .size .sets) (z .args .size .hyper) (z .args .tail .now) (z .args .head .now) (parts z)
+    (k .compare .result)
+started k =
+    let w = k .before in
+    let t = settling w in
+    let z = entry (summing t) in
+    let e = k .compare .ensures in
+    state-of (given w) (k .compare .result) (z .args .rows) (t .take-rows .result)
+    (λ i l. uneven z i ∙ ap (λ (b : Bool). b && ltb 0 (parts z i)) (lt-ltb i (z .args .size .rows) l))
+    (taken-upper _ _ _ _ _ _ (z .pre .0 .spans) (are-parts z) _ _ (taken t)) (e .0) (e .1) (e .2)
 
 mend-requires : tie.Need-mend-requires
 mend-requires c κs =
     let k = c .before in
-    let w = k .before .before in
-    (at (entry (w .before .before) .args .part .now), given w, started k)
+    let w = k .before in
+    (parts (entry (summing (settling w))), given w, started k)
 
 raise-rows-requires : tie.Need-raise-rows-requires
 raise-rows-requires c κs =
     let m = c .before in
     let k = m .before .before in
-    let w = k .before .before in
-    (at (entry (w .before .before) .args .part .now), given w, m .mend .ensures _ (given w) (started k))
+    let w = k .before in
+    (parts (entry (summing (settling w))), given w, m .mend .ensures _ (given w) (started k))
 
-returns-2 : tie.Need-returns-2
-returns-2 c =
+returns-3 : tie.Need-returns-3
+returns-3 c =
     let m = c .before .before in
     let k = m .before .before in
-    let w = k .before .before in
+    let w = k .before in
     c .raise-rows .ensures _ (given w) (m .mend .ensures _ (given w) (started k))
 
 pub choose-spec : {M : Type 1} → statement M
 choose-spec =
     tie.close
     (tie.spec
+    returns
+    cast-h
     add-parts-requires
     take-rows-requires
-    cast-all-less
     all-less-requires
-    returns
-    parted-rows-requires
+    returns-2
     compare-requires
     mend-requires
     raise-rows-requires
-    returns-2)
+    returns-3)

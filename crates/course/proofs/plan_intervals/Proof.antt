@@ -1,14 +1,20 @@
--- `course::plan_intervals` meets its contract: `Planning` says what its loop keeps.
+-- `course::plan_intervals` meets its contract: `Planning` says what its loop keeps, and the pieces of an interval make it
+-- (`advanced-of`).
 use mathlib.Core.Path.{_≡_, refl}
+use mathlib.Core.List.{List, _++_}
+use mathlib.Core.Logic.{⊎-elim}
 use Prim.Native.Nat.{ℕ, _+_, _-_, _≤_, _<_}
 use native.Mathlib.Omega.{arith}
-use lib.ListN.{length, length-take, length-drop}
+use lib.ListN.{length, take, drop, length-take, length-drop}
+use Rattle.numbers.specs.Lists.{at}
 use Rattle.rules.specs.Bounds.{max-rows, max-slots}
 use Rattle.rules.specs.Bus.{Table}
 use Rattle.rules.specs.Loads.{end}
-use Rattle.interval.specs.Ready.{Due}
+use Rattle.placing.specs.Filled.{FilledSlots}
+use Rattle.interval.specs.Ready.{Ready, Due}
+use Rattle.interval.proofs.Course.{all-laid, rows-chained, interval-short, shares-fit, are-parts, whole-fit, advanced-of}
 use Rattle.course.specs.Plannable.{Plannable}
-use Rattle.course.proofs.Accepted.{timed, few-rows, few-sets}
+use Rattle.course.proofs.Accepted.{timed, few-rows, few-sets, hyper-positive, hyper-short}
 use Rattle.course.proofs.Laying.{low-sets, firsts-low, ready-of}
 use Rattle.course.proofs.Course.{Planning, planning-start, planning-begins, planning-due, planning-low, planning-room}
 use Rattle.course.proofs.Course.{planning-next, planning-end}
@@ -16,12 +22,12 @@ use Rattle.course.proofs.plan_intervals.Statement.{statement}
 use Rattle.course.proofs.plan_intervals.Tie as tie
 
 abbrev Inv-loop : tie.InvT-loop
-Inv-loop plain from until plan₀ table rows top time words folded places size load₀ part₀ after₀ slot₀ at₀ plan load part after slot at =
+Inv-loop plain from until plan₀ table rows top time folded places size inverse load₀ part₀ after₀ slot₀ at₀ plan load part after slot at =
     (length load ≡ max-rows) × (length part ≡ max-rows)
     × ((t : Table) (k m : ℕ) → Plannable t table k m from until after₀ (length plan₀) → Planning t k m after₀ plan₀ slot at after plan)
 
 abbrev μ-loop : tie.MeasureT-loop
-μ-loop plain from until plan₀ table rows top time words folded places size load₀ part₀ after₀ slot₀ at₀ plan load part after slot at =
+μ-loop plain from until plan₀ table rows top time folded places size inverse load₀ part₀ after₀ slot₀ at₀ plan load part after slot at =
     until - slot
 
 -- ---- what the intervals share
@@ -45,15 +51,21 @@ lay-requires c κs =
     let A = f .before .before .before .before .before .before .before .pre .3 .accepted in
     (few-rows A, low-sets A (f .fold-sets .ensures), firsts-low A)
 
+inverse-of-requires : tie.Need-inverse-of-requires Inv-loop μ-loop
+inverse-of-requires c κs = let A = entry c .pre .3 .accepted in (hyper-positive A, hyper-short A)
+
 -- ---- where the loop begins
 
 loop-holds : tie.Need-loop-holds Inv-loop μ-loop
-loop-holds c = (refl, refl, λ t k m P. planning-start (entry c .args .plan .now) P)
+loop-holds c = (refl, refl, λ t k m P. planning-start (entry (c .before) .args .plan .now) P)
 
 -- ---- a turn: an interval of the table begins, and there is room for it
 
+abbrev laying : tie.In-loop Inv-loop μ-loop → tie.After-lay Inv-loop μ-loop
+laying c = c .before .before .before
+
 abbrev begun : tie.In-loop Inv-loop μ-loop → tie.Start Inv-loop μ-loop
-begun c = entry (c .before .before)
+begun c = entry (laying c)
 
 -- t is a table that is given to be planned
 abbrev Given : tie.Start Inv-loop μ-loop → Table → ℕ → ℕ → Type 0
@@ -90,77 +102,178 @@ module _ (c : tie.After-next-end Inv-loop μ-loop) {t : Table} {k m : ℕ} (P : 
       × (length (c .before .before .loop .plan) ≡ length (begun (c .before) .args .plan .now))
   roomy = planning-room (begun (c .before) .args .plan .now) P done (c .before .loop-test .taken) _ ends
 
+  -- what it stands on
+  ready : let a = begun (c .before) .args .t1 in let L = laying (c .before) in let F = folding L .fold-sets in
+      Ready t (record { rows = a .outline .rows; sets = F .result .sets; hyper = a .outline .time .hyper }) (a .outline .top)
+      (a .outline .first) (a .outline .second) (a .rate) (F .result .upper) (F .last .1 .1 .1 .1 .0) (L .lay .result)
+  ready = ready-of (P .accepted) (folding (laying (c .before)) .fold-sets .ensures) (laying (c .before) .lay .ensures)
+
   place-low : c .before .before .loop .at ≤ max-slots
   place-low = omega (arith, done .place, ends-low, roomy .0)
 
--- the turn, from where all is lent to the interval
-abbrev lending : tie.After-after Inv-loop μ-loop → tie.After-next-end Inv-loop μ-loop
-lending c = c .before .before .before .before .before .before .before .before .before .before .before .before .before .before .before
+sub-slots : tie.Need-sub-slots Inv-loop μ-loop
+sub-slots c = omega (arith, roomy c (given (c .before)))
 
-mul-advance : tie.Need-mul-advance Inv-loop μ-loop
-mul-advance c = let I = lending c in omega (arith, place-low I (given (I .before)))
+-- ---- its pieces
 
-sub-advance : tie.Need-sub-advance Inv-loop μ-loop
-sub-advance c = let I = lending c in omega (arith, roomy I (given (I .before)))
-
-part-advance-start : tie.Need-part-advance-start Inv-loop μ-loop
-part-advance-start c = let I = lending c in omega (arith, roomy I (given (I .before)))
-
-part-advance-end : tie.Need-part-advance-end Inv-loop μ-loop
-part-advance-end c = let I = lending c in omega (arith, roomy I (given (I .before)))
-
-advance-requires : tie.Need-advance-requires Inv-loop μ-loop
-advance-requires c κs =
-    let I = lending (c .before) in
-    let N = I .before .before .before in
-    let P = given (I .before) in (
-      (
-        begun (I .before) .pre .0,
-        done I P .number,
-        ready-of (P .accepted) (folding N .fold-sets .ensures) (N .lay .ensures),
-        due I P,
-      ),
-      I .before .before .loop .inv .0,
-      I .before .before .loop .inv .1,
-      done I P .size,
-      simp (length-take, length-drop) (omega (arith, roomy I P)),
+part-shares-requires : tie.Need-part-shares-requires Inv-loop μ-loop
+part-shares-requires c κs =
+    let I = c .before .before .before .before in
+    let A = given (I .before) .accepted in
+    let l = I .before .before in (
+      few-rows A,
+      hyper-positive A,
+      hyper-short A,
+      l .before .inverse-of .ensures,
+      shares-fit (ready I (given (I .before))) (due I (given (I .before))),
+      l .loop .inv .0,
+      l .loop .inv .1,
     )
 
--- the turn, from where the interval is done
-abbrev turn : tie.After-slice-known2 Inv-loop μ-loop → tie.After-next-end Inv-loop μ-loop
-turn c = lending (c .before .before .before .before)
+-- the turn, from where the shares are parted and from where the loads are given
+abbrev parting : tie.After-part-shares Inv-loop μ-loop → tie.After-next-end Inv-loop μ-loop
+parting p = p .before .before .before .before .before
 
-sub-at : tie.Need-sub-at Inv-loop μ-loop
-sub-at c = let I = turn c in omega (arith, roomy I (given (I .before)))
+abbrev rounding : tie.After-round-rows Inv-loop μ-loop → tie.After-part-shares Inv-loop μ-loop
+rounding r = r .before .before .before .before .before .before .before
+
+abbrev giving : tie.After-give Inv-loop μ-loop → tie.After-round-rows Inv-loop μ-loop
+giving g = g .before .before .before
+
+abbrev turn : tie.After-give Inv-loop μ-loop → tie.After-next-end Inv-loop μ-loop
+turn g = parting (rounding (giving g))
+
+-- the whole slots of the shares, and the parts above them
+abbrev whole : tie.After-part-shares Inv-loop μ-loop → List ℕ
+whole p = p .part-shares .last .1 .1 .1 .1 .0
+
+abbrev part : tie.After-part-shares Inv-loop μ-loop → List ℕ
+part p = p .part-shares .last .1 .1 .1 .1 .1 .0
+
+-- the loads, and the totals with them
+abbrev load : tie.After-give Inv-loop μ-loop → List ℕ
+load g = g .give .last .1 .1 .0
+
+abbrev totals : tie.After-give Inv-loop μ-loop → List ℕ
+totals g = g .give .last .1 .1 .1 .0
+
+round-rows-requires : tie.Need-round-rows-requires Inv-loop μ-loop
+round-rows-requires c κs =
+    let p = c .before .before .before .before .before .before in
+    let I = parting p in
+    let R = ready I (given (I .before)) in
+    (all-laid R, are-parts R (due I (given (I .before))) (whole p) (part p) (p .part-shares .ensures .2), p .part-shares .ensures .3)
+
+give-requires : tie.Need-give-requires Inv-loop μ-loop
+give-requires c κs =
+    let p = rounding (c .before .before) in
+    let I = parting p in
+    let P = given (I .before) in (
+      few-rows (P .accepted),
+      whole-fit (ready I P) (due I P) (whole p) (part p) (p .part-shares .ensures .2),
+      p .part-shares .ensures .0,
+      done I P .size,
+    )
+
+-- the slots can be filled
+module _ (g : tie.After-give Inv-loop μ-loop) where
+  abbrev here : tie.In-loop Inv-loop μ-loop
+  here = turn g .before
+
+  at-low : here .before .loop .at ≤ max-slots
+  at-low = place-low (turn g) (given here)
+
+  at-in : here .before .loop .at ≤ length (here .before .loop .plan)
+  at-in = omega (arith, roomy (turn g) (given here))
+
+  short : turn g .next-end .result - here .before .loop .slot ≤ max-slots
+  short = interval-short (ready (turn g) (given here)) (due (turn g) (given here))
+
+  -- the part of the plan that is lent, and the plan with it back
+  abbrev lent : List ℕ
+  lent = take (length (here .before .loop .plan) - here .before .loop .at) (drop (here .before .loop .at) (here .before .loop .plan))
+
+  room : turn g .next-end .result - here .before .loop .slot ≤ length lent
+  room = simp (length-take, length-drop) (omega (arith, roomy (turn g) (given here)))
+
+  abbrev joined : List ℕ → List ℕ
+  joined ys =
+      take (here .before .loop .at) (here .before .loop .plan)
+      ++ (ys ++ drop (length (here .before .loop .plan) - here .before .loop .at) (drop (here .before .loop .at) (here .before .loop .plan)))
+
+  -- however they are filled, the interval is done
+  next : (ys : List ℕ) → FilledSlots (begun here .args .t1 .outline .rows) (at (begun here .args .t1 .outline .first))
+      (at (begun here .args .t1 .outline .second)) (at (load g)) (turn g .next-end .result - here .before .loop .slot) lent ys
+      → (t : Table) (k m : ℕ) → Given (begun here) t k m
+      → Planning t k m (begun here .args .totals) (begun here .args .plan .now) (turn g .next-end .result)
+      (here .before .loop .at + (turn g .next-end .result - here .before .loop .slot)) (totals g) (joined ys)
+  next ys F t k m P =
+      let p = rounding (giving g) in
+      planning-next (begun here .args .plan .now) P (done (turn g) P) (here .loop-test .taken) _ (ends (turn g) P) (totals g) ys
+      (advanced-of (ready (turn g) P) (due (turn g) P) (whole p) (part p) (p .part-shares .ensures .2) (giving g .round-rows .result)
+      (at (load g)) (at (totals g)) (giving g .round-rows .ensures) (g .give .ensures .2) (λ i. refl) (g .give .ensures .1) F)
+
+mul-fill-plain : tie.Need-mul-fill-plain Inv-loop μ-loop
+mul-fill-plain c = omega (arith, at-low (c .before .before .before .before .before .before .before .before))
+
+sub-fill-plain : tie.Need-sub-fill-plain Inv-loop μ-loop
+sub-fill-plain c = omega (arith, at-in (c .before .before .before .before .before .before .before .before))
+
+part-fill-plain-start : tie.Need-part-fill-plain-start Inv-loop μ-loop
+part-fill-plain-start c = omega (arith, at-in (c .before .before .before .before .before .before .before .before))
+
+part-fill-plain-end : tie.Need-part-fill-plain-end Inv-loop μ-loop
+part-fill-plain-end c = omega (arith, at-in (c .before .before .before .before .before .before .before .before))
+
+fill-plain-requires : tie.Need-fill-plain-requires Inv-loop μ-loop
+fill-plain-requires c κs =
+    let g = c .before .before .before .before .before .before .before .before .before in
+    ((_, rows-chained (ready (turn g) (given (here g)))), room g)
+
+mul-fill : tie.Need-mul-fill Inv-loop μ-loop
+mul-fill c = omega (arith, at-low (c .before .before .before .before .before .before .before))
+
+sub-fill : tie.Need-sub-fill Inv-loop μ-loop
+sub-fill c = omega (arith, at-in (c .before .before .before .before .before .before .before))
+
+part-fill-start : tie.Need-part-fill-start Inv-loop μ-loop
+part-fill-start c = omega (arith, at-in (c .before .before .before .before .before .before .before))
+
+part-fill-end : tie.Need-part-fill-end Inv-loop μ-loop
+part-fill-end c = omega (arith, at-in (c .before .before .before .before .before .before .before))
+
+fill-requires : tie.Need-fill-requires Inv-loop μ-loop
+fill-requires c κs =
+    let g = c .before .before .before .before .before .before .before .before in
+    ((_, _, rows-chained (ready (turn g) (given (here g)))), short g, room g)
+
+-- ---- on to the next
 
 add-at : tie.Need-add-at Inv-loop μ-loop
-add-at c = let I = turn c in omega (arith, place-low I (given (I .before)), ends-low I (given (I .before)))
+add-at c = omega (arith, at-low (c .before), short (c .before))
 
 loop-less : tie.Need-loop-less Inv-loop μ-loop
-loop-less c = let I = turn c in omega (arith, I .before .loop-test .taken, roomy I (given (I .before)) .0)
+loop-less c = let I = turn (c .before) in omega (arith, I .before .loop-test .taken, roomy I (given (I .before)) .0)
 
 loop-again : tie.Need-loop-again Inv-loop μ-loop
 loop-again c =
-    let I = turn c in
-    let N = I .before .before .before in
-    let D = c .before .before .advance in
-    let last = D .last .1 .1 .1 .1 .1 .1 .1 .1 .1 .1 .1 .1 .1 .1 .1 .1 .1 .1 in (
-      D .ensures .0,
-      D .ensures .1,
-      λ t k m P.
-          planning-next (begun (I .before) .args .plan .now) P (done I P) (I .before .loop-test .taken) _ (ends I P) (last .0)
-          (last .1 .0)
-          (D .ensures .2 t (done I P .number) (ready-of (P .accepted) (folding N .fold-sets .ensures) (N .lay .ensures)) (due I P)),
-    )
+    let g = c .before in
+    let O = rows-chained (ready (turn g) (given (here g))) in
+    let l = g .give .ensures .0 in
+    let p = rounding (giving g) .part-shares .ensures .1 in
+    ⊎-elim
+    (λ w. rw (w .12) (l, p, next g (w .9 .last .1 .1 .1 .1 .1 .1 .1 .0) (w .9 .ensures _ O)))
+    (λ w. rw (w .11) (l, p, next g (w .8 .last .1 .1 .1 .1 .1 .1 .0) (w .8 .ensures _ _ O)))
+    (c .if1 .came)
 
 -- ---- the end
 
 same-length : tie.Need-same-length Inv-loop μ-loop
-same-length c = let S = entry (c .before .before) in c .before .loop .inv .2 _ _ _ (S .pre .3) .filled .same
+same-length c = let S = entry (c .before .before .before) in c .before .loop .inv .2 _ _ _ (S .pre .3) .filled .same
 
 returns : tie.Need-returns Inv-loop μ-loop
 returns c t k m P =
-    let S = entry (c .before .before) in
+    let S = entry (c .before .before .before) in
     planning-end (S .args .plan .now) P (c .before .loop .inv .2 t k m P) (c .loop-test .left)
 
 pub plan-intervals-spec : {M : Type 1} → statement M
@@ -171,14 +284,23 @@ plan-intervals-spec =
     μ-loop
     fold-sets-requires
     lay-requires
+    inverse-of-requires
     loop-holds
     next-end-requires
-    mul-advance
-    sub-advance
-    part-advance-start
-    part-advance-end
-    advance-requires
-    sub-at
+    sub-slots
+    part-shares-requires
+    round-rows-requires
+    give-requires
+    mul-fill-plain
+    sub-fill-plain
+    part-fill-plain-start
+    part-fill-plain-end
+    fill-plain-requires
+    mul-fill
+    sub-fill
+    part-fill-start
+    part-fill-end
+    fill-requires
     add-at
     loop-less
     loop-again

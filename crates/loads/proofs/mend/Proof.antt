@@ -1,7 +1,7 @@
 -- `mend` brings one more to a set that is too low, at each turn: what is needed still falls.
 use mathlib.Core.Path.{_≡_, refl, sym, ap, _∙_}
 use mathlib.Core.Bool.{true, false, false≢true}
-use Prim.Native.Nat.{ℕ, _+_, _-_, _*_, _/_, _%_, _^_, _<_}
+use Prim.Native.Nat.{ℕ, suc, _+_, _-_, _*_, _/_, _%_, _^_, _<_}
 use native.Mathlib.Omega.{arith}
 use lib.Bits.{bitAnd, bitXor}
 use lib.Count.{ones}
@@ -13,7 +13,7 @@ use Rattle.flow.specs.Way.{Narrow, Sought}
 use Rattle.flow.proofs.Words.{in-first}
 use Rattle.loads.specs.Loads.{last, digit}
 use Rattle.loads.specs.Line.{carried, line}
-use Rattle.loads.specs.State.{Asked, State}
+use Rattle.loads.specs.State.{over, Asked, State}
 use Rattle.loads.proofs.Settling.{carried-circ}
 use Rattle.loads.proofs.States.{heads-are, sums-most, state-of, need-is, mended-of}
 use Rattle.loads.proofs.Turning.{low-yes, others, mend-narrow, mend-shown, mend-found, mend-upper, mend-less}
@@ -21,14 +21,14 @@ use Rattle.loads.proofs.mend.Statement.{statement}
 use Rattle.loads.proofs.mend.Tie as tie
 
 abbrev Inv-loop : tie.InvT-loop
-Inv-loop tail head out into words sums size s₀ low₀ s low =
+Inv-loop tail head out into sums size s₀ low₀ s low =
     (low ≡ s .low)
-    × ((f : ℕ → ℕ) → Asked (size .rows) (size .sets) (size .hyper) tail head out into words sums f
+    × ((f : ℕ → ℕ) → Asked (size .rows) (size .sets) (size .hyper) tail head out into sums f
     → State (size .rows) (size .sets) (size .hyper) tail head f s₀ → State (size .rows) (size .sets) (size .hyper) tail head f s)
 
 abbrev μ-loop : tie.MeasureT-loop
-μ-loop tail head out into words sums size s₀ low₀ s low =
-    sum (size .sets) (λ k. at sums k / size .hyper - ones (bitAnd (s .top) (at words k)))
+μ-loop tail head out into sums size s₀ low₀ s low =
+    sum (size .sets) (λ k. at sums k / size .hyper - ones (bitAnd (s .top) (over (at out) (at into) (suc k))))
 
 abbrev entry : tie.After-pick Inv-loop μ-loop → tie.Start Inv-loop μ-loop
 entry p = p .before .before .before
@@ -36,7 +36,7 @@ entry p = p .before .before .before
 -- the state, for parts f
 module _ (p : tie.After-pick Inv-loop μ-loop) (f : ℕ → ℕ)
     (A : Asked (entry p .args .size .rows) (entry p .args .size .sets) (entry p .args .size .hyper) (entry p .args .tail .now)
-    (entry p .args .head .now) (entry p .args .out .now) (entry p .args .into .now) (entry p .args .words .now) (entry p .args .sum .now) f)
+    (entry p .args .head .now) (entry p .args .out .now) (entry p .args .into .now) (entry p .args .sum .now) f)
     (B : State (entry p .args .size .rows) (entry p .args .size .sets) (entry p .args .size .hyper) (entry p .args .tail .now)
     (entry p .args .head .now) f (entry p .args .start)) where
   abbrev now : State (entry p .args .size .rows) (entry p .args .size .sets) (entry p .args .size .hyper) (entry p .args .tail .now)
@@ -52,7 +52,7 @@ module _ (p : tie.After-pick Inv-loop μ-loop) (f : ℕ → ℕ)
   set-in = low-yes (now .compared) (p .pick .result) lacking .0
 
   small : p .pick .result < 63
-  small = omega (arith, set-in, A .laid .ends .spans .few-sets)
+  small = omega (arith, set-in, A .ends .spans .few-sets)
 
 loop-holds : tie.Need-loop-holds Inv-loop μ-loop
 loop-holds c = (refl, λ f A B. B)
@@ -64,11 +64,11 @@ pick-requires c κs = c .loop-test .taken
 given : (p : tie.After-pick Inv-loop μ-loop) → p .pick .result < 63
 given p = let q = entry p .pre in small p (q .0) (q .1) (q .2)
 
-add-t16 : tie.Need-add-t16 Inv-loop μ-loop
-add-t16 c = omega (arith, given (c .before))
+add-t15 : tie.Need-add-t15 Inv-loop μ-loop
+add-t15 c = omega (arith, given (c .before))
 
-shl-t18 : tie.Need-shl-t18 Inv-loop μ-loop
-shl-t18 c = omega (arith, given (c .before))
+shl-t17 : tie.Need-shl-t17 Inv-loop μ-loop
+shl-t17 c = omega (arith, given (c .before))
 
 add-find-way : tie.Need-add-find-way Inv-loop μ-loop
 add-find-way c = omega (arith, given (c .before .before))
@@ -76,7 +76,7 @@ add-find-way c = omega (arith, given (c .before .before))
 -- the arcs that are handed over
 narrow : (p : tie.After-pick Inv-loop μ-loop) (f : ℕ → ℕ)
     (A : Asked (entry p .args .size .rows) (entry p .args .size .sets) (entry p .args .size .hyper) (entry p .args .tail .now)
-    (entry p .args .head .now) (entry p .args .out .now) (entry p .args .into .now) (entry p .args .words .now) (entry p .args .sum .now) f)
+    (entry p .args .head .now) (entry p .args .out .now) (entry p .args .into .now) (entry p .args .sum .now) f)
     (B : State (entry p .args .size .rows) (entry p .args .size .sets) (entry p .args .size .hyper) (entry p .args .tail .now)
     (entry p .args .head .now) f (entry p .args .start))
     → Narrow (entry p .args .size .sets)
@@ -88,7 +88,7 @@ narrow : (p : tie.After-pick Inv-loop μ-loop) (f : ℕ → ℕ)
     })
 narrow p f A B =
     let M = now p f A B in
-    mend-narrow _ _ _ _ _ (at (entry p .args .head .now)) f (heads-are (A .laid .ends)) (A .laid .ends .spans) (A .parts)
+    mend-narrow _ _ _ _ _ (at (entry p .args .head .now)) f (heads-are (A .ends)) (A .ends .spans) (A .parts)
     (p .before .before .loop .s .parted) (p .before .before .loop .s .top) _ _ _ (M .parted-is) (M .upper) (M .compared)
     (p .pick .result) (small p f A B) (lacking p f A B)
 
@@ -99,7 +99,7 @@ find-way-requires c κs =
     let l = set-in p (q .0) (q .1) (q .2) in (
       entry p .args .size .rows,
       entry p .args .size .sets,
-      q .1 .laid .ends .wired,
+      q .1 .ends .wired,
       narrow p (q .0) (q .1) (q .2),
       omega (arith, l),
       omega (arith, l),
@@ -108,14 +108,14 @@ find-way-requires c κs =
 compare-requires : tie.Need-compare-requires Inv-loop μ-loop
 compare-requires c κs =
     let q = entry (c .before .before .before .before .before) .pre in
-    (q .1 .laid .ends .spans .few-sets, q .1 .parts .fits, sums-most (q .1))
+    (q .1 .ends .spans .few-sets, q .1 .parts .fits, sums-most (q .1))
 
 -- the way, and what it leaves
 module _ (w : tie.After-find-way Inv-loop μ-loop) (f : ℕ → ℕ)
     (A : Asked (entry (w .before .before .before) .args .size .rows) (entry (w .before .before .before) .args .size .sets)
     (entry (w .before .before .before) .args .size .hyper) (entry (w .before .before .before) .args .tail .now)
     (entry (w .before .before .before) .args .head .now) (entry (w .before .before .before) .args .out .now)
-    (entry (w .before .before .before) .args .into .now) (entry (w .before .before .before) .args .words .now)
+    (entry (w .before .before .before) .args .into .now)
     (entry (w .before .before .before) .args .sum .now) f)
     (B : State (entry (w .before .before .before) .args .size .rows) (entry (w .before .before .before) .args .size .sets)
     (entry (w .before .before .before) .args .size .hyper) (entry (w .before .before .before) .args .tail .now)
@@ -130,7 +130,7 @@ module _ (w : tie.After-find-way Inv-loop μ-loop) (f : ℕ → ℕ)
       (entry picked .args .size .hyper) f)
       (others (entry picked .args .size .rows) (entry picked .args .size .sets) (entry picked .args .size .hyper)
       (at (entry picked .args .tail .now))
-      (last (entry picked .args .head .now)) (at (entry picked .args .head .now)) f (heads-are (A .laid .ends)) (A .laid .ends .spans)
+      (last (entry picked .args .head .now)) (at (entry picked .args .head .now)) f (heads-are (A .ends)) (A .ends .spans)
       (A .parts)
       (picked .before .before .loop .s .parted) (picked .before .before .loop .s .top) (picked .before .before .loop .s .more)
       (picked .before .before .loop .s .less) (picked .before .before .loop .s .low) (now picked f A B .parted-is) (now picked f A B .upper)
@@ -141,14 +141,14 @@ module _ (w : tie.After-find-way Inv-loop μ-loop) (f : ℕ → ℕ)
       let p = picked in
       let a = entry p .args in
       let M = now p f A B in
-      let S = A .laid .ends .spans in
+      let S = A .ends .spans in
       let l = set-in p f A B in
-      let s = w .find-way .ensures (a .size .rows) (a .size .sets) _ _ _ (A .laid .ends .wired) (narrow p f A B) (omega (arith, l))
+      let s = w .find-way .ensures (a .size .rows) (a .size .sets) _ _ _ (A .ends .wired) (narrow p f A B) (omega (arith, l))
       (omega (arith, l))
-      (mend-shown _ _ _ _ _ (at (a .head .now)) f (heads-are (A .laid .ends)) S (A .parts) (p .before .before .loop .s .parted)
+      (mend-shown _ _ _ _ _ (at (a .head .now)) f (heads-are (A .ends)) S (A .parts) (p .before .before .loop .s .parted)
       (p .before .before .loop .s .top) _ _ _ (M .parted-is) (M .upper) (M .compared) (p .pick .result) (small p f A B) (lacking p f A B))
       (carried-circ _ _ _ _ _ f S (A .parts) (digit (p .before .before .loop .s .top))) in
-      mend-found _ _ _ _ _ (at (a .head .now)) f (heads-are (A .laid .ends)) S (A .parts) (p .before .before .loop .s .parted)
+      mend-found _ _ _ _ _ (at (a .head .now)) f (heads-are (A .ends)) S (A .parts) (p .before .before .loop .s .parted)
       (p .before .before .loop .s .top) _ _ _ (M .parted-is) (M .upper) (M .compared) (p .pick .result) (small p f A B) (lacking p f A B)
       (w .find-way .result .rows) (w .find-way .result .found) s
 
@@ -159,7 +159,7 @@ loop-less c =
     let q = entry p .pre in
     let a = entry p .args in
     let M = now p (q .0) (q .1) (q .2) in
-    let t = mend-less _ _ _ _ _ (at (a .head .now)) (q .0) (heads-are (q .1 .laid .ends)) (q .1 .laid .ends .spans) (q .1 .parts)
+    let t = mend-less _ _ _ _ _ (at (a .head .now)) (q .0) (heads-are (q .1 .ends)) (q .1 .ends .spans) (q .1 .parts)
     (p .before .before .loop .s .parted) (p .before .before .loop .s .top) _ _ _ (M .parted-is) (M .upper) (M .compared) (p .pick .result)
     (small p (q .0) (q .1) (q .2)) (lacking p (q .0) (q .1) (q .2)) (w .find-way .result .rows) (sought w (q .0) (q .1) (q .2)) in
     let top' : ℕ = bitXor (p .before .before .loop .s .top) (w .find-way .result .rows) in
@@ -168,7 +168,7 @@ loop-less c =
       t,
       need-is (q .1) (p .before .before .loop .s .top),
       need-is (q .1) top',
-      ap (λ (z : ℕ). sum (a .size .sets) (λ k. at (a .sum .now) k / a .size .hyper - ones (bitAnd z (at (a .words .now) k))))
+      ap (λ (z : ℕ). sum (a .size .sets) (λ k. at (a .sum .now) k / a .size .hyper - ones (bitAnd z (over (at (a .out .now)) (at (a .into .now)) (suc k)))))
           (c .compare .ensures .1),
     )
 
@@ -182,7 +182,7 @@ loop-again c =
           let M = now p f A B in
           state-of A (c .compare .result) (p .before .before .loop .s .parted)
           (bitXor (p .before .before .loop .s .top) (w .find-way .result .rows)) (M .parted-is)
-          (mend-upper _ _ _ _ _ (at (a .head .now)) f (heads-are (A .laid .ends)) (A .laid .ends .spans) (A .parts)
+          (mend-upper _ _ _ _ _ (at (a .head .now)) f (heads-are (A .ends)) (A .ends .spans) (A .parts)
           (p .before .before .loop .s .parted) (p .before .before .loop .s .top) _ _ _ (M .parted-is) (M .upper) (M .compared)
           (p .pick .result)
           (small p f A B) (lacking p f A B) (w .find-way .result .rows) (sought w f A B))
@@ -202,8 +202,8 @@ mend-spec =
     μ-loop
     loop-holds
     pick-requires
-    add-t16
-    shl-t18
+    add-t15
+    shl-t17
     add-find-way
     find-way-requires
     compare-requires

@@ -19,16 +19,16 @@ use Rattle.loads.proofs.raise_rows.Statement.{statement}
 use Rattle.loads.proofs.raise_rows.Tie as tie
 
 abbrev Inv-loop : tie.InvT-loop
-Inv-loop tail head out into words sums size s₀ later₀ i₀ s later i =
+Inv-loop tail head out into sums size s₀ later₀ i₀ s later i =
     (i ≤ size .rows) × ((j : ℕ) → j < size .rows → bit later j ≡ (leb i j && bit (s .parted) j))
-    × ((f : ℕ → ℕ) → Asked (size .rows) (size .sets) (size .hyper) tail head out into words sums f
+    × ((f : ℕ → ℕ) → Asked (size .rows) (size .sets) (size .hyper) tail head out into sums f
     → Mended (size .rows) (size .sets) (size .hyper) tail head f s₀
     → State (size .rows) (size .sets) (size .hyper) tail head f s
     × Settled i (line (size .rows) (size .sets) (at tail) (last head) (size .hyper) f)
     (carried (size .rows) (at tail) (last head) (digit (s .top))))
 
 abbrev μ-loop : tie.MeasureT-loop
-μ-loop tail head out into words sums size s₀ later₀ i₀ s later i = size .rows - i
+μ-loop tail head out into sums size s₀ later₀ i₀ s later i = size .rows - i
 
 abbrev entry : tie.Then1 Inv-loop μ-loop → tie.Start Inv-loop μ-loop
 entry t = t .before .before .before
@@ -37,7 +37,7 @@ abbrev state : tie.Then1 Inv-loop μ-loop → tie.At-loop Inv-loop μ-loop
 state t = t .before .before
 
 low-row : (t : tie.Then1 Inv-loop μ-loop) → state t .loop .i < 64
-low-row t = omega (arith, t .if1 .taken, entry t .pre .1 .laid .ends .spans .few-rows)
+low-row t = omega (arith, t .if1 .taken, entry t .pre .1 .ends .spans .few-rows)
 
 loop-holds : tie.Need-loop-holds Inv-loop μ-loop
 loop-holds c = (
@@ -45,7 +45,7 @@ loop-holds c = (
   λ j l. sym (ap (λ (b : Bool). b && bit (c .args .start .parted) j) (le-leb 0 j (omega arith))),
   λ f A M. (
     M .state,
-    settle-start _ _ (carried-circ _ _ _ _ _ f (A .laid .ends .spans) (A .parts) (digit (c .args .start .top)))
+    settle-start _ _ (carried-circ _ _ _ _ _ f (A .ends .spans) (A .parts) (digit (c .args .start .top)))
         (M .within),
   ),
 )
@@ -57,7 +57,7 @@ without-requires c κs = low-row c
 turn : (w : tie.After-without Inv-loop μ-loop) (f : ℕ → ℕ)
     → Asked (entry (w .before) .args .size .rows) (entry (w .before) .args .size .sets) (entry (w .before) .args .size .hyper)
     (entry (w .before) .args .tail .now) (entry (w .before) .args .head .now) (entry (w .before) .args .out .now)
-    (entry (w .before) .args .into .now) (entry (w .before) .args .words .now) (entry (w .before) .args .sum .now) f
+    (entry (w .before) .args .into .now) (entry (w .before) .args .sum .now) f
     → Mended (entry (w .before) .args .size .rows) (entry (w .before) .args .size .sets) (entry (w .before) .args .size .hyper)
     (entry (w .before) .args .tail .now) (entry (w .before) .args .head .now) f (entry (w .before) .args .start)
     → Turn (entry (w .before) .args .size .rows) (entry (w .before) .args .size .sets) (entry (w .before) .args .size .hyper)
@@ -66,7 +66,7 @@ turn : (w : tie.After-without Inv-loop μ-loop) (f : ℕ → ℕ)
 turn w f A M =
     let u = state (w .before) .loop in
     let r = u .inv .2 f A M in record {
-      ends = A .laid .ends;
+      ends = A .ends;
       parts = A .parts;
       mended = record { state = r .0; within = r .1 .within };
       row = w .before .if1 .taken;
@@ -74,12 +74,15 @@ turn w f A M =
     }
 
 seek-requires : tie.Need-seek-requires Inv-loop μ-loop
-seek-requires c κs = let q = entry (c .before) .pre in (q .0, turn c (q .0) (q .1) (q .2))
+seek-requires c κs =
+    let q = entry (c .before) .pre in
+    let n = entry (c .before) .args .size in
+    (n .rows, n .sets, n .hyper, q .0, turn c (q .0) (q .1) (q .2))
 
 compare-requires : tie.Need-compare-requires Inv-loop μ-loop
 compare-requires c κs =
     let q = entry (c .before .before .before .before) .pre in
-    (q .1 .laid .ends .spans .few-sets, q .1 .parts .fits, sums-most (q .1))
+    (q .1 .ends .spans .few-sets, q .1 .parts .fits, sums-most (q .1))
 
 -- the rows that are left
 rest : (w : tie.After-without Inv-loop μ-loop) (j : ℕ) → j < entry (w .before) .args .size .rows
@@ -107,7 +110,7 @@ loop-again c =
       λ j l. rest w j l ∙ ap (λ (b : ℕ). leb (u .i + 1) j && bit b j) (sym (z .2 .ensures .0)),
       λ f A M.
           let r = u .inv .2 f A M in
-          raised-next A (u .s) (k .seek .result) (u .i) (r .0) (r .1) (k .seek .ensures f (turn w f A M)) (z .2 .result)
+          raised-next A (u .s) (k .seek .result) (u .i) (r .0) (r .1) (k .seek .ensures _ _ _ f (turn w f A M)) (z .2 .result)
           (z .2 .ensures .0) (z .2 .ensures .1) (z .2 .ensures .2),
     ))
     (λ z. rw (z .1) (
@@ -115,7 +118,7 @@ loop-again c =
       rest w,
       λ f A M.
           let r = u .inv .2 f A M in
-          raised-same A (u .s) (k .seek .result) (u .i) (r .0) (r .1) (k .seek .ensures f (turn w f A M)) (omega (arith, z .0 .left)),
+          raised-same A (u .s) (k .seek .result) (u .i) (r .0) (r .1) (k .seek .ensures _ _ _ f (turn w f A M)) (omega (arith, z .0 .left)),
     ))
     (c .if2 .came)
 
@@ -124,7 +127,7 @@ returns c f A M =
     let u = c .before .before .loop in
     let r = u .inv .2 f A M in
     let e : u .i ≡ c .before .before .before .args .size .rows = omega (arith, c .if1 .left, u .inv .0) in
-    settled-greatest _ _ _ _ _ f (A .laid .ends .spans) (A .parts) (digit (u .s .top)) (rw e at (r .1))
+    settled-greatest _ _ _ _ _ f (A .ends .spans) (A .parts) (digit (u .s .top)) (rw e at (r .1))
 
 pub raise-rows-spec : {M : Type 1} → statement M
 raise-rows-spec =

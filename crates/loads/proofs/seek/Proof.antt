@@ -14,18 +14,17 @@ use Rattle.loads.proofs.seek.Statement.{statement}
 use Rattle.loads.proofs.seek.Tie as tie
 
 -- the row's ends are places
-near : (z : tie.Start) → (at (z .args .head .now) (z .args .i) ≤ z .args .size .sets) ×
-    (at (z .args .tail .now) (z .args .i) ≤ z .args .size .sets)
-near z = let T = z .pre .1 in let e = T .ends .wired .ends (z .args .i) (T .row) in (e .1, e .0)
+near : (z : tie.Start) → (at (z .args .head .now) (z .args .i) ≤ z .pre .1) × (at (z .args .tail .now) (z .args .i) ≤ z .pre .1)
+near z = let T = z .pre .4 in let e = T .ends .wired .ends (z .args .i) (T .row) in (e .1, e .0)
 
-low-sets : (z : tie.Start) → z .args .size .sets ≤ max-elements
-low-sets z = z .pre .1 .ends .spans .few-sets
+low-sets : (z : tie.Start) → z .pre .1 ≤ max-elements
+low-sets z = z .pre .4 .ends .spans .few-sets
 
 shr-if1 : tie.Need-shr-if1
-shr-if1 c = let z = c .before in omega (arith, z .pre .1 .row, z .pre .1 .ends .spans .few-rows)
+shr-if1 c = let z = c .before in omega (arith, z .pre .4 .row, z .pre .4 .ends .spans .few-rows)
 
 returns : tie.Need-returns
-returns c f T =
+returns c n K h f T =
     let a = c .before .before .args in
     let M = T .mended .state in
     turn-still _ _ _ _ _ (at (a .head .now)) f (heads-are (T .ends)) (T .ends .spans) (T .parts) (a .s .parted) (a .s .top) _ _ _
@@ -33,14 +32,14 @@ returns c f T =
 
 element-copy-out-from : tie.Need-element-copy-out-from
 element-copy-out-from c =
-    let z = c .before .before .before in omega (arith, z .pre .1 .row, z .pre .1 .ends .spans .few-rows)
+    let z = c .before .before .before in omega (arith, z .pre .4 .row, z .pre .4 .ends .spans .few-rows)
 
 cast-from : tie.Need-cast-from
 cast-from c = let z = c .before .before .before .before in omega (arith, near z, low-sets z)
 
 element-copy-out-to : tie.Need-element-copy-out-to
 element-copy-out-to c =
-    let z = c .before .before .before .before in omega (arith, z .pre .1 .row, z .pre .1 .ends .spans .few-rows)
+    let z = c .before .before .before .before in omega (arith, z .pre .4 .row, z .pre .4 .ends .spans .few-rows)
 
 cast-to : tie.Need-cast-to
 cast-to c = let z = c .before .before .before .before .before in omega (arith, near z, low-sets z)
@@ -48,18 +47,18 @@ cast-to c = let z = c .before .before .before .before .before in omega (arith, n
 find-way-requires : tie.Need-find-way-requires
 find-way-requires c κs =
     let z = c .before .before .before .before .before in
-    let T = z .pre .1 in
-    (z .args .size .rows, z .args .size .sets, T .ends .wired, narrow-of (T .mended .state .compared) _ _, near z .0, near z .1)
+    let T = z .pre .4 in
+    (z .pre .0, z .pre .1, T .ends .wired, narrow-of (T .mended .state .compared) _ _, near z .0, near z .1)
 
 returns-2 : tie.Need-returns-2
-returns-2 c f T =
+returns-2 c n K h f T =
     let w = c .before .before in
     let z = w .before .before .before .before .before .before in
     let a = z .args in
     let M = T .mended .state in
     let H = heads-are (T .ends) in
     let e = T .ends .wired .ends (a .i) (T .row) in
-    let s = w .find-way .ensures (a .size .rows) (a .size .sets) _ (ltb (a .i)) _ (T .ends .wired) (narrow-of (M .compared) _ _) (e .1)
+    let s = w .find-way .ensures n K _ (ltb (a .i)) _ (T .ends .wired) (narrow-of (M .compared) _ _) (e .1)
     (e .0)
     (turn-shown _ _ _ _ _ (at (a .head .now)) f H (T .ends .spans) (T .parts) (a .s .parted) (a .s .top) _ _ _ (M .parted-is) (M .upper)
     (M .compared) (T .mended .within) (a .i) (T .row) (a .later) (T .after))
@@ -71,10 +70,10 @@ returns-2 c f T =
 shl-result : tie.Need-shl-result
 shl-result c =
     let z = c .before .before .before .before .before .before .before .before in
-    omega (arith, z .pre .1 .row, z .pre .1 .ends .spans .few-rows)
+    omega (arith, z .pre .4 .row, z .pre .4 .ends .spans .few-rows)
 
 returns-3 : tie.Need-returns-3
-returns-3 c f T =
+returns-3 c n K h f T =
     let w = c .before .before .before in
     let z = w .before .before .before .before .before .before in
     let a = z .args in
@@ -82,7 +81,7 @@ returns-3 c f T =
     let H = heads-are (T .ends) in
     let e = T .ends .wired .ends (a .i) (T .row) in
     let l : a .i < 64 = omega (arith, T .row, T .ends .spans .few-rows) in
-    let s = w .find-way .ensures (a .size .rows) (a .size .sets) _ (ltb (a .i)) _ (T .ends .wired) (narrow-of (M .compared) _ _) (e .1)
+    let s = w .find-way .ensures n K _ (ltb (a .i)) _ (T .ends .wired) (narrow-of (M .compared) _ _) (e .1)
     (e .0)
     (turn-shown _ _ _ _ _ (at (a .head .now)) f H (T .ends .spans) (T .parts) (a .s .parted) (a .s .top) _ _ _ (M .parted-is) (M .upper)
     (M .compared) (T .mended .within) (a .i) (T .row) (a .later) (T .after))

@@ -12,11 +12,11 @@ use Rattle.plain_slots.proofs.place_row.Statement.{statement}
 use Rattle.plain_slots.proofs.place_row.Tie as tie
 
 abbrev Inv-slots : tie.InvT-slots
-Inv-slots first second rows i load slots words₀ row left₀ s₀ words left s =
-    Placing rows (at first) (at second) i load slots words₀ s left words
+Inv-slots first second i load slots words₀ row left₀ s₀ words left s =
+    Placing (at first) (at second) i load slots words₀ s left words
 
 abbrev μ-slots : tie.MeasureT-slots
-μ-slots first second rows i load slots words₀ row left₀ s₀ words left s = slots - s
+μ-slots first second i load slots words₀ row left₀ s₀ words left s = slots - s
 
 shl-row : tie.Need-shl-row Inv-slots μ-slots
 shl-row c = omega arith
@@ -26,7 +26,7 @@ slots-holds c = placing-start
 
 -- there is room for the slot
 room : (c : tie.In-slots Inv-slots μ-slots) → c .before .slots .s < length (c .before .slots .words)
-room c = omega (arith, c .before .slots .inv .kept .long, c .slots-test .taken, c .before .before .before .pre .2)
+room c = omega (arith, c .before .slots .inv .kept .long, c .slots-test .taken, c .before .before .before .pre .1)
 
 mul-is-free : tie.Need-mul-is-free Inv-slots μ-slots
 mul-is-free c = record { fits = omega (arith, room (c .before)) }
@@ -35,7 +35,7 @@ slice-read-is-free : tie.Need-slice-read-is-free Inv-slots μ-slots
 slice-read-is-free c = room (c .before .before)
 
 is-free-requires : tie.Need-is-free-requires Inv-slots μ-slots
-is-free-requires c κs = let p = c .before .before .before .before .before .pre in (p .0, p .1)
+is-free-requires c κs = c .before .before .before .before .before .pre .0
 
 mul-words : tie.Need-mul-words Inv-slots μ-slots
 mul-words c = record { fits = omega (arith, room (c .before .before .before .before)) }
@@ -69,8 +69,8 @@ slots-again c =
     (λ w.
     rw (w .2, w .3)
     (placing-take (l .inv) (I .slots-test .taken)
-    (omega (arith, l .inv .kept .long, I .before .before .before .pre .2)) (opens ∙ w .0 .taken) (omega (arith, e .if1 .left))
-    (ap (bitOr (at (l .words) (l .s))) (one-shl (z .i) (I .before .before .before .pre .1)))))
+    (omega (arith, l .inv .kept .long, I .before .before .before .pre .1)) (opens ∙ w .0 .taken) (omega (arith, e .if1 .left))
+    (ap (bitOr (at (l .words) (l .s))) (one-shl (z .i) (I .before .before .before .pre .0)))))
     (λ w. rw (w .1, w .2) (placing-skip (l .inv) (I .slots-test .taken) (opens ∙ w .0 .left)))
     (c .if2 .came)
 
