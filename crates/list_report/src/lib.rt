@@ -1,4 +1,4 @@
-// What the program `element` prints of a list file, and the list file that it writes for a table and an element (#101), in lent bytes.
+// What the program prints of a list file, and the list file that it writes for a table and an element (#101), in lent bytes.
 //
 // Each `put_` function writes lines from place `at` on, as far as there is room, and returns the place after them.
 use decimal::put_line;

@@ -1,4 +1,4 @@
-// What the program `meet` prints, written to lent bytes (#102): number and place, and a line for each row of a set and each segment.
+// What the program prints by the words `meet` and `set` (#102), in lent bytes: number and place, then each row of a set, each segment.
 //
 // Each `put_` function writes lines from place `at` on, as far as there is room, and returns the place after them.
 use decimal::put_line;

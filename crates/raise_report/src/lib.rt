@@ -1,4 +1,4 @@
-// What the program `raise` prints (document 02, #111), written to lent bytes: a line for each raised row, then the result's verdict line.
+// What the program prints by the word `raise` (document 02, #111), in lent bytes: a line for each raised row, then the result's verdict.
 //
 // Each `put_` function writes lines from place `at` on, as far as there is room, and returns the place after them.
 use decimal::put_line;

@@ -9,13 +9,14 @@ ghost use mathlib.Core.Path.{_≡_};
 ghost use Prim.Native.Nat.{_≤_};
 ghost use lib.ListN.{length};
 ghost use Rattle.rules.specs.Refusals.{last-number};
+ghost use Rattle.rules.proofs.Small.{last-place};
 ghost use Rattle.rules.specs.Calls.{lent, fileAsk, limitedAsk, relayedAsk, c-answer};
 ghost use Rattle.supervisor.specs.ToC.{VerdictToC, values, value-count, ValuesToC, SharedToC, SetsToC, PlanToC, RaiseToC};
 ghost use Rattle.supervisor.specs.ToC.{list-refusal, ListToC};
 
 // Number and place as one number.
 fn joined(number: u32, place: u32) -> u32
-    requires { ⌜ (number ≤ last-number) × (place ≤ 63) ⌝ }
+    requires { ⌜ (number ≤ last-number) × (place ≤ last-place) ⌝ }
     ensures { λ r. ⌜ r ≡ c-answer number place ⌝ }
 {
     256 * number + place

@@ -1,8 +1,8 @@
--- main: what is rendered fits.
-use borrow.Author.Needs.{needs}
+-- main: the part that it lends is as long as it says.
 use native.Mathlib.Omega.{arith}
 use mathlib.Core.Path.{sym}
 use lib.Seq.{length-take-le}
+use borrow.Author.Needs.{needs}
 use Rattle.ringplan.proofs.main.Statement.{statement}
 use Rattle.ringplan.proofs.main.Tie as tie
 
@@ -25,18 +25,19 @@ render-requires : tie.Need-render-requires
 render-requires c κs = search needs
 
 array-share-prefix-out : tie.Need-array-share-prefix-out
-array-share-prefix-out c = omega (arith, c .before .render .ensures .fits, c .before .render .kept)
+array-share-prefix-out c = omega arith
 
 slice-aggregate-write-all : tie.Need-slice-aggregate-write-all
-slice-aggregate-write-all c =
-    let r = c .before .before .render in
-    sym (length-take-le _ _ (omega (arith, r .ensures .fits, r .kept)))
+slice-aggregate-write-all c = sym (length-take-le _ _ (omega arith))
 
 write-all-requires : tie.Need-write-all-requires
 write-all-requires c κs = search needs
 
 returns : tie.Need-returns
 returns c = search needs
+
+returns-2 : tie.Need-returns-2
+returns-2 c = search needs
 
 pub main-spec : {M : Type 1} → statement M
 main-spec =
@@ -51,4 +52,5 @@ main-spec =
     array-share-prefix-out
     slice-aggregate-write-all
     write-all-requires
-    returns)
+    returns
+    returns-2)
