@@ -775,6 +775,7 @@ static void compare(const struct file *given) {
         printf("library %u, %u; oracle %u, %u\n", answer / 256, answer % 256, v.number, v.place);
         fail(given, "verdicts differ");
     }
+    if (words_verdict(file, given->length) != answer) fail(given, "words.c has another verdict");
     seen[v.number]++;
     if (v.number == 10) uncut[v.place]++;
     if (v.number == 14) second_over += v.table.row[__builtin_ctzll(v.set[v.place])].way;
@@ -826,9 +827,7 @@ static void compare(const struct file *given) {
     uneven += v.intervals * v.interval != v.hyper;
     newly += !oracle_before(&v);
     static uint64_t other[MAX_SLOTS];
-    if (v.table.rings == 1
-        && (words_plan(file, given->length, other, v.hyper) || memcmp(other, plan, v.hyper * sizeof *other)))
-        fail(given, "words.c differs");
+    if (words_plan(file, given->length, other, v.hyper) || memcmp(other, plan, v.hyper * sizeof *other)) fail(given, "words.c differs");
     if (plain_plan(file, given->length, other, v.hyper) || memcmp(other, plan, v.hyper * sizeof *other)) fail(given, "plain.c differs");
     if (v.table.rows <= FEW_ROWS) {
         uint64_t had[MAX_ROWS] = {0}, load[MAX_ROWS], word[MAX_SLOTS];

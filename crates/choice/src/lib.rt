@@ -170,13 +170,15 @@ pub fn choose(
         return 0;
     }
     let h = size.hyper as u32;
-    let mut sum = [0u32; SETS];
-    add_parts(tail, head, part, rows, &mut sum);
-    let mut left = sum;
+    let mut left = [0u32; SETS];
+    add_parts(tail, head, part, rows, &mut left);
     let top = take_rows(tail, head, rows, h, &mut left);
     if all_less(&left, size.sets, h) {
         return top;
     }
+    // the sums again: a copy made before would wait, in every interval, for sums that were only just written
+    let mut sum = [0u32; SETS];
+    add_parts(tail, head, part, rows, &mut sum);
     let start = loads::compare(out, into, &sum, size, rows, top);
     let mended = loads::mend(tail, head, out, into, &sum, size, start);
     loads::raise_rows(tail, head, out, into, &sum, size, mended)

@@ -7,6 +7,7 @@ use Rattle.rules.specs.Bus.{Table}
 use Rattle.rules.specs.Loads.{hyperperiod}
 use Rattle.lags.proofs.Intervals.{hyperperiod-positive}
 use Rattle.time.specs.Time.{Timed}
+use Rattle.time.proofs.Periods.{periods-of, leading-periods}
 use Rattle.verdict.specs.declared.Analysis.{Analysis}
 use Rattle.verdict.specs.Analysed.{Accepted}
 
@@ -22,6 +23,9 @@ module _ {t : Table} {a : Analysis} (A : Accepted t a) where
 
   pub few-sets : a .outline .sets ≤ max-rows
   few-sets = let s = A .admissible .sound in omega (arith, A .outline .few)
+
+  pub few-periods : a .outline .time .count ≤ max-rows
+  few-periods = leading-periods (timed .leads) (periods-of (A .admissible .sound)) .few
 
   pub hyper-positive : 0 < a .outline .time .hyper
   hyper-positive = omega (arith, hyper-is, hyperperiod-positive (A .admissible .sound))

@@ -1,3 +1,4 @@
 pub mod Accepted
 pub mod Course
 pub mod Laying
+pub mod Shares

@@ -1,7 +1,6 @@
 -- A file's table, decoded row by row, and that only one answer fits.
 --
---   Decoding t i cost period first second    the columns hold the first i rows of t, and 0 in every other place
---   Blank t i                                all that t has of row i is 0
+--   Blank t i      all that t has of row i is 0
 use mathlib.Core.Path.{_≡_, refl, sym, ap, _∙_, fun-ext}
 use mathlib.Core.Logic.{_≢_}
 use mathlib.Core.List.{List}
@@ -25,18 +24,16 @@ use Rattle.rules.specs.TableFile.{fileRings, fileTable, fileLabelled}
 use Rattle.rules.specs.Refusals.{Check, Answers, header-checks, row-checks, file-checks}
 use Rattle.rules.proofs.Answers.{None, stopped, joined, answers-only}
 use Rattle.table.specs.Columns.{ByRow, Whole, tableOf, Holds, HoldsLabels, OneWay, noLabels}
-use Rattle.decoding.specs.Decoded.{refusal, Decodes}
+use Rattle.decoding.specs.Decoded.{StandsAt, Decoding, noHead, columnsBy, DecodesInto, refusal, Decodes}
+use Rattle.table.specs.Rows.{IsRow}
 use Rattle.table.specs.declared.Answer.{Answer}
+use Rattle.table.specs.declared.Row.{Row}
 use Rattle.table.specs.declared.columns.Columns.{Columns}
+use Rattle.decoding.specs.declared.Head.{Head}
 use Rattle.decoding.specs.declared.Decoded.{Decoded}
 use Rattle.table.proofs.ByRow.{by-row-start, by-row-put, by-row-all, past-end}
+use Rattle.table.proofs.Faults.{passed-of}
 use Rattle.table.proofs.RowSizes.{label-two, label-none, last-way, last-label}
-
-pub record Decoding (t : Table) (i : ℕ) (cost period first second : List ℕ) : Type 0 where
-  pub costs : ByRow i (t .cost) cost
-  pub periods : ByRow i (t .period) period
-  pub firsts : ByRow i (t .first) first
-  pub seconds : ByRow i (t .second) second
 
 pub decoding-start : (t : Table)
     → Decoding t 0 (replicate max-rows 0) (replicate max-rows 0) (replicate max-rows 0) (replicate max-rows 0)
@@ -55,6 +52,21 @@ decoding-next {c = c} {p = p} {f = f} {s = s} D l x y z w = record {
   periods = by-row-put p (D .periods) l y;
   firsts = by-row-put f (D .firsts) l z;
   seconds = by-row-put s (D .seconds) l w;
+}
+
+-- a row of the file is the table's; of labels nothing is said
+abbrev pub unlabelled : Table → Labelled
+unlabelled t = record { table = t; label = λ i. 0 }
+
+pub stands-row : {f : List ℕ} {i p d : ℕ} {r : Row} → StandsAt f p d r → p ≡ headerSize + rowSize (fileRings f) (version f) * i
+    → d ≡ fileTable f .way i → IsRow (unlabelled (fileTable f)) i r
+stands-row {f} S e w = record {
+  cost = S .cost ∙ ap (read16 f) e;
+  period = S .period ∙ ap (λ (k : ℕ). read16 f (k + 2)) e;
+  first = S .first ∙ ap (λ (k : ℕ). at f (k + 4)) e;
+  second = S .second ∙ ap (λ (k : ℕ). at f (k + 5)) e;
+  way = S .way ∙ w;
+  label = S .label;
 }
 
 -- with one ring no direction is read
@@ -198,14 +210,13 @@ module _ (f : List ℕ) where
 
 module _ (f : List ℕ) (a : Answer) where
   -- the header is refused
-  pub decodes-header : {n p : ℕ} → Answers (header-checks f) n p → n ≢ 0 → a .number ≡ n → a .place ≡ p
-      → Decodes (file-checks f) (fileLabelled f) (refusal a)
+  pub into-header : {cost period first second way : List ℕ} {n p : ℕ} → Answers (header-checks f) n p → n ≢ 0 → a .number ≡ n → a .place ≡ p
+      → DecodesInto (file-checks f) (fileTable f) (noHead a) cost period first second way
   unfolding file-checks
-  decodes-header {n} {p} h z e q = record {
+  into-header {n = n} {p = p} h z e q = record {
     answers = rw (e, q) (stopped (header-checks f) (row-checks (fileTable f)) n p z h);
     passed = λ k. absurd (z (sym e ∙ k));
-    labelled = λ k. absurd (z (sym e ∙ k));
-    refused = λ k. (refl, refl);
+    refused = λ k. refl;
   }
 
   module _ (s : None (header-checks f)) (h : Answers (row-checks (fileTable f)) (a .number) (a .place)) where
@@ -214,17 +225,36 @@ module _ (f : List ℕ) (a : Answer) where
     rows-decide = joined (header-checks f) (row-checks (fileTable f)) (a .number) (a .place) s h
 
     -- a row is refused
-    pub decodes-row : a .number ≢ 0 → Decodes (file-checks f) (fileLabelled f) (refusal a)
-    decodes-row z = record {
-      answers = rows-decide;
-      passed = λ k. absurd (z k);
-      labelled = λ k. absurd (z k);
-      refused = λ k. (refl, refl);
-    }
+    pub into-row : {cost period first second way : List ℕ} → a .number ≢ 0
+        → DecodesInto (file-checks f) (fileTable f) (noHead a) cost period first second way
+    into-row z = record { answers = rows-decide; passed = λ k. absurd (z k); refused = λ k. refl }
 
-    pub decodes-all : {c : Columns} {xs : List ℕ} → a .number ≡ 0 → Holds (fileTable f) c → HoldsLabels (fileLabelled f .label) xs
-        → Decodes (file-checks f) (fileLabelled f) (record { answer = a; columns = c; labels = xs })
-    decodes-all e H L = record { answers = rows-decide; passed = λ k. H; labelled = λ k. L; refused = λ k. absurd (k e) }
+    pub into-all : {cost period first second way : List ℕ} {m n r : ℕ} → a .number ≡ 0
+        → (let b : Head = record { answer = a; elements = m; rows = n; rings = r } in
+        Holds (fileTable f) (columnsBy b cost period first second way)
+        → DecodesInto (file-checks f) (fileTable f) b cost period first second way)
+    into-all e H = record { answers = rows-decide; passed = λ k. H; refused = λ k. absurd (k e) }
+
+-- where no check applies, the file is as long as it says
+pub whole-of : (f : List ℕ) (a : Answer) → a .number ≡ 0 → Answers (file-checks f) (a .number) (a .place) → Whole f
+whole-of f a z A =
+    let p = passed-of f (a .place) (rw z at A) in
+    record { size = p .size; few = p .sound .rows-high }
+
+-- with labels, in one struct
+module _ {cs : List Check} {t : Labelled} {h : Head} {cost period first second way : List ℕ}
+    (D : DecodesInto cs (t .table) h cost period first second way) where
+  pub decodes-refused : h .answer .number ≢ 0 → Decodes cs t (refusal (h .answer))
+  decodes-refused z = record {
+    answers = D .answers;
+    passed = λ k. absurd (z k);
+    labelled = λ k. absurd (z k);
+    refused = λ k. (refl, refl);
+  }
+
+  pub decodes-all : {xs : List ℕ} → h .answer .number ≡ 0 → HoldsLabels (t .label) xs
+      → Decodes cs t (record { answer = h .answer; columns = columnsBy h cost period first second way; labels = xs })
+  decodes-all e L = record { answers = D .answers; passed = D .passed; labelled = λ k. L; refused = λ k. absurd (k e) }
 
 -- ---- only one answer fits
 
@@ -269,3 +299,16 @@ decodes-only {cs} {t} {r} {s} D E =
         let a = D .refused h in
         let b = E .refused (λ q. h (e ∙ q)) in
         (a .0 ∙ sym (b .0), a .1 ∙ sym (b .1))
+
+pub into-only : {cs : List Check} {t : Table} {h k : Head} {cost period first second way cost' period' first' second' way' : List ℕ}
+    → DecodesInto cs t h cost period first second way → DecodesInto cs t k cost' period' first' second' way' → h ≡ k
+into-only {cs} {t} {h} {k} D E =
+    let z = answers-only cs _ _ _ _ (D .answers) (E .answers) in
+    let answer : h .answer ≡ k .answer = λ i. record { number = z .0 i; place = z .1 i } in
+    go answer (z .0) (ℕ-discrete (h .answer .number) 0)
+  where
+    go : h .answer ≡ k .answer → h .answer .number ≡ k .answer .number → Dec (h .answer .number ≡ 0) → h ≡ k
+    go a e (yes y) =
+        let same = holds-only (D .passed y) (E .passed (sym e ∙ y)) in
+        λ i. record { answer = a i; elements = same i .elements; rows = same i .rows; rings = same i .rings }
+    go a e (no n) = D .refused n ∙ ap noHead a ∙ sym (E .refused (λ q. n (e ∙ q)))

@@ -7,32 +7,23 @@ use Rattle.flow.specs.Network.{Put}
 use Rattle.loads.specs.Loads.{digit}
 use Rattle.interval.specs.Interval.{Given}
 
--- the rows below m have been given, and the others are as they were
-pub record Giving (m top : ℕ) (whole had x now : ℕ → ℕ) : Type 0 where
-  pub given : Given m top whole had x now
-  pub left : (i : ℕ) → m ≤ i → x i ≡ whole i
+-- the rows below m have been given, and the totals of the others are as they were
 
-pub giving-none : (top : ℕ) (whole had : ℕ → ℕ) → Giving 0 top whole had whole had
-giving-none top whole had = record {
-  given = record { rows = λ i l. absurd (omega arith); loads = λ i l. absurd (omega arith); spare = λ i l. refl };
-  left = λ i l. refl;
-}
+pub giving-none : (top : ℕ) (whole had x : ℕ → ℕ) → Given 0 top whole had x had
+giving-none top whole had x = record { rows = λ i l. absurd (omega arith); loads = λ i l. absurd (omega arith); spare = λ i l. refl }
 
-pub giving-next : (m top : ℕ) (whole had x now x' now' : ℕ → ℕ) → Giving m top whole had x now → had m ≤ whole m
-    → Put x m (whole m + digit top m - had m) x' → Put now m (whole m + digit top m) now' → Giving (m + 1) top whole had x' now'
+pub giving-next : (m top : ℕ) (whole had x now x' now' : ℕ → ℕ) → Given m top whole had x now → had m ≤ whole m
+    → Put x m (whole m + digit top m - had m) x' → Put now m (whole m + digit top m) now' → Given (m + 1) top whole had x' now'
 giving-next m top whole had x now x' now' G le p q = record {
-  given = record {
-    rows = λ i l. row i l (ℕ-discrete i m);
-    loads = λ i l. load i l (ℕ-discrete i m);
-    spare = λ i l. q .1 i (omega arith) ∙ G .given .spare i (omega arith);
-  };
-  left = λ i l. p .1 i (omega arith) ∙ G .left i (omega arith);
+  rows = λ i l. row i l (ℕ-discrete i m);
+  loads = λ i l. load i l (ℕ-discrete i m);
+  spare = λ i l. q .1 i (omega arith) ∙ G .spare i (omega arith);
 }
   where
     row : (i : ℕ) → i < m + 1 → Dec (i ≡ m) → now' i ≡ whole i + digit top i
     row i l (yes e) = rw e (q .0)
-    row i l (no e) = q .1 i e ∙ G .given .rows i (omega arith)
+    row i l (no e) = q .1 i e ∙ G .rows i (omega arith)
 
     load : (i : ℕ) → i < m + 1 → Dec (i ≡ m) → had i + x' i ≡ whole i + digit top i
     load i l (yes e) = rw e (omega (arith, p .0))
-    load i l (no e) = ap (λ (u : ℕ). had i + u) (p .1 i e) ∙ G .given .loads i (omega arith)
+    load i l (no e) = ap (λ (u : ℕ). had i + u) (p .1 i e) ∙ G .loads i (omega arith)

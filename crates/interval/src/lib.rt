@@ -5,8 +5,8 @@ use flow::PLACES;
 use loads::Size;
 use table::Table;
 ghost use mathlib.Core.Path.{_≡_};
-ghost use mathlib.Core.Bool.{_&&_};
-ghost use Prim.Native.Nat.{ℕ, _*_, _/_, _%_, _≤_, _<_};
+ghost use mathlib.Core.Bool.{true, _&&_};
+ghost use Prim.Native.Nat.{ℕ, _+_, _*_, _/_, _%_, _≤_, _<_};
 ghost use lib.Dec.{eqb};
 ghost use lib.ListN.{length};
 ghost use Rattle.numbers.specs.Lists.{at};
@@ -70,6 +70,73 @@ pub fn part_shares(
     parted
 }
 
+// The whole slots that two parts come to: 1, or none.
+fn carried(parts: u32, h: u32) -> u32
+    requires { ⌜ (0 < h) × (parts < h + h) ⌝ }
+    ensures { λ r. ⌜ r ≡ parts / h ⌝ }
+{
+    if parts < h {
+        return 0;
+    }
+    1
+}
+
+// Adds to each row's share another, as they stand where they are parted: of intervals of one length after the other it is the same, and a
+// sum takes less time than products. Gives the rows that have a part.
+pub fn add_shares<'a>(
+    more: &'a [u64; Table::ROWS],
+    over: &'a [u32; Table::ROWS],
+    size: Size,
+    whole: &mut [u64; Table::ROWS],
+    part: &mut [u32; Table::ROWS],
+) -> u64
+    requires { ⌜ (size .rows ≤ max-rows) × (0 < size .hyper) × (size .hyper ≤ max-slots)
+        × ((i : ℕ) → i < size .rows → (at (now whole) i ≤ share-most) × (at (now more) i ≤ share-most)
+        × (at (now part) i < size .hyper) × (at (now over) i < size .hyper))
+        × (length (now whole) ≡ max-rows) × (length (now part) ≡ max-rows) ⌝ }
+    ensures { λ r. ⌜ (length (now (whole .exit)) ≡ max-rows) × (length (now (part .exit)) ≡ max-rows)
+        × ((i : ℕ) → i < size .rows → (at (now (whole .exit)) i ≡ at (now (whole .entry)) i + at (now (more .entry)) i
+        + (at (now (part .entry)) i + at (now (over .entry)) i) / size .hyper)
+        × (at (now (part .exit)) i ≡ (at (now (part .entry)) i + at (now (over .entry)) i) % size .hyper))
+        × Uneven (size .rows) (at (now (part .exit))) r ⌝ }
+{
+    let h = size.hyper as u32;
+    let mut parted: u64 = 0;
+    let mut i: usize = 0;
+    while i < size.rows {
+        let parts = part[i] + over[i];
+        let carry = carried(parts, h);
+        let above = parts - carry * h;
+        whole[i] = whole[i] + more[i] + carry as u64;
+        part[i] = above;
+        parted = loads::mark(parted, i, 0 < above);
+        i += 1;
+    }
+    parted
+}
+
+// Parts the shares of so many slots, where that is asked for: `on` says so.
+pub fn first_shares(
+    rate: &[u16; Table::ROWS],
+    slots: u64,
+    on: bool,
+    size: Size,
+    inverse: u64,
+    whole: &mut [u64; Table::ROWS],
+    part: &mut [u32; Table::ROWS],
+)
+    requires { ⌜ (size .rows ≤ max-rows) × (0 < size .hyper) × (size .hyper ≤ max-slots) × Inverse (size .hyper) inverse
+        × (on ≡ true → (i : ℕ) → i < size .rows → at (now rate) i * slots ≤ share-most)
+        × (length (now whole) ≡ max-rows) × (length (now part) ≡ max-rows) ⌝ }
+    ensures { λ _. ⌜ (length (now (whole .exit)) ≡ max-rows) × (length (now (part .exit)) ≡ max-rows)
+        × (on ≡ true → (i : ℕ) → i < size .rows → (at (now (whole .exit)) i ≡ at (now (rate .entry)) i * slots / size .hyper)
+        × (at (now (part .exit)) i ≡ at (now (rate .entry)) i * slots % size .hyper)) ⌝ }
+{
+    if on {
+        part_shares(rate, slots, size, inverse, whole, part);
+    }
+}
+
 // ---- the rings
 
 // On how many rings there are rows to choose from.
@@ -124,17 +191,22 @@ pub fn round_rows<'a>(
 
 // ---- the totals
 
-// Gives each row its whole slots, and one more to those in the word `top`: `load` holds the whole slots, and then what a row gets beside
-// those it has had.
-pub fn give(top: u64, rows: usize, load: &mut [u64; Table::ROWS], totals: &mut [u64; Table::ROWS])
-    requires { ⌜ (rows ≤ max-rows) × ((i : ℕ) → i < rows → (at (now totals) i ≤ at (now load) i) × (at (now load) i ≤ max-slots))
+// Gives each row its whole slots, and one more to those in the word `top`: `load` is what a row gets beside those it has had.
+pub fn give(
+    top: u64,
+    rows: usize,
+    whole: &[u64; Table::ROWS],
+    load: &mut [u64; Table::ROWS],
+    totals: &mut [u64; Table::ROWS],
+)
+    requires { ⌜ (rows ≤ max-rows) × ((i : ℕ) → i < rows → (at (now totals) i ≤ at (now whole) i) × (at (now whole) i ≤ max-slots))
         × (length (now load) ≡ max-rows) × (length (now totals) ≡ max-rows) ⌝ }
     ensures { λ r. ⌜ (length (now (load .exit)) ≡ max-rows) × (length (now (totals .exit)) ≡ max-rows)
-        × Given rows top (at (now (load .entry))) (at (now (totals .entry))) (at (now (load .exit))) (at (now (totals .exit))) ⌝ }
+        × Given rows top (at (now (whole .entry))) (at (now (totals .entry))) (at (now (load .exit))) (at (now (totals .exit))) ⌝ }
 {
     let mut i: usize = 0;
     while i < rows {
-        let all = load[i] + (top >> i) % 2;
+        let all = whole[i] + (top >> i) % 2;
         load[i] = all - totals[i];
         totals[i] = all;
         i += 1;

@@ -28,6 +28,20 @@ use Rattle.rules.specs.Bus.{Table}
 use Rattle.rules.specs.Loads.{hyperperiod, jobEnd, nextEnd, start, end, intervals, someInterval, shortest, rate, equalPeriods}
 use Rattle.table.specs.Sound.{Sound}
 
+-- Costs say nothing of L.
+pub cost-unseen : (t : Table) (cost : ℕ → ℕ) → shortest record {
+  elements = t .elements;
+  rows = t .rows;
+  rings = t .rings;
+  cost = cost;
+  period = t .period;
+  first = t .first;
+  second = t .second;
+  way = t .way;
+} ≡ shortest t
+unfolding shortest someInterval nextEnd jobEnd hyperperiod
+cost-unseen t cost = refl
+
 module _ {t : Table} (S : Sound t) where
   pub period-positive : (i : ℕ) → i < t .rows → 0 < t .period i
   period-positive i l = S .row i l .period-low

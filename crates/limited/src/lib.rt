@@ -55,13 +55,32 @@ fn analysis_within<'a>(
         return Analysis::refused(answer);
     }
     let hyper = outline.time.hyper;
-    let rate = weights::rates(rows, hyper, cost, period);
+    let mut rate = [0u16; Table::ROWS];
+    weights::put_rates(rows, hyper, cost, period, &mut rate);
     let segments = ring::lay_segments(elements, rows, first, second, way);
     let kept = limits::kept_within(elements, rows, hyper, &rate, &segments, label, limits);
     if kept.number != Answer::DONE {
         return Analysis::refused(kept);
     }
-    verdict::weighed(rows, cost, period, outline, rate)
+    let weighing = verdict::weigh(
+        rows,
+        outline.top,
+        outline.time,
+        cost,
+        period,
+        &outline.first,
+        &outline.second,
+        &rate,
+    );
+    let next = weighing.answer;
+    if next.number != Answer::DONE {
+        return Analysis::refused(next);
+    }
+    Analysis {
+        outline: outline,
+        load: weighing.load,
+        rate: rate,
+    }
 }
 
 // A limit is above 1,000 thousandths.

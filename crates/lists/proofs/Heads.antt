@@ -98,14 +98,14 @@ unfolding list-file-checks entry-checks
 file-joined f n p a h = joined (head-checks f) (entries (fileList f)) n p a h
 
 -- A file that passes 1, 2, 3, 6, 30 and 31.
-pub record Passed (f : List ℕ) : Type 0 where
+pub record ListPassed (f : List ℕ) : Type 0 where
   pub long : listHeader ≤ length f
   pub marked : mark f ≡ list-mark
   pub versioned : version f ≡ list-version
   pub size : length f ≡ listHeader + entrySize * fileList f .entries
 
 -- of its head
-pub head-passed : (f : List ℕ) → None (head-checks f) → Passed f
+pub head-passed : (f : List ℕ) → None (head-checks f) → ListPassed f
 unfolding None
 head-passed f a =
     let l : listHeader ≤ length f = ⊎-elim (λ h. h) (λ h. absurd (a .0 h)) (le-or-lt listHeader (length f)) in
@@ -132,7 +132,7 @@ file-rest f a = a .1 .1 .1 .1
 pub file-right : (f : List ℕ) → None (list-file-checks f) → Right (fileList f)
 file-right f a = none-right-list (fileList f) (file-rest f a)
 
-pub passed-none : (f : List ℕ) → Passed f → Right (fileList f) → None (list-file-checks f)
+pub passed-none : (f : List ℕ) → ListPassed f → Right (fileList f) → None (list-file-checks f)
 unfolding list-file-checks None
 passed-none f p r = (
   λ h. let z : ⊥ = omega (arith, p .long) in z,

@@ -35,7 +35,7 @@ use Rattle.rules.proofs.Calls.{lent-take, call-none, call-must}
 use Rattle.table.proofs.Faults.{mark-at}
 use Rattle.lists.proofs.Heads.{
   Right,
-  Passed,
+  ListPassed,
   file-numbered,
   file-head,
   head-passed,
@@ -155,7 +155,7 @@ numbers-whole e h xs q =
     rows-whole 0 entryNumbers (memoryList e h xs .entries) (λ k. inMemory (memoryEntry xs k)) xs (omega (arith, q))
     (λ i l. rw (zero-add (entryNumbers * i), add-zero (entryNumbers * i)))
 
-head-whole : (f : List ℕ) → Bytes f → Passed f → fileHead (fileList f .element) (fileList f .hyper) ≡ take listHeader f
+head-whole : (f : List ℕ) → Bytes f → ListPassed f → fileHead (fileList f .element) (fileList f .hyper) ≡ take listHeader f
 unfolding each
 head-whole f b p =
     let low : at f 3 ≡ 1 = omega (arith, p .versioned) in
@@ -179,7 +179,7 @@ entry-whole f i b =
     let p : ℕ = listHeader + entrySize * i in
     rw (low-of (at f p) (at f (p + 1)) (b p), high-of (at f p) (at f (p + 1)) (b p), add-zero p)
 
-pub bytes-whole : (f : List ℕ) → Bytes f → Passed f → listBytes (fileList f) ≡ f
+pub bytes-whole : (f : List ℕ) → Bytes f → ListPassed f → listBytes (fileList f) ≡ f
 unfolding listBytes
 bytes-whole f b p =
     ap (λ (r : List ℕ). r ++ each (fileList f .entries) (λ k. inFile (fileEntry f k))) (head-whole f b p)

@@ -92,8 +92,8 @@ module _ (l : Live) (row : Entry) where
   rest = repeated-row L e ∷ no-free-place L ∷ long-with L e ∷ []
 
   -- the number of 18 and 24 that is found first, 0 where neither is
-  abbrev pub Found : ℕ → Type 0
-  Found n = n ≡ cond (repeated L e) 18 (cond (eqb (free L) max-rows) 24 0)
+  abbrev pub SeatNumber : ℕ → Type 0
+  SeatNumber n = n ≡ cond (repeated L e) 18 (cond (eqb (free L) max-rows) 24 0)
 
   -- the answer of a refusal
   pub add-refused : (n : ℕ) → n ≢ 0 → Sized l → Answers (add-checks L e) n 0 → AddAnswer l row (unchanged l n)
@@ -125,7 +125,7 @@ module _ (l : Live) (row : Entry) where
           add-refused 24 (λ z. omega (arith, z)) Z
           (sound 24 0 (passed (repeated-row L e) _ 24 0 R (applied (no-free-place L) _ 24 0 t refl refl)))
 
-      pub add-found : (n : ℕ) → Found n → n ≢ 0 → AddAnswer l row (unchanged l n)
+      pub add-found : (n : ℕ) → SeatNumber n → n ≢ 0 → AddAnswer l row (unchanged l n)
       add-found n q h = go (repeated L e) (eqb (free L) max-rows) refl refl
         where
           go : (a b : Bool) → repeated L e ≡ a → eqb (free L) max-rows ≡ b → AddAnswer l row (unchanged l n)
@@ -137,7 +137,7 @@ module _ (l : Live) (row : Entry) where
               rw z (add-full (of-false p) (all-held L (eqb→eq (free L) max-rows (of-true s))))
           go false false p s = absurd (h (q ∙ ap₂ (λ (c d : Bool). cond c 18 (cond d 24 0)) p s))
 
-      pub add-clear : (n : ℕ) → Found n → n ≡ 0 → (T (repeated L e) → ⊥) × (free L < max-rows)
+      pub add-clear : (n : ℕ) → SeatNumber n → n ≡ 0 → (T (repeated L e) → ⊥) × (free L < max-rows)
       add-clear n q e′ = go (repeated L e) (eqb (free L) max-rows) refl refl
         where
           go : (a b : Bool) → repeated L e ≡ a → eqb (free L) max-rows ≡ b → (T (repeated L e) → ⊥) × (free L < max-rows)

@@ -255,15 +255,15 @@ made-in-order M m c =
     rw (c .done refl) (new-in-order M (r .0) (r .1))
 
 -- what an addition that no check refuses may count on
-pub record Admitted (l : Live) (e : Entry) : Type 0 where
+pub record Addable (l : Live) (e : Entry) : Type 0 where
   pub order : InOrder l
   pub welcome : Welcome l e
   pub room : T (every max-rows (held l)) → ⊥
   pub short : common (placed l (free l) e) ≤ max-slots
 
-pub admitted : (l : Live) (e : Entry) → InOrder l → None (add-checks l e) → Admitted l e
+pub addable : (l : Live) (e : Entry) → InOrder l → None (add-checks l e) → Addable l e
 unfolding None
-admitted l e O n = record {
+addable l e O n = record {
   order = O;
   welcome = record {
     allowed = inr (row-sound (alone l e) 0 (n .1 .0, (n .1 .1 .0, (n .1 .1 .1 .0, (n .1 .1 .1 .1 .0, tt)))));
@@ -278,7 +278,7 @@ added-in-order l m e number place taken O c = go (ℕ-discrete number 0)
   where
     go : Dec (number ≡ 0) → InOrder m
     go (yes z) =
-        let A = admitted l e O (call-none {p = place} (add-numbered l e) (rw z at c)) in
+        let A = addable l e O (call-none {p = place} (add-numbered l e) (rw z at c)) in
         rw (c .done z .1) (put-in-order (O .rows) (free l) (A .welcome) (A .short))
     go (no z) = rw (c .refused z .1) O
 

@@ -44,9 +44,9 @@ use Rattle.decoding.proofs.OneRing.{OtherMark, other-mark, own-mark, one-number
 use Rattle.ring.specs.Route.{rowSegments}
 use Rattle.verdict.specs.Analysed.{table-checks}
 use Rattle.verdict.proofs.Bound.{verdict-numbered, verdict-split, admissible-of}
-use Rattle.moves.specs.Words.{Laid, LowestBad, endingAt, planMoves, Clear}
+use Rattle.moves.specs.Words.{Segmented, LowestBad, endingAt, planMoves, Clear}
 use Rattle.moves.proofs.Made.{plan-moves, clean-clear}
-use Rattle.maker.specs.declared.Found.{Found}
+use Rattle.maker.specs.declared.Source.{Source}
 use Rattle.maker.specs.Finding.{word-checks, early-checks, Finds}
 
 -- ---- the checks
@@ -123,7 +123,7 @@ module _ (t : Table) (plan : List ℕ) (e : ℕ) where
 
 -- ---- what the list is written from
 
-pub found-refused : {t : Table} {plan : List ℕ} {e : ℕ} {cs : List Check} (a : Answer) (r : Found) → r .answer ≡ a → a .number ≢ 0
+pub found-refused : {t : Table} {plan : List ℕ} {e : ℕ} {cs : List Check} (a : Answer) (r : Source) → r .answer ≡ a → a .number ≢ 0
     → Answers (early-checks cs t plan e) (a .number) (a .place) → Finds cs t plan e r
 found-refused a r q h A = record { answers = rw q A; ready = λ z. absurd (h (sym (ap (λ (b : Answer). b .number) q) ∙ z)) }
 
@@ -132,7 +132,7 @@ unfolding Numbered
 found-none t plan e n p z a = none-of (early-checks [] t plan e) p (early-numbered t plan e [] tt) (rw z at a)
 
 pub laid-of : {t : Table} (xs : List ℕ) → Sound t → t .rings ≡ 1
-    → ByRow (t .rows) (λ i. rowSegments (t .elements) (t .way i) (t .first i) (t .second i)) xs → Laid t xs
+    → ByRow (t .rows) (λ i. rowSegments (t .elements) (t .way i) (t .first i) (t .second i)) xs → Segmented t xs
 laid-of xs S one B = record { way = λ i l. omega (arith, one, S .row i l .way-known); row = B .row }
 
 module _ {t : Table} (S : Sound t) (plan : List ℕ) (e : ℕ) where
@@ -152,7 +152,7 @@ module _ {t : Table} (S : Sound t) (plan : List ℕ) (e : ℕ) where
   pub long-of : None (early-checks [] t plan e) → hyperperiod t ≤ length plan
   long-of a = ⊎-elim (λ l. l) (λ l. absurd (plan-long t plan e a l)) (le-or-lt (hyperperiod t) (length plan))
 
-  pub found-ready : (r : Found) → t .rings ≡ 1 → None (early-checks [] t plan e)
+  pub found-ready : (r : Source) → t .rings ≡ 1 → None (early-checks [] t plan e)
       → Answers (early-checks [] t plan e) (r .answer .number) (r .answer .place) → r .hyper ≡ hyperperiod t → r .hyper ≤ max-slots
       → r .into ≡ into → r .from ≡ from → r .entries ≡ length (planMoves (r .into) (r .from) (r .hyper) plan)
       → r .entries ≤ 2 * r .hyper → Finds [] t plan e r
@@ -187,13 +187,13 @@ module _ (f : List ℕ) (plan : List ℕ) (e : ℕ) where
   t = fileTable f
 
   -- one of these refuses
-  pub verdict-stops : (a : Answer) (r : Found) → r .answer ≡ a → a .number ≢ 0 → Answers (judging f) (a .number) (a .place)
+  pub verdict-stops : (a : Answer) (r : Source) → r .answer ≡ a → a .number ≢ 0 → Answers (judging f) (a .number) (a .place)
       → Finds (judging f) t plan e r
   verdict-stops a r q h A =
       found-refused a r q h
       (rw (after t plan e (judging f)) (stopped (judging f) (early-checks [] t plan e) (a .number) (a .place) h A))
 
-  pub mark-stops : (a : Answer) (r : Found) → r .answer ≡ a → (a .number ≡ 2) × (a .place ≡ 0) → OtherMark f → Finds (judging f) t plan e r
+  pub mark-stops : (a : Answer) (r : Source) → r .answer ≡ a → (a .number ≡ 2) × (a .place ≡ 0) → OtherMark f → Finds (judging f) t plan e r
   mark-stops a r q z w =
       verdict-stops a r q (λ n. let y : ⊥ = omega (arith, n, z .0) in y) (rw (z .0, z .1) (other-mark f (verdict-checks f) w))
 
@@ -213,7 +213,7 @@ module _ (f : List ℕ) (plan : List ℕ) (e : ℕ) where
         D .passed (z .0) .table
 
     -- what is found of it is found of the file's
-    pub admitted-finds : (d : Decoded) → Decodes (file-checks f) (fileLabelled f) d → (r : Found)
+    pub admitted-finds : (d : Decoded) → Decodes (file-checks f) (fileLabelled f) d → (r : Source)
         → Finds [] (tableOf (d .columns)) plan e r → Finds (judging f) t plan e r
     admitted-finds d D r F =
         let G : Finds [] t plan e r = subst (λ (u : Table). Finds [] u plan e r) (admitted-columns d D) F in

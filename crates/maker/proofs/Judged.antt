@@ -21,13 +21,13 @@ use Rattle.verdict.specs.declared.Verdict.{Verdict}
 use Rattle.verdict.specs.declared.Verdict.the-variants.{Admitted, Refused}
 use Rattle.verdict.specs.Verdict.{numberOf, placeOf, IsVerdict}
 use Rattle.verdict.proofs.Judging.{refused-number}
-use Rattle.maker.specs.declared.Found.{Found}
+use Rattle.maker.specs.declared.Source.{Source}
 use Rattle.maker.specs.Finding.{Finds}
 use Rattle.maker.proofs.Finding.{judged-numbered, own-verdict, verdict-stops, admitted-table, admitted-columns}
 
 -- it refuses
 pub judged-refused : (f plan : List ℕ) (e : ℕ) (v : Verdict) (a : Answer) → (OtherMark f → ⊥) → IsVerdict f v → v ≡ Refused a → (n p : ℕ)
-    → n ≡ numberOf v → p ≡ placeOf v → (r : Found) → r .answer ≡ record { number = n; place = p }
+    → n ≡ numberOf v → p ≡ placeOf v → (r : Source) → r .answer ≡ record { number = n; place = p }
     → Finds (oneRingAsk f .checks) (fileTable f) plan e r
 judged-refused f plan e v a own X q n p i j r k =
     let h : n ≢ 0 = rw (i, q) (refused-number a (subst (IsVerdict f) q X)) in

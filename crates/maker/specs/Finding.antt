@@ -2,7 +2,7 @@
 --
 --   word-checks cs t plan e     the maker's checks before 17: cs, 29, 19
 --   early-checks cs t plan e    the maker's checks but that of its output: these, and 17 for a short plan
---   Ready t plan e r            r has what the list of element e is written from
+--   Makeable t plan e r            r has what the list of element e is written from
 --   Finds cs t plan e r         r answers these checks, and is ready where none applies
 use mathlib.Core.Path.{_≡_}
 use mathlib.Core.List.{List, [], _∷_, _++_}
@@ -15,7 +15,7 @@ use Rattle.rules.specs.Loads.{hyperperiod}
 use Rattle.rules.specs.ElementList.{elementMoves}
 use Rattle.rules.specs.Refusals.{Check, Answers, wrong-element, bad-word, short-output}
 use Rattle.moves.specs.Words.{planMoves, Clear}
-use Rattle.maker.specs.declared.Found.{Found}
+use Rattle.maker.specs.declared.Source.{Source}
 
 abbrev pub word-checks : List Check → Table → (plan : List ℕ) (element : ℕ) → List Check
 word-checks cs t plan element = cs ++ (wrong-element t element ∷ []) ++ each (hyperperiod t) (λ s. bad-word t plan s ∷ [])
@@ -23,7 +23,7 @@ word-checks cs t plan element = cs ++ (wrong-element t element ∷ []) ++ each (
 abbrev pub early-checks : List Check → Table → (plan : List ℕ) (element : ℕ) → List Check
 early-checks cs t plan element = word-checks cs t plan element ++ (short-output (length plan < hyperperiod t) ∷ [])
 
-pub record Ready (t : Table) (plan : List ℕ) (element : ℕ) (r : Found) : Type 0 where
+pub record Makeable (t : Table) (plan : List ℕ) (element : ℕ) (r : Source) : Type 0 where
   pub hyper : r .hyper ≡ hyperperiod t
   pub short : r .hyper ≤ max-slots
   pub long : r .hyper ≤ length plan
@@ -33,6 +33,6 @@ pub record Ready (t : Table) (plan : List ℕ) (element : ℕ) (r : Found) : Typ
   pub entries : r .entries ≡ length (elementMoves t element plan)
   pub few : r .entries ≤ 2 * max-slots
 
-pub record Finds (cs : List Check) (t : Table) (plan : List ℕ) (element : ℕ) (r : Found) : Type 0 where
+pub record Finds (cs : List Check) (t : Table) (plan : List ℕ) (element : ℕ) (r : Source) : Type 0 where
   pub answers : Answers (early-checks cs t plan element) (r .answer .number) (r .answer .place)
-  pub ready : r .answer .number ≡ 0 → Ready t plan element r
+  pub ready : r .answer .number ≡ 0 → Makeable t plan element r

@@ -21,7 +21,7 @@ ghost use Rattle.maker.specs.Finding.{early-checks, Finds};
 
 // What a list is written from: the first refusal, or how many slots and entries there are, and the words of the rows that come to the
 // element and of those that leave it.
-struct Found {
+struct Source {
     answer: Answer,
     hyper: usize,
     entries: usize,
@@ -29,10 +29,10 @@ struct Found {
     from: u64,
 }
 
-fn nothing(answer: Answer) -> Found
+fn nothing(answer: Answer) -> Source
     ensures { λ r. ⌜ r .answer ≡ answer ⌝ }
 {
-    Found {
+    Source {
         answer: answer,
         hyper: 0,
         entries: 0,
@@ -63,7 +63,7 @@ fn fault(elements: usize, element: u64, slot: usize, words: usize, hyper: usize)
 }
 
 // What is found of a sound table of one ring, whose hyperperiod is known, and a plan.
-fn find_on(table: Columns, hyper: usize, plan: &[u64], element: u64) -> Found
+fn find_on(table: Columns, hyper: usize, plan: &[u64], element: u64) -> Source
     requires { ⌜ Sound (tableOf table) × (hyper ≡ hyperperiod (tableOf table)) × (hyper ≤ max-slots) × (table .rings ≡ 1) ⌝ }
     ensures { λ r. ⌜ Finds [] (tableOf table) (now (plan .entry)) element r ⌝ }
 {
@@ -81,7 +81,7 @@ fn find_on(table: Columns, hyper: usize, plan: &[u64], element: u64) -> Found
     }
     let into = moves::ending_at(table.rows, &table.second, element as usize);
     let from = moves::ending_at(table.rows, &table.first, element as usize);
-    Found {
+    Source {
         answer: answer,
         hyper: hyper,
         entries: moves::count(plan, hyper, into, from),
@@ -91,7 +91,7 @@ fn find_on(table: Columns, hyper: usize, plan: &[u64], element: u64) -> Found
 }
 
 // The same of a file's table, after the verdict's. A table of one ring alone is taken.
-fn find_in(file: &[u8], plan: &[u64], element: u64) -> Found
+fn find_in(file: &[u8], plan: &[u64], element: u64) -> Source
     ensures { λ r. ⌜ Finds (oneRingAsk (now (file .entry)) .checks) (fileTable (now (file .entry))) (now (plan .entry)) element r ⌝ }
 {
     if decoding::has_other_mark(file) {

@@ -1,7 +1,7 @@
 -- The moves of an element in a plan, by words.
 --
 --   endingAt n ends e  the word of the rows, of n, that end at element e
---   Laid t xs          all rows run clockwise, as on one ring they do, and xs holds the segments of each row's route
+--   Segmented t xs     all rows run clockwise, as on one ring they do, and xs holds the segments of each row's route
 --   picked x s d       an entry for each bit of the word x, in slot s and way d
 --   wordMoves a b s w  the moves in slot s, whose word is w, where a has the rows that come to the element and b those that leave it
 --   planMoves a b n ws the moves in the first n words of the plan ws
@@ -25,7 +25,7 @@ use Rattle.ring.specs.Route.{rowSegments}
 abbrev pub endingAt : (n : ℕ) (ends : ℕ → ℕ) (e : ℕ) → ℕ
 endingAt n ends e = word n (λ i. eqb (ends i) e)
 
-pub record Laid (t : Table) (xs : List ℕ) : Type 0 where
+pub record Segmented (t : Table) (xs : List ℕ) : Type 0 where
   pub way : (i : ℕ) → i < t .rows → t .way i ≡ clockwise
   pub row : (i : ℕ) → i < t .rows → at xs i ≡ rowSegments (t .elements) (t .way i) (t .first i) (t .second i)
 

@@ -16,7 +16,7 @@ ghost use Rattle.rules.specs.Bounds.{max-rows, max-slots};
 ghost use Rattle.rules.specs.Bus as bus;
 ghost use Rattle.rules.specs.ElementList.{listHeader, entrySize, entryNumbers, inMemory, inFile, BadWord};
 ghost use Rattle.rules.specs.Calls.{lent};
-ghost use Rattle.moves.specs.Words.{endingAt, Laid, picked, planMoves, AtMostOne, Clear, flat, LowestBad};
+ghost use Rattle.moves.specs.Words.{endingAt, Segmented, picked, planMoves, AtMostOne, Clear, flat, LowestBad};
 
 // The word of the rows that end at an element.
 pub fn ending_at(rows: usize, ends: &[u8; Table::ROWS], element: usize) -> u64
@@ -57,7 +57,7 @@ fn segments_at(routes: &[u32; Table::ROWS], i: usize) -> u32
 // Whether a word has overlapping rows, or a bit past the last row. `used` are the segments of its rows so far.
 fn is_bad(rows: usize, routes: &[u32; Table::ROWS], word: u64) -> bool
     requires { ⌜ rows ≤ max-rows ⌝ }
-    ensures { λ r. ⌜ ((t : bus.Table) → t .rows ≡ rows → Laid t (now (routes .entry)) → Decides (BadWord t word) r) ⌝ }
+    ensures { λ r. ⌜ ((t : bus.Table) → t .rows ≡ rows → Segmented t (now (routes .entry)) → Decides (BadWord t word) r) ⌝ }
 {
     if past_last(rows, word) {
         return true;
@@ -80,7 +80,7 @@ fn is_bad(rows: usize, routes: &[u32; Table::ROWS], word: u64) -> bool
 // The lowest of the first `hyper` slots whose word is bad; `hyper` where none is. A plan that is too short has no more words.
 pub fn lowest_bad(rows: usize, routes: &[u32; Table::ROWS], plan: &[u64], hyper: usize) -> usize
     requires { ⌜ rows ≤ max-rows ⌝ }
-    ensures { λ r. ⌜ ((t : bus.Table) → t .rows ≡ rows → Laid t (now (routes .entry)) → LowestBad t (now (plan .entry)) hyper r) ⌝ }
+    ensures { λ r. ⌜ ((t : bus.Table) → t .rows ≡ rows → Segmented t (now (routes .entry)) → LowestBad t (now (plan .entry)) hyper r) ⌝ }
 {
     let mut slot: usize = 0;
     while slot < hyper {

@@ -110,8 +110,5 @@ pair-lcm-by a b g pa G =
 pub pair-lcm : (a b : ℕ) → 0 < a → (m : ℕ) × IsLcm a b m
 pair-lcm a b pos = let r = pair-gcd a b in (a / r .0 * b, pair-lcm-by a b (r .0) pos (r .1))
 
-pub pair-lcm-only : {a b m n : ℕ} → IsLcm a b m → IsLcm a b n → m ≡ n
-pair-lcm-only {m = m} {n = n} M N = dvd-antisymm (M .least n (N .left) (N .right)) (N .least m (M .left) (M .right))
-
 pub pair-lcm-positive : {a b m : ℕ} → 0 < a → 0 < b → IsLcm a b m → 0 < m
 pair-lcm-positive {a} {b} pa pb M = pos-of-dvd-of-pos (M .least (a * b) (dvd-mul-right a b) (dvd-mul-left b a)) (mul-pos pa pb)

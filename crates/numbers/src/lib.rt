@@ -1,7 +1,7 @@
 ghost use mathlib.Core.Path.{_≡_};
 ghost use Prim.Native.Nat.{_^_, _<_};
 ghost use lib.IntN.{pos, _-ℤ_};
-ghost use Rattle.numbers.specs.Pairs.{IsGcd, IsLcm};
+ghost use Rattle.numbers.specs.Pairs.{IsGcd};
 ghost use Rattle.numbers.specs.Word.{Stretch};
 
 // The greatest common divisor, by remainders.
@@ -16,14 +16,6 @@ pub fn gcd_of(a: u64, b: u64) -> u64
         y = r;
     }
     x
-}
-
-// The least common multiple; the bounds keep it a u64.
-pub fn lcm_of(a: u64, b: u64) -> u64
-    requires { ⌜ (0 < a) × (0 < b) × (a < 2 ^ 32) × (b < 2 ^ 32) ⌝ }
-    ensures { λ r. ⌜ IsLcm a b r ⌝ }
-{
-    a / gcd_of(a, b) * b
 }
 
 // a less b, as a whole number.

@@ -150,8 +150,8 @@ pub fn layout_of<'a>(
     if uncut < Table::RINGS {
         return Layout::refused(Answer::at(Answer::NO_CUT, uncut));
     }
-    let hyper = time::hyperperiod_of(rows, period);
-    if hyper == 0 {
+    let time = Time::of(rows, period);
+    if time.hyper == 0 {
         return Layout::refused(Answer::at(Answer::LONG_HYPERPERIOD, 0));
     }
     Layout {
@@ -159,7 +159,7 @@ pub fn layout_of<'a>(
         cut: board_cut(elements, rows, rings, way, 0, cut),
         other: board_cut(elements, rows, rings, way, 1, other),
         top: rings * (elements + 1),
-        time: Time::of(hyper, rows, period),
+        time: time,
         line: ring::lay(elements, rows, rings, first, second, way, cut, other),
     }
 }

@@ -11,38 +11,25 @@ ghost use Rattle.stretches.specs.Stretches.{most-stretches, Tiles, Parted, Repe
 // Each row parts one stretch at most.
 pub const STRETCHES: usize = Table::ROWS + 1;
 
-// Parts stretch `k`, which begins at slot `start`, where it has more than `most` slots: those past them become stretch `new`. Gives how
-// many slots the stretch then has.
+// Parts stretch `k` before slot `middle`: the slots from there on become stretch `new`.
 pub fn part(
     end: &mut [u16; STRETCHES],
     last: &mut [u8; STRETCHES],
     after: &mut [u8; STRETCHES],
-    words: &mut [u64],
     k: usize,
-    start: usize,
-    most: usize,
+    middle: usize,
     new: usize,
-) -> usize
+)
     requires { ⌜ (length (now end) ≡ most-stretches) × (length (now last) ≡ most-stretches) × (length (now after) ≡ most-stretches)
-        × (k < most-stretches) × (new < most-stretches) × (start ≤ at (now end) k) × (at (now end) k ≤ max-slots)
-        × (at (now end) k ≤ length (now words)) ⌝ }
-    ensures { λ r. ⌜ Parted k start most new r
-        (now (end .entry)) (now (last .entry)) (now (after .entry)) (now (words .entry))
-        (now (end .exit)) (now (last .exit)) (now (after .exit)) (now (words .exit)) ⌝ }
+        × (k < most-stretches) × (new < most-stretches) × (middle ≤ max-slots) ⌝ }
+    ensures { λ r. ⌜ Parted k middle new (now (end .entry)) (now (last .entry)) (now (after .entry))
+        (now (end .exit)) (now (last .exit)) (now (after .exit)) ⌝ }
 {
-    let to = end[k];
-    let size = to as usize - start;
-    if size <= most {
-        return size;
-    }
-    let middle = start + most;
-    end[new] = to;
+    end[new] = end[k];
     last[new] = last[k];
     after[new] = after[k];
-    words[middle] = words[start];
     end[k] = middle as u16;
     after[k] = new as u8;
-    most
 }
 
 // Writes the word at slot `from` to the slots after it, up to slot `to`.

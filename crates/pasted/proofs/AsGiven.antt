@@ -13,15 +13,17 @@ use Rattle.numbers.proofs.Truth.{both, fst, snd, decide, along, same, eqb-of}
 use Rattle.numbers.proofs.Finite.{any-of, any-eq, least, lowest-has, lowest-below}
 use Rattle.numbers.proofs.Word.{bit-word}
 use Rattle.rules.specs.Bounds.{max-elements, max-rows}
-use Rattle.rules.specs.Bus.{Table, pasted}
-use Rattle.rules.specs.TableFile.{fileTable, fileLabelled}
-use Rattle.rules.specs.Refusals.{Answers, pasted-row, file-checks, pasted-checks, given-checks}
+use Rattle.rules.specs.Bus.{Table, Labelled, pasted}
+use Rattle.rules.specs.TableFile.{fileTable}
+use Rattle.rules.specs.Refusals.{Check, Answers, pasted-row, file-checks, pasted-checks, given-checks}
 use Rattle.rules.proofs.Answers.{None, Numbered, stopped, joined, answered, none-of, none-left, none-join, numbered-join, answers-only}
 use Rattle.rules.proofs.Answers.{single-none, single-numbered, single-stopped}
 use Rattle.table.specs.Sound.{Sound, Passed}
-use Rattle.table.specs.Columns.{tableOf}
-use Rattle.decoding.specs.Decoded.{refusal, Decodes}
+use Rattle.table.specs.Columns.{tableOf, Holds}
+use Rattle.decoding.specs.Decoded.{noHead, DecodesInto, refusal, Decodes}
 use Rattle.table.specs.declared.Answer.{Answer}
+use Rattle.table.specs.declared.columns.Columns.{Columns}
+use Rattle.decoding.specs.declared.Head.{Head}
 use Rattle.decoding.specs.declared.Decoded.{Decoded}
 use Rattle.table.proofs.Faults.{file-numbered, passed-none}
 use Rattle.sets.proofs.Sums.{without, other}
@@ -102,65 +104,71 @@ module _ (f : List ℕ) where
   pub given-of : (p : ℕ) → Answers (given-checks f) 0 p → Passed f
   given-of p a = given-passed (none-of (given-checks f) p given-numbered a)
 
-  module _ (r : Decoded) (D : Decodes (file-checks f) (fileLabelled f) r) where
+  -- an answer of 1 to 9 and 26, and the columns beside it
+  module _ (a : Answer) (c : Columns) (A : Answers (file-checks f) (a .number) (a .place)) (H : a .number ≡ 0 → Holds t c) where
     -- 1 to 9 refuse
-    pub given-refused : r .answer .number ≢ 0 → Decodes (given-checks f) (fileLabelled f) r
+    pub given-stopped : a .number ≢ 0 → Answers (given-checks f) (a .number) (a .place)
     unfolding given-checks
-    given-refused h = record {
-      answers = stopped (file-checks f) (pasted-checks t) (r .answer .number) (r .answer .place) h (D .answers);
-      passed = D .passed;
-      labelled = D .labelled;
-      refused = D .refused;
-    }
+    given-stopped h = stopped (file-checks f) (pasted-checks t) (a .number) (a .place) h A
 
-    module _ (z : r .answer .number ≡ 0) where
+    module _ (z : a .number ≡ 0) where
       none : None (file-checks f)
-      none = none-of (file-checks f) (r .answer .place) (file-numbered f) (rw z at (D .answers))
-
-      held : tableOf (r .columns) ≡ t
-      held = D .passed z .table
+      none = none-of (file-checks f) (a .place) (file-numbered f) (rw z at A)
 
       -- the ends are on the ring
-      pub given-ends : (r .columns .rows ≤ max-rows) × ((i : ℕ) → i < r .columns .rows → at (r .columns .first) i ≤ max-elements)
+      pub given-ends : (c .rows ≤ max-rows) × ((i : ℕ) → i < c .rows → at (c .first) i ≤ max-elements)
       given-ends =
-          let s : Sound (tableOf (r .columns)) = rw held (passed-none f none .sound) in
+          let s : Sound (tableOf c) = rw (H z .table) (passed-none f none .sound) in
           (s .rows-high, λ i l. let row = s .row i l in omega arith)
 
-      module _ (i : ℕ) (e : i ≡ lowest (r .columns .rows) (pasted (tableOf (r .columns)))) where
+      module _ (i : ℕ) (e : i ≡ lowest (c .rows) (pasted (tableOf c))) where
         is-lowest : i ≡ lowest (t .rows) (pasted t)
-        is-lowest = subst (λ (u : Table). i ≡ lowest (u .rows) (pasted u)) held e
+        is-lowest = subst (λ (u : Table). i ≡ lowest (u .rows) (pasted u)) (H z .table) e
 
-        rows-are : r .columns .rows ≡ t .rows
-        rows-are = ap (λ (u : Table). u .rows) held
+        rows-are : c .rows ≡ t .rows
+        rows-are = ap (λ (u : Table). u .rows) (H z .table)
 
         -- 18 refuses
-        pub given-pasted : i < r .columns .rows → (a : Answer) → (a .number ≡ 18) × (a .place ≡ i)
-            → Decodes (given-checks f) (fileLabelled f) (refusal a)
+        pub given-pasted : i < c .rows → Answers (given-checks f) 18 i
         unfolding given-checks pasted-checks
-        given-pasted l a q =
+        given-pasted l =
             let m : lowest (t .rows) (pasted t) < t .rows = omega (arith, is-lowest, rows-are) in
-            record {
-              answers =
-                  rw (q .0, q .1) (joined (file-checks f) (pasted-checks t) 18 i none
-                  (single-stopped (pasted-row t) (t .rows) i (omega (arith, rows-are)) (omega arith)
-                  (λ j h. lowest-below (t .rows) (pasted t) j (omega (arith, is-lowest)))
-                  (rw is-lowest (lowest-has (t .rows) (pasted t) m))));
-              passed = λ k. absurd (omega (arith, q .0));
-              labelled = λ k. absurd (omega (arith, q .0));
-              refused = λ k. (refl, refl);
-            }
+            joined (file-checks f) (pasted-checks t) 18 i none
+            (single-stopped (pasted-row t) (t .rows) i (omega (arith, rows-are)) (omega arith)
+            (λ j h. lowest-below (t .rows) (pasted t) j (omega (arith, is-lowest)))
+            (rw is-lowest (lowest-has (t .rows) (pasted t) m)))
 
         -- nothing does
-        pub given-whole : r .columns .rows ≤ i → Decodes (given-checks f) (fileLabelled f) r
+        pub given-whole : c .rows ≤ i → Answers (given-checks f) (a .number) (a .place)
         unfolding given-checks pasted-checks
         given-whole l =
             let all : None (given-checks f) =
             none-join (file-checks f) (pasted-checks t) none
             (single-none (pasted-row t) (t .rows) (λ j h. lowest-below (t .rows) (pasted t) j (omega (arith, is-lowest, rows-are)))) in
-            let still = answers-only (file-checks f) _ 0 _ 0 (D .answers) (answered (file-checks f) none) in
-            record {
-              answers = rw (still .0, still .1) (answered (given-checks f) all);
-              passed = D .passed;
-              labelled = D .labelled;
-              refused = D .refused;
-            }
+            let still = answers-only (file-checks f) _ 0 _ 0 A (answered (file-checks f) none) in
+            rw (still .0, still .1) (answered (given-checks f) all)
+
+-- ---- the same beside whatever is decoded
+
+-- checks that answer the same are answered by the same
+pub decodes-as : {cs ds : List Check} {t : Labelled} {r : Decoded} → Decodes cs t r → Answers ds (r .answer .number) (r .answer .place)
+    → Decodes ds t r
+decodes-as D a = record { answers = a; passed = D .passed; labelled = D .labelled; refused = D .refused }
+
+pub decodes-refusal : {cs : List Check} {t : Labelled} (a : Answer) → a .number ≢ 0 → Answers cs (a .number) (a .place)
+    → Decodes cs t (refusal a)
+decodes-refusal a h A = record {
+  answers = A;
+  passed = λ e. absurd (h e);
+  labelled = λ e. absurd (h e);
+  refused = λ e. (refl, refl);
+}
+
+module _ {cs : List Check} {t : Table} {cost period first second way : List ℕ} where
+  pub into-as : {ds : List Check} {h : Head} → DecodesInto cs t h cost period first second way
+      → Answers ds (h .answer .number) (h .answer .place) → DecodesInto ds t h cost period first second way
+  into-as D a = record { answers = a; passed = D .passed; refused = D .refused }
+
+  pub into-refusal : (a : Answer) → a .number ≢ 0 → Answers cs (a .number) (a .place)
+      → DecodesInto cs t (noHead a) cost period first second way
+  into-refusal a h A = record { answers = A; passed = λ e. absurd (h e); refused = λ e. refl }

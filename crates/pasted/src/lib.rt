@@ -1,5 +1,6 @@
 // A table as it is given: what is refused of it before anything is looked for on its ring.
 use decoding::Decoded;
+use decoding::Head;
 use table::Answer;
 use table::Table;
 ghost use mathlib.Core.Path.{_≡_};
@@ -11,10 +12,10 @@ ghost use Rattle.numbers.specs.Lists.{at};
 ghost use Rattle.numbers.specs.Word.{bit};
 ghost use Rattle.rules.specs.Bounds.{max-elements, max-rows};
 ghost use Rattle.rules.specs.Bus.{pasted};
-ghost use Rattle.rules.specs.TableFile.{fileLabelled};
+ghost use Rattle.rules.specs.TableFile.{fileTable, fileLabelled};
 ghost use Rattle.rules.specs.Refusals.{given-checks, one-ring-checks};
 ghost use Rattle.table.specs.Columns.{columnTable};
-ghost use Rattle.decoding.specs.Decoded.{Decodes};
+ghost use Rattle.decoding.specs.Decoded.{Empty, DecodesInto, Decodes};
 ghost use Rattle.pasted.specs.Alike.{alike};
 
 // Rows `j` and `i` have the same second end, the same period and the same direction.
@@ -87,6 +88,31 @@ fn lowest_pasted<'a>(
         i += 1;
     }
     i
+}
+
+// The first refusal of 1 to 9, 26 and 18, or the table of a file, its columns written to arrays that are 0.
+pub fn given_into(
+    file: &[u8],
+    cost: &mut [u16; Table::ROWS],
+    period: &mut [u16; Table::ROWS],
+    first: &mut [u8; Table::ROWS],
+    second: &mut [u8; Table::ROWS],
+    way: &mut [u8; Table::ROWS],
+) -> Head
+    requires { ⌜ Empty (now cost) (now period) (now first) (now second) (now way) ⌝ }
+    ensures { λ r. ⌜ DecodesInto (given-checks (now (file .entry))) (fileTable (now (file .entry))) r
+        (now (cost .exit)) (now (period .exit)) (now (first .exit)) (now (second .exit)) (now (way .exit)) ⌝ }
+{
+    let head = decoding::decode_into(file, cost, period, first, second, way);
+    let answer = head.answer;
+    if answer.number != Answer::DONE {
+        return head;
+    }
+    let row = lowest_pasted(head.rows, period, first, second, way);
+    if row < head.rows {
+        return Head::refused(Answer::at(Answer::PASTED_ROW, row));
+    }
+    head
 }
 
 // The table of a file with its labels, or the first refusal of 1 to 9 and 18.

@@ -12,10 +12,10 @@ use Rattle.numbers.proofs.Truth.{both, fst, snd, decide, refuted, refutes, is-t
 use Rattle.numbers.proofs.Finite.{lowest-le, lowest-has, lowest-below, lowest-under}
 use Rattle.numbers.proofs.Rounding.{up-over, up-least}
 use Rattle.rules.specs.Bus.{Table}
-use Rattle.rules.specs.Loads.{hyperperiod, jobEnd, nextEnd, someInterval, shortest, equalPeriods, light}
+use Rattle.rules.specs.Loads.{hyperperiod, shortest, equalPeriods, light}
 use Rattle.rules.specs.Raising.{priced, leastCost, raisedCost, raised}
 use Rattle.table.specs.Sound.{Sound}
-use Rattle.lags.proofs.Intervals.{shortest-positive, equal-period, equal-shortest}
+use Rattle.lags.proofs.Intervals.{cost-unseen, shortest-positive, equal-period, equal-shortest}
 use Rattle.raising.specs.Raises.{Raises, Raise-raises}
 
 pub up-within : (a b : ℕ) → 0 < b → up a b ≤ a
@@ -31,8 +31,7 @@ unfolding hyperperiod
 hyper-stays t = refl
 
 pub interval-stays : (t : Table) → shortest (raised t) ≡ shortest t
-unfolding shortest someInterval nextEnd jobEnd hyperperiod
-interval-stays t = refl
+interval-stays t = cost-unseen t (raisedCost t)
 
 pub equal-stays : (t : Table) → equalPeriods (raised t) ≡ equalPeriods t
 unfolding equalPeriods
@@ -43,13 +42,15 @@ unfolding light
 light-is t i = refl
 
 light-raised : (t : Table) (i : ℕ) → light (raised t) i ≡ lightAt t i (raisedCost t i)
-unfolding light shortest someInterval nextEnd jobEnd hyperperiod equalPeriods
-light-raised t i = refl
+unfolding light equalPeriods
+light-raised t i = ap (λ (l : ℕ). not (equalPeriods t) && ltb (raisedCost t i * l) (t .period i)) (interval-stays t)
 
 light-priced : (t : Table) (i c : ℕ) → light (priced t i c) i ≡ lightAt t i c
-unfolding light shortest someInterval nextEnd jobEnd hyperperiod equalPeriods
+unfolding light equalPeriods
 light-priced t i c =
-    ap (λ (b : Bool). not (equalPeriods t) && ltb (cond b c (t .cost i) * shortest t) (t .period i)) (is-true (eqb i i) (eqb-of i i refl))
+    ap (λ (l : ℕ). not (equalPeriods t) && ltb (cond (eqb i i) c (t .cost i) * l) (t .period i))
+    (cost-unseen t (λ j. cond (eqb j i) c (t .cost j)))
+    ∙ ap (λ (b : Bool). not (equalPeriods t) && ltb (cond b c (t .cost i) * shortest t) (t .period i)) (is-true (eqb i i) (eqb-of i i refl))
 
 pub heavy-stays : (t : Table) (i : ℕ) → (T (light t i) → ⊥) → raisedCost t i ≡ t .cost i
 unfolding raisedCost

@@ -80,22 +80,28 @@ pub fn fill<'a>(
                 if left == 0 {
                     break 'slots;
                 }
-                if wide(last[k]) <= element {
-                    left -= parting::part(
-                        &mut end,
-                        &mut last,
-                        &mut after,
-                        words,
-                        k,
-                        s,
-                        left,
-                        i + 1,
-                    );
-                    words[s] = words[s] | row;
-                    last[k] = second[i];
+                let to = slot(end[k]);
+                if element < wide(last[k]) {
+                    s = to;
+                    k = wide(after[k]);
+                } else {
+                    let word = words[s];
+                    if left < to - s {
+                        words[s + left] = word;
+                        words[s] = word | row;
+                        parting::part(&mut end, &mut last, &mut after, k, s + left, i + 1);
+                        last[k] = second[i];
+                        s += left;
+                        k = i + 1;
+                        left = 0;
+                    } else {
+                        words[s] = word | row;
+                        last[k] = second[i];
+                        left -= to - s;
+                        s = to;
+                        k = wide(after[k]);
+                    }
                 }
-                s = slot(end[k]);
-                k = wide(after[k]);
             }
             r = next[i];
         }

@@ -29,12 +29,12 @@ use Rattle.numbers.proofs.Truth.{along}
 use Rattle.rules.specs.Bounds.{max-rows}
 use Rattle.chains.specs.Chained.{Link}
 use Rattle.placing.specs.Filled.{Kept, FilledSlots}
-use Rattle.stretches.specs.Stretches.{most-stretches, Parted, Tiles, Spread}
+use Rattle.stretches.specs.Stretches.{most-stretches, Tiles, Spread}
 use Rattle.placing.proofs.Kept.{kept-trans}
 use Rattle.placing.proofs.Upto.{has}
 use Rattle.placing.proofs.Scan.{within}
 use Rattle.placing.proofs.Order.{taken, taken-is, taken-of, taken-skip, taken-next}
-use Rattle.stretches.proofs.Stretches.{parted-end}
+use Rattle.stretches.proofs.Stretches.{Fitted, fitted-end}
 use Rattle.stretches.proofs.Stretched.{Stretched, stretched-start, stretched-first, stretched-as, stretched-next, stretched-end}
 use Rattle.stretches.proofs.Stretched.{stretched-low, stretched-last, stretched-parted, stretched-put}
 use Rattle.stretches.proofs.Walk.{Walked, walked-eq, walk-start, walk-end}
@@ -119,12 +119,6 @@ module _ {n : ℕ} {f g x : ℕ → ℕ} {l e : ℕ} {end last after words : Lis
 
 -- ---- the turn of a row
 
--- names of the code's variables after a branch are only known to be equal to what was put there
-pub turning-as : {n : ℕ} {f g x : ℕ → ℕ} {l e i left left′ k s : ℕ} {end end′ last last′ after after′ words words′ : List ℕ}
-    → Turning n f g x l e i left k s end last after words → left′ ≡ left → end′ ≡ end → last′ ≡ last → after′ ≡ after → words′ ≡ words
-    → Turning n f g x l e i left′ k s end′ last′ after′ words′
-turning-as R a b c d q = rw (a, b, c, d, q) R
-
 module _ {n : ℕ} {f g x : ℕ → ℕ} {l e : ℕ} {end last after words : List ℕ} {k s : ℕ} where
   pub turning-start : {r i : ℕ} → Along n f g x l e r k s end last after words → 0 < r → i ≡ r - 1 → f i < g i
       → Turning n f g x l e i (x i) k s end last after words
@@ -196,7 +190,7 @@ module _ {n : ℕ} {f g x : ℕ → ℕ} {l e : ℕ} {end last after words : Lis
           span = stretched-end (R .stretched) h
 
       pub turning-take : {end′ last′ after′ words′ : List ℕ} {size w left′ k′ s′ : ℕ}
-          → Parted k s left (i + 1) size end last after words end′ last′ after′ words′ → n ≤ max-rows → at last k ≤ f i
+          → Fitted k s left (i + 1) size end last after words end′ last′ after′ words′ → n ≤ max-rows → at last k ≤ f i
           → w ≡ bitOr (at words′ s) (2 ^ i) → s′ ≡ at end′ k → k′ ≡ at after′ k → left′ ≡ left - size
           → Turning n f g x l e i left′ k′ s′ end′ (set last′ k (g i)) after′ (set words′ s w) × (s < s′)
       turning-take {end′} {last′} {after′} {words′} {size} {w} {left′} P fits early q p₁ p₂ p₃ =
@@ -230,7 +224,7 @@ module _ {n : ℕ} {f g x : ℕ → ℕ} {l e : ℕ} {end last after words : Lis
 
           takes : (0 < size) × (size ≤ left) × (at end′ k ≡ s + size)
           takes =
-              parted-end P (stretched-end (R .stretched) h .0) some (omega (arith, stretched-low (R .stretched) h, R .stretched .end-size))
+              fitted-end P (stretched-end (R .stretched) h .0) some (omega (arith, stretched-low (R .stretched) h, R .stretched .end-size))
 
           parts : Stretched l (Busy (taken n f e i) i (left - (at end′ k - s))) (R .W) (R .Z) k s end′ last′ after′ words′
           parts =

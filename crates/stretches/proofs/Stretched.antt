@@ -21,10 +21,10 @@ use Rattle.numbers.specs.Lists.{at}
 use Rattle.numbers.specs.Word.{bit}
 use Rattle.numbers.proofs.Truth.{decide, is-true, is-false, le-or-lt}
 use Rattle.numbers.proofs.Word.{bit-or, bit-pow}
-use Rattle.stretches.specs.Stretches.{most-stretches, Tiles, Parted}
+use Rattle.stretches.specs.Stretches.{most-stretches, Tiles}
 use Rattle.placing.proofs.Upto.{has}
 use Rattle.placing.proofs.Scan.{within, within-is, within-of}
-use Rattle.stretches.proofs.Stretches.{Cursor, cursor-start, cursor-low, cursor-end, cursor-is, cursor-of, cursor-next}
+use Rattle.stretches.proofs.Stretches.{Cursor, cursor-start, cursor-low, cursor-end, cursor-is, cursor-of, cursor-next, Fitted}
 use Rattle.stretches.proofs.Parted.{ofParted, beginParted, number-parted, cursor-parted, tiles-parted}
 use Rattle.stretches.proofs.Parted.{word-parted, last-parted}
 
@@ -121,7 +121,7 @@ module _ {l : ℕ} {U : ℕ → Type 0} {W Z : ℕ → ℕ} {k s : ℕ} {end las
 
     -- where it is parted, the second part has a new number
     pub stretched-parted : {N : ℕ → Type 0} {most new size : ℕ} {end′ last′ after′ words′ : List ℕ}
-        → Parted k s most new size end last after words end′ last′ after′ words′ → 0 < most → new < most-stretches
+        → Fitted k s most new size end last after words end′ last′ after′ words′ → 0 < most → new < most-stretches
         → ((j : ℕ) → U j → N j) → (s + most < at end k → ((u : ℕ) → u < l → S .of u ≢ new) × N new)
         → Stretched l N W Z k s end′ last′ after′ words′
     stretched-parted {N} {most} {new} {end′ = end′} {last′} {after′} {words′} P some few f fresh =

@@ -9,12 +9,16 @@
 --                            the stretches before the cursor are spread
 --   spreading-start, spreading-more, spreading-end
 --                            none is; one more is; all are
---   parted-sizes, parted-kept, parted-end
---                            the arrays are as long as they were; slots past the interval are kept; where the first part ends
+--   Fitted k s most new size .. ..
+--                            stretch k, which begins at slot s, has `size` slots, at most `most`: where it had more, those past them are now
+--                            stretch `new`
+--   fitted-whole, fitted-parted
+--                            it had no more; it had, and is parted
+--   fitted-end               where the stretch then ends
 use mathlib.Core.Path.{_≡_, refl, sym, ap, _∙_, subst}
 use mathlib.Core.Logic.{_⊎_, inl, inr, ⊎-elim}
 use mathlib.Core.List.{List}
-use Prim.Native.Nat.{ℕ, suc, _+_, _≤_, _<_}
+use Prim.Native.Nat.{ℕ, suc, _+_, _-_, _≤_, _<_}
 use native.Mathlib.Nat.{not-suc-le-zero}
 use native.Mathlib.Omega.{arith}
 use lib.ListN.{length, set, length-set}
@@ -120,31 +124,30 @@ module _ {l : ℕ} {of begin : ℕ → ℕ} {end after : List ℕ} (t : Tiles l 
     kept = kept-of l was now e (λ u m. S .left u (omega (arith, S .cursor .inside)));
   }
 
--- ---- a stretch parted
+-- ---- a stretch that a row takes
+
+pub record Fitted (k s most new size : ℕ) (end last after words end′ last′ after′ words′ : List ℕ) : Type 0 where
+  pub whole : at end k ≤ s + most → (end′ ≡ end) × (last′ ≡ last) × (after′ ≡ after) × (words′ ≡ words) × (size ≡ at end k - s)
+  pub parted : s + most < at end k
+      → (end′ ≡ set (set end new (at end k)) k (s + most)) × (last′ ≡ set last new (at last k))
+      × (after′ ≡ set (set after new (at after k)) k new) × (words′ ≡ set words (s + most) (at words s)) × (size ≡ most)
+
+-- it has no more slots than that
+pub fitted-whole : {k s most size : ℕ} {end last after words : List ℕ} (new : ℕ) → at end k ≤ s + most → size ≡ at end k - s
+    → Fitted k s most new size end last after words end last after words
+fitted-whole new h q = record { whole = λ a. (refl, refl, refl, refl, q); parted = λ a. absurd (omega arith) }
+
+-- it has more, and is parted
+pub fitted-parted : {k s most new : ℕ} {end last after words end′ last′ after′ words′ : List ℕ} → s + most < at end k
+    → Parted k (s + most) new end last after end′ last′ after′ → words′ ≡ set words (s + most) (at words s)
+    → Fitted k s most new most end last after words end′ last′ after′ words′
+fitted-parted h P q = record { whole = λ a. absurd (omega arith); parted = λ a. (P .ends, P .lasts, P .afters, q, refl) }
 
 module _ {k s most new size : ℕ} {end last after words end′ last′ after′ words′ : List ℕ}
-    (P : Parted k s most new size end last after words end′ last′ after′ words′) where
-  pub parted-sizes : (length end′ ≡ length end) × (length last′ ≡ length last) × (length after′ ≡ length after)
-      × (length words′ ≡ length words)
-  parted-sizes =
-      ⊎-elim
-      (λ a. let p = P .whole a in (ap length (p .0), ap length (p .1), ap length (p .2), ap length (p .3)))
-      (λ a. let p = P .parted a in (
-        ap length (p .0) ∙ simp length-set,
-        ap length (p .1) ∙ simp length-set,
-        ap length (p .2) ∙ simp length-set,
-        ap length (p .3) ∙ simp length-set,
-      ))
-      (le-or-lt (at end k) (s + most))
-
-  pub parted-kept : {l : ℕ} {was : List ℕ} → at end k ≤ l → Kept l was words → Kept l was words′
-  parted-kept h K =
-      ⊎-elim (λ a. rw (P .whole a .3) K) (λ a. rw (P .parted a .3) (kept-set (s + most) (at words s) K (omega arith)))
-      (le-or-lt (at end k) (s + most))
-
+    (P : Fitted k s most new size end last after words end′ last′ after′ words′) where
   -- the stretch then has slots, at most as many as are left
-  pub parted-end : s < at end k → 0 < most → k < length end → (0 < size) × (size ≤ most) × (at end′ k ≡ s + size)
-  parted-end h some low =
+  pub fitted-end : s < at end k → 0 < most → k < length end → (0 < size) × (size ≤ most) × (at end′ k ≡ s + size)
+  fitted-end h some low =
       ⊎-elim
       (λ a. let q = ap (λ (es : List ℕ). at es k) (P .whole a .0) in let z = P .whole a .4 in (omega arith, omega arith, omega arith))
       (λ a.

@@ -4,9 +4,8 @@
 --   most-stretches       how many stretches there can be: each row parts one at most
 --   Tiles l of begin end after
 --                        the stretches tile the slots below l in order: slot s lies in stretch `of s`, stretch k begins at slot `begin k`
---   Parted k s most new size .. ..
---                        stretch k, which begins at slot s, has `size` slots, at most `most`: where it had more, those past them are now
---                        stretch `new`
+--   Parted k middle new .. ..
+--                        stretch k ends at slot `middle`, and what it had from there on is stretch `new`
 --   Repeated from to was now
 --                        the slots from `from` up to `to` have the word of the first of them
 --   Spread l of begin was now
@@ -32,11 +31,10 @@ pub record Tiles (l : ℕ) (of begin : ℕ → ℕ) (end after : List ℕ) : Typ
   pub on : (s : ℕ) → s < l → at end (of s) < l
       → (at after (of s) ≡ of (at end (of s))) × (begin (of (at end (of s))) ≡ at end (of s))
 
-pub record Parted (k s most new size : ℕ) (end last after words end′ last′ after′ words′ : List ℕ) : Type 0 where
-  pub whole : at end k ≤ s + most → (end′ ≡ end) × (last′ ≡ last) × (after′ ≡ after) × (words′ ≡ words) × (size ≡ at end k - s)
-  pub parted : s + most < at end k
-      → (end′ ≡ set (set end new (at end k)) k (s + most)) × (last′ ≡ set last new (at last k))
-      × (after′ ≡ set (set after new (at after k)) k new) × (words′ ≡ set words (s + most) (at words s)) × (size ≡ most)
+pub record Parted (k middle new : ℕ) (end last after end′ last′ after′ : List ℕ) : Type 0 where
+  pub ends : end′ ≡ set (set end new (at end k)) k middle
+  pub lasts : last′ ≡ set last new (at last k)
+  pub afters : after′ ≡ set (set after new (at after k)) k new
 
 pub record Repeated (from to : ℕ) (was now : List ℕ) : Type 0 where
   pub same : (s : ℕ) → from ≤ s → s < to → at now s ≡ at was from

@@ -1,6 +1,6 @@
 -- The denominator and the sums of a live table, worked out from its places.
 --
---   Laid g n xs        the array xs holds g of the first n segments, and 0 past them
+--   SummedTo g n xs    the array xs holds g of the first n segments, and 0 past them
 use mathlib.Core.Path.{_≡_, refl, sym, ap, ap₂, _∙_, fun-ext}
 use mathlib.Core.Logic.{_⊎_, ⊎-elim, _≢_}
 use mathlib.Core.Bool.{Bool, true, false, _&&_}
@@ -118,23 +118,23 @@ module _ {d : ℕ} {t : Table} {s : ℕ} where
 
 -- ---- the sums of all segments
 
-pub record Laid (g : ℕ → ℕ) (n : ℕ) (xs : List ℕ) : Type 0 where
+pub record SummedTo (g : ℕ → ℕ) (n : ℕ) (xs : List ℕ) : Type 0 where
   pub few : n ≤ max-elements
   pub size : length xs ≡ max-elements
   pub done : (s : ℕ) → s < n → at xs s ≡ g s
   pub rest : (s : ℕ) → n ≤ s → at xs s ≡ 0
 
 module _ {g : ℕ → ℕ} where
-  pub laid-start : Laid g 0 (replicate max-elements 0)
-  laid-start = record {
+  pub summed-start : SummedTo g 0 (replicate max-elements 0)
+  summed-start = record {
     few = omega arith;
     size = length-replicate {A = ℕ} max-elements 0;
     done = λ s l. absurd (not-suc-le-zero l);
     rest = λ s l. zeros-at max-elements s;
   }
 
-  pub laid-next : {n : ℕ} {xs : List ℕ} (v : ℕ) → Laid g n xs → n < max-elements → v ≡ g n → Laid g (n + 1) (set xs n v)
-  laid-next {n} {xs} v L l e = record {
+  pub summed-next : {n : ℕ} {xs : List ℕ} (v : ℕ) → SummedTo g n xs → n < max-elements → v ≡ g n → SummedTo g (n + 1) (set xs n v)
+  summed-next {n} {xs} v L l e = record {
     few = omega arith;
     size = length-set xs n v ∙ L .size;
     done = λ s k.
@@ -150,8 +150,8 @@ pub sum-past : (d : ℕ) (l : Live) (s : ℕ) → l .elements ≤ s → sumOver 
 unfolding sumOver
 sum-past d l s h = only-false _ _ (is-false (ltb s (l .elements)) (λ t. omega (arith, ltb→lt s (l .elements) t)))
 
-pub laid-end : (d : ℕ) (l : Live) {n : ℕ} {xs : List ℕ} → Laid (sumOver d l) n xs → l .elements ≤ n → at xs ≡ sumOver d l
-laid-end d l {n} {xs} L h =
+pub summed-end : (d : ℕ) (l : Live) {n : ℕ} {xs : List ℕ} → SummedTo (sumOver d l) n xs → l .elements ≤ n → at xs ≡ sumOver d l
+summed-end d l {n} {xs} L h =
     fun-ext (λ s. ⊎-elim (λ k. L .rest s k ∙ sym (sum-past d l s (omega arith))) (L .done s) (le-or-lt n s))
 
 -- ---- rows alone and in a table

@@ -52,30 +52,30 @@ fn cell_at(line: &[u8], from: usize, k: usize) -> Cell
 }
 
 // A fault of a text and its place, or twice 0.
-pub struct Found {
+pub struct FaultAt {
     pub number: u32,
     pub place: usize,
 }
 
 // Whether field `needed` is missing, or there is a field `spare`.
-fn shape_fault(line: &[u8], from: usize, needed: usize, spare: usize) -> Found
+fn shape_fault(line: &[u8], from: usize, needed: usize, spare: usize) -> FaultAt
     requires { ⌜ from + length (now line) ≤ max-text ⌝ }
     ensures { λ r. ⌜ Answers (missing-field (grammar.field (part from (now (line .entry))) needed)
         ∷ spare-field (grammar.field (part from (now (line .entry))) spare) ∷ []) (r .number) (r .place) ⌝ }
 {
     if !has_field(line, needed) {
-        return Found {
+        return FaultAt {
             number: Fault::MISSING_FIELD,
             place: place_of(line, from, needed),
         };
     }
     if has_field(line, spare) {
-        return Found {
+        return FaultAt {
             number: Fault::SPARE_FIELD,
             place: place_of(line, from, spare),
         };
     }
-    Found {
+    FaultAt {
         number: 0,
         place: 0,
     }
@@ -310,19 +310,19 @@ fn blamed(number: u32, elements: usize, first: u16) -> usize
 }
 
 // Checks 7 to 9 and 26 of a row that the line says.
-fn value_fault(line: &[u8], from: usize, rings: usize, elements: usize, row: Row) -> Found
+fn value_fault(line: &[u8], from: usize, rings: usize, elements: usize, row: Row) -> FaultAt
     requires { ⌜ (from + length (now line) ≤ max-text) × IsRowOf (part from (now line)) row ⌝ }
     ensures { λ r. ⌜ Answers (value-checks rings elements (part from (now (line .entry)))) (r .number) (r .place) ⌝ }
 {
     let first = row.first;
     let number = table::row_fault(elements, rings, in_ring(rings, row));
     if number == Answer::DONE {
-        return Found {
+        return FaultAt {
             number: 0,
             place: 0,
         };
     }
-    Found {
+    FaultAt {
         number: number,
         place: place_of(line, from, blamed(number, elements, first)),
     }

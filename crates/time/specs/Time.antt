@@ -6,6 +6,7 @@
 --   Nearing n p i j l  l is a greatest common divisor of two of n periods, and the least of any two before period i, and of that with
 --                      any before period j
 --   Clocked h n p c    c holds h, and of n periods the least greatest common divisor of any two and the leading ones
+--   Clocks n p c       c holds so of n periods their own h, or is noTime where that is above 4096
 --   noTime             the time of no table: 0 throughout
 --   Timed t c          c are h, L and the leading periods of the sound table t, which has a short hyperperiod
 --   Begins t k s       interval k of table t begins at slot s
@@ -13,7 +14,7 @@ use mathlib.Core.Path.{_≡_}
 use mathlib.Core.List.{List}
 use Prim.Native.Nat.{ℕ, _≤_, _<_}
 use lib.ListN.{length, replicate}
-use Rattle.numbers.specs.Divisors.{leading}
+use Rattle.numbers.specs.Divisors.{lcm, leading}
 use Rattle.numbers.specs.Pairs.{IsGcd, LeastGcd}
 use Rattle.rules.specs.Bounds.{max-rows, max-slots}
 use Rattle.rules.specs.Bus.{Table}
@@ -49,6 +50,10 @@ pub record Clocked (h n : ℕ) (p : ℕ → ℕ) (c : Time) : Type 0 where
 
 abbrev pub noTime : Time
 noTime = record { hyper = 0; interval = 0; count = 0; period = replicate max-rows 0 }
+
+pub record Clocks (n : ℕ) (p : ℕ → ℕ) (c : Time) : Type 0 where
+  pub short : lcm n p ≤ max-slots → Clocked (lcm n p) n p c
+  pub long : max-slots < lcm n p → c ≡ noTime
 
 pub record Timed (t : Table) (c : Time) : Type 0 where
   pub sound : Sound t

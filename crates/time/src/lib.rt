@@ -2,8 +2,8 @@
 use table::Table;
 ghost use mathlib.Core.Path.{_≡_};
 ghost use mathlib.Core.Bool.{not};
-ghost use mathlib.Core.Logic.{_⊎_};
-ghost use Prim.Native.Nat.{ℕ, _+_, _*_, _/_, _<_, _≤_, _∣_, min};
+ghost use Prim.Native.Nat.{ℕ, _+_, _*_, _/_, _<_, _≤_, min};
+ghost use lib.Dec.{eqb};
 ghost use Rattle.numbers.specs.Finite.{any};
 ghost use Rattle.numbers.specs.Lists.{at};
 ghost use Rattle.numbers.specs.Divisors.{divides, lcm, Past};
@@ -11,53 +11,33 @@ ghost use Rattle.numbers.specs.Pairs.{IsLcm, LeastGcd};
 ghost use Rattle.rules.specs.Bounds.{max-rows, max-slots};
 ghost use Rattle.rules.specs.Bus as bus;
 ghost use Rattle.rules.specs.Loads.{start, end, intervals};
-ghost use Rattle.time.specs.Time.{Periods, Capped, Leading, Nearing, Clocked, noTime, Timed, Begins};
+ghost use Rattle.time.specs.Time.{Periods, Capped, Nearing, Clocks, noTime, Timed, Begins};
 
-// The least common multiple of `h`, a multiple of the row's period before, and of `period`. Nothing is divided where the periods are equal.
-fn raised(h: u64, last: u64, period: u64) -> u64
-    requires { ⌜ (last ∣ h) × (0 < h) × (h ≤ max-slots) × (0 < period) × (period ≤ max-slots) ⌝ }
+// ---- h
+
+// The least common multiple of `h` and `period`. The remainder tells whether `h` is one already, and else begins their greatest common
+// divisor.
+fn raised(h: u64, period: u64) -> u64
+    requires { ⌜ (0 < h) × (h ≤ max-slots) × (0 < period) × (period ≤ max-slots) ⌝ }
     ensures { λ r. ⌜ IsLcm h period r ⌝ }
 {
-    if period == last {
+    if h == 1 {
+        return period;
+    }
+    let rest = h % period;
+    if rest == 0 {
         return h;
     }
-    if h % period == 0 {
-        return h;
-    }
-    numbers::lcm_of(h, period)
-}
-
-// h, the least common multiple of the periods, or 0 where it is above 4096. It only grows from row to row, so the rows after that are left.
-pub fn hyperperiod_of(rows: usize, period: &[u16; Table::ROWS]) -> u64
-    requires { ⌜ Periods rows (at (now period)) ⌝ }
-    ensures { λ r. ⌜ Capped (lcm rows (at (now (period .entry)))) r ⌝ }
-{
-    let mut h: u64 = 1;
-    let mut last: u64 = 1;
-    let mut i: usize = 0;
-    while i < rows {
-        let next = table::slots_at(period, i);
-        h = raised(h, last, next);
-        if h > Table::SLOTS as u64 {
-            return 0;
-        }
-        last = next;
-        i += 1;
-    }
-    h
+    h / numbers::gcd_of(period, rest) * period
 }
 
 // ---- the leading periods: those that are no multiple of an earlier row's. A job of another row ends only where one of theirs does.
 
-// `next` is no multiple of the first `count` of `kept`. Nothing is divided where it is equal to `last`, a multiple of one of them.
-fn is_leading(kept: &[u16; Table::ROWS], count: usize, last: u64, next: u64) -> bool
-    requires { ⌜ (count ≤ max-rows) × ((k : ℕ) → k < count → 0 < at (now kept) k)
-        × (0 < next) × ((last ≡ 0) ⊎ ((k : ℕ) × (k < count) × (at (now kept) k ∣ last))) ⌝ }
+// `next` is no multiple of the first `count` of `kept`.
+fn is_leading(kept: &[u16; Table::ROWS], count: usize, next: u64) -> bool
+    requires { ⌜ (count ≤ max-rows) × ((k : ℕ) → k < count → 0 < at (now kept) k) ⌝ }
     ensures { λ r. ⌜ r ≡ not (any count (λ k. divides (at (now (kept .entry)) k) next)) ⌝ }
 {
-    if next == last {
-        return false;
-    }
     let mut k: usize = 0;
     while k < count {
         if next % table::slots_at(kept, k) == 0 {
@@ -68,34 +48,12 @@ fn is_leading(kept: &[u16; Table::ROWS], count: usize, last: u64, next: u64) -> 
     true
 }
 
-// The leading ones of some periods, from the front, and their count; 0 past them.
-struct Leaders {
-    pub count: usize,
-    pub period: [u16; Table::ROWS],
-}
-
-// The leading ones of the rows' periods.
-fn leading_of(rows: usize, period: &[u16; Table::ROWS]) -> Leaders
-    requires { ⌜ Periods rows (at (now period)) ⌝ }
-    ensures { λ r. ⌜ Leading rows (at (now (period .entry))) (r .count) (r .period) ⌝ }
+// The one place where a period is looked for among those met. Of two periods with one place the later puts the earlier out.
+fn place_of(period: u64) -> usize
+    requires { ⌜ period ≤ max-slots ⌝ }
+    ensures { λ r. ⌜ r < max-rows ⌝ }
 {
-    let mut kept = [0u16; Table::ROWS];
-    let mut count: usize = 0;
-    let mut last: u64 = 0;
-    let mut i: usize = 0;
-    while i < rows {
-        let next = table::slots_at(period, i);
-        if is_leading(&kept, count, last, next) {
-            kept[count] = period[i];
-            count += 1;
-        }
-        last = next;
-        i += 1;
-    }
-    Leaders {
-        count: count,
-        period: kept,
-    }
+    ((period + period / 64) % 64) as usize
 }
 
 // ---- L
@@ -184,18 +142,38 @@ impl Time {
         }
     }
 
-    // The time of a table with this hyperperiod.
-    pub fn of(hyper: u64, rows: usize, period: &[u16; Table::ROWS]) -> Time
+    // The time of a table, all 0 where h is above 4096: it only grows from row to row, so the rows after that are left. Nothing is divided
+    // for a period that was met and not put out: most tables have few.
+    pub fn of(rows: usize, period: &[u16; Table::ROWS]) -> Time
         requires { ⌜ Periods rows (at (now period)) ⌝ }
-        ensures { λ r. ⌜ Clocked hyper rows (at (now (period .entry))) r ⌝ }
+        ensures { λ r. ⌜ Clocks rows (at (now (period .entry))) r ⌝ }
     {
-        let kept = leading_of(rows, period);
-        let interval = shortest_of(kept.count, &kept.period);
+        let mut met = [0u16; Table::ROWS];
+        let mut kept = [0u16; Table::ROWS];
+        let mut count: usize = 0;
+        let mut h: u64 = 1;
+        let mut i: usize = 0;
+        while i < rows {
+            let next = table::slots_at(period, i);
+            let place = place_of(next);
+            if table::slots_at(&met, place) != next {
+                met[place] = period[i];
+                h = raised(h, next);
+                if h > Table::SLOTS as u64 {
+                    return Time::none();
+                }
+                if is_leading(&kept, count, next) {
+                    kept[count] = period[i];
+                    count += 1;
+                }
+            }
+            i += 1;
+        }
         Time {
-            hyper: hyper,
-            interval: interval,
-            count: kept.count,
-            period: kept.period,
+            hyper: h,
+            interval: shortest_of(count, &kept),
+            count: count,
+            period: kept,
         }
     }
 
@@ -240,4 +218,41 @@ impl Time {
         }
         self.hyper
     }
+}
+
+// ---- intervals that are all as long as L
+
+// Whether L is one of the leading periods. Then every interval is as long as L.
+pub fn has_shortest(period: &[u16; Table::ROWS], count: usize, interval: u64) -> bool
+    requires { ⌜ count ≤ max-rows ⌝ }
+    ensures { λ r. ⌜ r ≡ any count (λ k. eqb (at (now (period .entry)) k) interval) ⌝ }
+{
+    let mut k: usize = 0;
+    while k < count {
+        if table::slots_at(period, k) == interval {
+            return true;
+        }
+        k += 1;
+    }
+    false
+}
+
+// The end of the interval that begins at `slot`, with no quotient where all intervals are as long as L.
+pub fn end_of(time: Time, even: bool, slot: u64) -> u64
+    requires { ⌜ ((t : bus.Table) × (k : ℕ) × Timed t time × Begins t k slot)
+        × (even ≡ any (time .count) (λ k. eqb (at (time .period) k) (time .interval))) ⌝ }
+    ensures { λ r. ⌜ ((t : bus.Table) (k : ℕ) → Timed t time → Begins t k slot → r ≡ end t k) ⌝ }
+{
+    if even {
+        return slot + time.interval;
+    }
+    time.next_end(slot)
+}
+
+// h, the least common multiple of the periods, or 0 where it is above 4096.
+pub fn hyperperiod_of(rows: usize, period: &[u16; Table::ROWS]) -> u64
+    requires { ⌜ Periods rows (at (now period)) ⌝ }
+    ensures { λ r. ⌜ Capped (lcm rows (at (now (period .entry)))) r ⌝ }
+{
+    Time::of(rows, period).hyper
 }

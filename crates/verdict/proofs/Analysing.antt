@@ -18,7 +18,7 @@ use Rattle.outline.specs.Outlined.{Outlined}
 use Rattle.outline.proofs.Outlined.{answer-only, line-numbered, outlined-none, found-only}
 use Rattle.verdict.specs.declared.Loaded.{Loaded}
 use Rattle.verdict.specs.declared.Analysis.{Analysis}
-use Rattle.verdict.specs.Weighing.{Weighs}
+use Rattle.verdict.specs.Weighing.{Weighable, Weighs}
 use Rattle.verdict.specs.Analysed.{table-checks, blank, Rated, Analysed}
 use Rattle.verdict.proofs.Bound.{table-none, table-admissible, given-stops, given-passes}
 
@@ -47,6 +47,11 @@ module _ (t : Table) where
   module _ {o : Outline} {xs : List ℕ} (R : Rated t o xs) where
     pub line-none : None (line-checks t)
     line-none = outlined-none (line-numbered t) (R .outlined) (R .passed)
+
+    pub rated-weighable : Weighable t (o .time) (o .top) (o .first) (o .second) xs
+    rated-weighable =
+        let F = R .outlined .found (R .passed) in
+        record { timed = F .timed; clear = F .clear; top-is = F .top; first = F .first; second = F .second; rate = R .rate }
 
     module _ (w : Loaded) (W : Weighs t w) where
       -- 13 or 14

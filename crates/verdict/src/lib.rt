@@ -6,22 +6,22 @@ use time::Time;
 ghost use mathlib.Core.Path.{_≡_};
 ghost use Rattle.rules.specs.TableFile.{fileTable};
 ghost use Rattle.rules.specs.Bus as bus;
-ghost use Rattle.rules.specs.Refusals.{bound-checks, verdict-checks};
+ghost use Rattle.rules.specs.Refusals.{verdict-checks};
 ghost use Rattle.rules.specs.Calls.{fileAsk, Judged};
 ghost use Rattle.table.specs.Sound.{Sound};
 ghost use Rattle.table.specs.Columns.{columnTable};
 ghost use Rattle.verdict.specs.Weighing.{Rest, tableBy, Weighable, Weighs};
-ghost use Rattle.verdict.specs.Analysed.{table-checks, blank, Accepted, Rated, Analysed};
+ghost use Rattle.verdict.specs.Analysed.{table-checks, blank, Accepted, Analysed};
 ghost use Rattle.verdict.specs.Verdict.{numberOf, placeOf, cutOf, otherOf, intervalOf, hyperOf, loadOf, setsOf};
 ghost use Rattle.verdict.specs.Verdict.{JudgedBy, VerdictOn};
 
 // ---- the analysis
 
 // What rows and sets weigh: the first refusal of 13 and 14, or the reported load and how many sets there are.
-struct Loaded {
-    answer: Answer,
-    load: u64,
-    sets: usize,
+pub struct Loaded {
+    pub answer: Answer,
+    pub load: u64,
+    pub sets: usize,
 }
 
 fn unweighed(answer: Answer) -> Loaded
@@ -36,7 +36,7 @@ fn unweighed(answer: Answer) -> Loaded
 
 // The rows and sets of a table weighed, whose time, line and rates are found; `top` is where the line ends. All periods are equal exactly
 // if L is h.
-fn weigh<'a>(
+pub fn weigh<'a>(
     rows: usize,
     top: usize,
     time: Time,
@@ -93,41 +93,6 @@ impl Analysis {
     }
 }
 
-// The analysis of a table whose outline and rates are found: 13, then 14.
-pub fn weighed<'a>(
-    rows: usize,
-    cost: &'a [u16; Table::ROWS],
-    period: &'a [u16; Table::ROWS],
-    outline: Outline,
-    rate: [u16; Table::ROWS],
-) -> Analysis
-    requires { ⌜ ((b : Rest) × Rated (tableBy b rows (now cost) (now period)) outline rate) ⌝ }
-    ensures { λ r. ⌜ ((b : Rest) → Rated (tableBy b rows (now (cost .entry)) (now (period .entry))) outline rate
-        → Analysed
-        (bound-checks (tableBy b rows (now (cost .entry)) (now (period .entry)))) (tableBy b rows (now (cost .entry)) (now (period .entry)))
-        r) ⌝ }
-{
-    let weighing = weigh(
-        rows,
-        outline.top,
-        outline.time,
-        cost,
-        period,
-        &outline.first,
-        &outline.second,
-        &rate,
-    );
-    let answer = weighing.answer;
-    if answer.number != Answer::DONE {
-        return Analysis::refused(answer);
-    }
-    Analysis {
-        outline: outline,
-        load: weighing.load,
-        rate: rate,
-    }
-}
-
 // The analysis of a table: 10 and 11 are refused by its outline, then 13, then 14.
 pub fn analysis_of<'a>(
     elements: usize,
@@ -152,28 +117,59 @@ pub fn analysis_of<'a>(
     if answer.number != Answer::DONE {
         return Analysis::refused(answer);
     }
-    let rate = weights::rates(rows, outline.time.hyper, cost, period);
-    weighed(rows, cost, period, outline, rate)
+    let mut rate = [0u16; Table::ROWS];
+    weights::put_rates(rows, outline.time.hyper, cost, period, &mut rate);
+    let weighing = weigh(
+        rows,
+        outline.top,
+        outline.time,
+        cost,
+        period,
+        &outline.first,
+        &outline.second,
+        &rate,
+    );
+    let next = weighing.answer;
+    if next.number != Answer::DONE {
+        return Analysis::refused(next);
+    }
+    Analysis {
+        outline: outline,
+        load: weighing.load,
+        rate: rate,
+    }
 }
 
 // The analysis of a file's table, or the first refusal of 1 to 9, 26, 18, 10 to 14.
 pub fn analyse(file: &[u8]) -> Analysis
     ensures { λ r. ⌜ Analysed (verdict-checks (now (file .entry))) (fileTable (now (file .entry))) r ⌝ }
 {
-    let found = pasted::given(file);
-    let answer = found.answer;
+    let mut cost = [0u16; Table::ROWS];
+    let mut period = [0u16; Table::ROWS];
+    let mut first = [0u8; Table::ROWS];
+    let mut second = [0u8; Table::ROWS];
+    let mut way = [0u8; Table::ROWS];
+    let head = pasted::given_into(
+        file,
+        &mut cost,
+        &mut period,
+        &mut first,
+        &mut second,
+        &mut way,
+    );
+    let answer = head.answer;
     if answer.number != Answer::DONE {
         return Analysis::refused(answer);
     }
     analysis_of(
-        found.columns.elements,
-        found.columns.rows,
-        found.columns.rings,
-        &found.columns.cost,
-        &found.columns.period,
-        &found.columns.first,
-        &found.columns.second,
-        &found.columns.way,
+        head.elements,
+        head.rows,
+        head.rings,
+        &cost,
+        &period,
+        &first,
+        &second,
+        &way,
     )
 }
 
@@ -252,7 +248,8 @@ fn judge_table<'a>(
         return Verdict::Refused(answer);
     }
     let time = laid.time;
-    let rate = weights::rates(rows, time.hyper, cost, period);
+    let mut rate = [0u16; Table::ROWS];
+    weights::put_rates(rows, time.hyper, cost, period, &mut rate);
     let weighing = weigh(
         rows,
         laid.top,
@@ -301,19 +298,31 @@ pub fn judge(file: &[u8]) -> Verdict
     ensures { λ r. ⌜ Judged (fileAsk (now (file .entry))) (numberOf r) (placeOf r)
         (cutOf r) (otherOf r) (intervalOf r) (hyperOf r) (loadOf r) (setsOf r) ⌝ }
 {
-    let found = pasted::given(file);
-    let answer = found.answer;
+    let mut cost = [0u16; Table::ROWS];
+    let mut period = [0u16; Table::ROWS];
+    let mut first = [0u8; Table::ROWS];
+    let mut second = [0u8; Table::ROWS];
+    let mut way = [0u8; Table::ROWS];
+    let head = pasted::given_into(
+        file,
+        &mut cost,
+        &mut period,
+        &mut first,
+        &mut second,
+        &mut way,
+    );
+    let answer = head.answer;
     if answer.number != Answer::DONE {
         return Verdict::Refused(answer);
     }
     judge_table(
-        found.columns.elements,
-        found.columns.rows,
-        found.columns.rings,
-        &found.columns.cost,
-        &found.columns.period,
-        &found.columns.first,
-        &found.columns.second,
-        &found.columns.way,
+        head.elements,
+        head.rows,
+        head.rings,
+        &cost,
+        &period,
+        &first,
+        &second,
+        &way,
     )
 }

@@ -33,17 +33,17 @@ fn jobs_in(hyper: u64, last: u64, jobs: u64, period: u64) -> u64
     hyper / period
 }
 
-// All rows' rates, the loads cost / period in units of 1 / h, and 0 past the last row: a row has at most all h slots.
-pub fn rates<'a>(
+// All rows' rates, the loads cost / period in units of 1 / h, written to `rate`, which is 0: a row has at most all h slots.
+pub fn put_rates(
     rows: usize,
     hyper: u64,
-    cost: &'a [u16; Table::ROWS],
-    period: &'a [u16; Table::ROWS],
-) -> [u16; Table::ROWS]
-    requires { ⌜ Times rows (at (now cost)) (at (now period)) × (hyper ≤ max-slots) ⌝ }
-    ensures { λ r. ⌜ ByRow rows (λ i. hyper / at (now (period .entry)) i * at (now (cost .entry)) i) r ⌝ }
+    cost: &[u16; Table::ROWS],
+    period: &[u16; Table::ROWS],
+    rate: &mut [u16; Table::ROWS],
+)
+    requires { ⌜ Times rows (at (now cost)) (at (now period)) × (hyper ≤ max-slots) × (now rate ≡ replicate max-rows 0) ⌝ }
+    ensures { λ _. ⌜ ByRow rows (λ i. hyper / at (now (period .entry)) i * at (now (cost .entry)) i) (now (rate .exit)) ⌝ }
 {
-    let mut rate = [0u16; Table::ROWS];
     let mut last: u64 = 1;
     let mut jobs = hyper;
     let mut i: usize = 0;
@@ -54,7 +54,6 @@ pub fn rates<'a>(
         rate[i] = (jobs * table::slots_at(cost, i)) as u16;
         i += 1;
     }
-    rate
 }
 
 // A row's cost × L is below its period.

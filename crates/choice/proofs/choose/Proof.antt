@@ -87,18 +87,34 @@ returns-2 c =
     let z = entry (summing t) in
     taken-greatest _ _ _ _ _ _ (z .pre .0 .spans) (are-parts z) _ _ (taken t) (d .all-less .ensures (c .if2 .taken))
 
--- what is asked, where the rows in turn have left a set too low
+-- ---- where the rows in turn have left a set too low
+
+add-parts-requires-2 : tie.Need-add-parts-requires-2
+add-parts-requires-2 c κs =
+    let p = entry (summing (c .before .before .before .before)) .pre in (
+      (_, _, _, p .0 .spans, p .0 .heads, p .1, λ i q. p .2 i q .0),
+      zeros-at max-elements,
+      refl,
+    )
+
 abbrev settling : tie.After-sum2 → tie.After-take-rows
-settling w = w .before .before .before .before
+settling w = w .before .before .before .before .before .before
+
+sums-again : (w : tie.After-sum2) → let z = entry (summing (settling w)) in
+    Summed (z .args .size .rows) (z .args .size .sets) (at (z .args .tail .now)) (last (z .args .head .now)) (parts z)
+    (at (w .before .add-parts2 .last .1 .1 .1 .1 .0))
+sums-again w =
+    let p = entry (summing (settling w)) .pre in
+    w .before .add-parts2 .ensures .1 _ _ (p .0 .spans) (p .0 .heads) (λ i q. p .2 i q .0)
 
 abbrev Given : tie.After-sum2 → Type 0
 Given w =
     let a = entry (summing (settling w)) .args in
     Asked (a .size .rows) (a .size .sets) (a .size .hyper) (a .tail .now) (a .head .now) (a .out .now) (a .into .now)
-    (summing (settling w) .add-parts .last .1 .1 .1 .1 .0) (parts (entry (summing (settling w))))
+    (w .before .add-parts2 .last .1 .1 .1 .1 .0) (parts (entry (summing (settling w))))
 
 given : (w : tie.After-sum2) → Given w
-given w = let a = summing (settling w) in record { ends = entry a .pre .0; parts = are-parts (entry a); summed = sums a }
+given w = let z = entry (summing (settling w)) in record { ends = z .pre .0; parts = are-parts z; summed = sums-again w }
 
 compare-requires : tie.Need-compare-requires
 compare-requires c κs =
@@ -148,6 +164,7 @@ choose-spec =
     take-rows-requires
     all-less-requires
     returns-2
+    add-parts-requires-2
     compare-requires
     mend-requires
     raise-rows-requires

@@ -9,27 +9,25 @@ use Rattle.rules.specs.Bounds.{max-rows}
 use Rattle.flow.proofs.Network.{put-set-is}
 use Rattle.loads.specs.Loads.{digit}
 use Rattle.fold.proofs.Product.{digit-is}
-use Rattle.interval.proofs.Fill.{Giving, giving-none, giving-next}
+use Rattle.interval.specs.Interval.{Given}
+use Rattle.interval.proofs.Fill.{giving-none, giving-next}
 use Rattle.interval.proofs.give.Statement.{statement}
 use Rattle.interval.proofs.give.Tie as tie
 
 abbrev Inv-loop : tie.InvT-loop
-Inv-loop top rows load₀ totals₀ i₀ load totals i =
-    (i ≤ rows) × (length load ≡ max-rows) × (length totals ≡ max-rows) × Giving i top (at load₀) (at totals₀) (at load) (at totals)
+Inv-loop top rows whole load₀ totals₀ i₀ load totals i =
+    (i ≤ rows) × (length load ≡ max-rows) × (length totals ≡ max-rows) × Given i top (at whole) (at totals₀) (at load) (at totals)
 
 abbrev μ-loop : tie.MeasureT-loop
-μ-loop top rows load₀ totals₀ i₀ load totals i = rows - i
+μ-loop top rows whole load₀ totals₀ i₀ load totals i = rows - i
 
--- the row's numbers are as they were
+-- the row's total is as it was
 as-is : (l : tie.In-loop Inv-loop μ-loop)
-    → (at (l .before .loop .load) (l .before .loop .i) ≡ at (l .before .before .args .load .now) (l .before .loop .i))
-    × (at (l .before .loop .totals) (l .before .loop .i) ≡ at (l .before .before .args .totals .now) (l .before .loop .i))
-as-is l =
-    let u = l .before .loop in
-    (u .inv .3 .left (u .i) (omega arith), u .inv .3 .given .spare (u .i) (omega arith))
+    → at (l .before .loop .totals) (l .before .loop .i) ≡ at (l .before .before .args .totals .now) (l .before .loop .i)
+as-is l = let u = l .before .loop in u .inv .3 .spare (u .i) (omega arith)
 
 loop-holds : tie.Need-loop-holds Inv-loop μ-loop
-loop-holds c = (omega arith, c .pre .2, c .pre .3, giving-none _ _ _)
+loop-holds c = (omega arith, c .pre .2, c .pre .3, giving-none _ _ _ _)
 
 mul-all : tie.Need-mul-all Inv-loop μ-loop
 mul-all c = search needs
@@ -91,7 +89,7 @@ returns : tie.Need-returns Inv-loop μ-loop
 returns c =
     let u = c .before .loop in
     let e : u .i ≡ c .before .before .args .rows = omega (arith, u .inv .0) in
-    (u .inv .1, u .inv .2, rw e at (u .inv .3 .given))
+    (u .inv .1, u .inv .2, rw e at (u .inv .3))
 
 pub give-spec : {M : Type 1} → statement M
 give-spec =

@@ -70,8 +70,8 @@ stayed = (
 )
 
 -- the contract that the proof cites
-abbrev Step : {M : Type 1} (𝓤 : URA M) (H : Heap 𝓤) (A : Atoms 𝓤) (mem : Memory → SProp 𝓤) (run : Routine → Fun 𝓤) → Contract 𝓤
-Step 𝓤 H A mem run = tripleOf 𝓤 H A step.signature (step.spec 𝓤 H A mem run)
+abbrev StepContract : {M : Type 1} (𝓤 : URA M) (H : Heap 𝓤) (A : Atoms 𝓤) (mem : Memory → SProp 𝓤) (run : Routine → Fun 𝓤) → Contract 𝓤
+StepContract 𝓤 H A mem run = tripleOf 𝓤 H A step.signature (step.spec 𝓤 H A mem run)
 
 -- a planner's machine value
 abbrev mach : Planner → Val
@@ -126,7 +126,7 @@ module _
   Words = MutSlice (named 2) κ₂ u64 .own y (s ∷ [])
 
   -- what `step`'s triple binds outside: the planner's value, and the two slices at their own lifetimes, shares and names
-  abbrev to-step : Step 𝓤 H A at-mem run .Ghost
+  abbrev to-step : StepContract 𝓤 H A at-mem run .Ghost
   to-step = (((κ₁, (κ₂, tt)), (q₁, (q₂, tt)), tt, (h, (f, (y, tt))), (mach h ∷ [], (v ∷ [], (s ∷ [], tt)))), tt)
 
   -- what a step of the planner says of its answer and of the last words
@@ -140,7 +140,7 @@ module _
       ∷ ‵ (flft κ₂ q₂) ∷ ‵ File ∷ ‵ (finally u64 γ′ zs) ∷ []
 
   goes : Is T.the-row h (mach h ∷ [])
-      → ent 𝓤 (sep 𝓤 (A .lft κ₁ q₁) (sep 𝓤 (A .lft κ₂ q₂) (sep 𝓤 (sem 𝓤 H A File) (sem 𝓤 H A Words)))) (Step 𝓤 H A at-mem run .pre to-step)
+      → ent 𝓤 (sep 𝓤 (A .lft κ₁ q₁) (sep 𝓤 (A .lft κ₂ q₂) (sep 𝓤 (sem 𝓤 H A File) (sem 𝓤 H A Words)))) (StepContract 𝓤 H A at-mem run .pre to-step)
   goes was =
       qed W ((‵ (flft κ₁ q₁) ⊛ ‵ (flft κ₂ q₂) ⊛ ‵ File ⊛ ‵ Words) ∷ []) ∵ split ! $ move ! (1 ∷ []) $ split ! $ move ! (1 ∷ []) $ split ! $
       -- [file; words; the second token; the first]
@@ -163,7 +163,7 @@ module _
       owned ! R.the-row (Is R.the-row) (LL.makes R.the-type R′.the-plain 𝓤 H A) (r .answer) _ is $ move ! (1 ∷ 0 ∷ []) $ done !
 
   module _
-      (C : Calls 𝓤 H) (Λ : Loops 𝓤 H) (fm : FmC 𝓤 H (W .laws) C) (known : Triple 𝓤 (C #planner·step) (Step 𝓤 H A at-mem run)) where
+      (C : Calls 𝓤 H) (Λ : Loops 𝓤 H) (fm : FmC 𝓤 H (W .laws) C) (known : Triple 𝓤 (C #planner·step) (StepContract 𝓤 H A at-mem run)) where
     walk : Is (ShrSlice (named 1) κ₁ u8) f (v ∷ []) → Room u64 (length ys)
         → ent 𝓤 (onEntry 𝓤 H A move-on.signature (κ, (κ₁, (κ₂, tt))) (q, (q₁, (q₂, tt))) a vals)
         (WpFn 𝓤 H C Λ code.function (vptr b o ∷ v ∷ s ∷ []) (Walk .post to-walk))
@@ -196,10 +196,10 @@ module _
         move ! (6 ∷ []) $ fsplit ! $ use1 W (‵ File ⊛ ‵ File) (shr-slice-copy 𝓤 H A W (named 1) κ₁ u8 .twice f (v ∷ [])) $ split ! $
         move ! (2 ∷ []) $ fsplit ! $ move ! (9 ∷ []) $ split ! $ move ! (1 ∷ []) $ split ! $
         move ! (5 ∷ 3 ∷ []) $ join ! $ move ! (1 ∷ 0 ∷ []) $ join ! $ move ! (2 ∷ 0 ∷ []) $ join ! $
-        use1 W (raw (Step 𝓤 H A at-mem run .pre to-step)) (goes was) $
+        use1 W (raw (StepContract 𝓤 H A at-mem run .pre to-step)) (goes was) $
         -- [what `step` asks; true; true; what file owns; the planner's cell; what it owns; the open borrow; obs; auth; _7; …; _1; …;
         -- room for _0; …]
-        calls-at ! fm (Step 𝓤 H A at-mem run) known to-step
+        calls-at ! fm (StepContract 𝓤 H A at-mem run) known to-step
         (and-then ! (load ! (from ! (stop !)) (look ! 13 refl)) (and-then ! (load ! (from ! (stop !)) (look ! 19 refl))
         (and-then ! (load ! (from ! (stop !)) (look ! 9 refl)) (no-more !)))) (λ w.
         use1 W
@@ -238,7 +238,7 @@ module _
 
 module _
     {M : Type 1} (𝓤 : URA M) (H : Heap 𝓤) (A : Atoms 𝓤) (W : Given 𝓤 H A) (at-mem : Memory → SProp 𝓤) (run : Routine → Fun 𝓤) where
-  move-on-walks : (C : Calls 𝓤 H) (Λ : Loops 𝓤 H) → FmC 𝓤 H (W .laws) C → Triple 𝓤 (C #planner·step) (Step 𝓤 H A at-mem run)
+  move-on-walks : (C : Calls 𝓤 H) (Λ : Loops 𝓤 H) → FmC 𝓤 H (W .laws) C → Triple 𝓤 (C #planner·step) (StepContract 𝓤 H A at-mem run)
       → Walks 𝓤 H A move-on.ended stayed (WpFn 𝓤 H C Λ code.function) (move-on.clauses 𝓤 H A at-mem run)
   move-on-walks C Λ fm known =
       walked 𝓤 H A move-on.ended stayed (move-on.clauses 𝓤 H A at-mem run) (WpFn 𝓤 H C Λ code.function)
@@ -253,7 +253,7 @@ module _
       (a .1 .1 .0 .ptr .0) (a .1 .1 .0 .ptr .1) (a .1 .1 .0 .name) (a .1 .1 .0 .now) C Λ fm known (are .1 .0) (are .1 .1 .0 .0 .1)))
 
 move-on-meets : {M : Type 1} (𝓤 : URA M) (H : Heap 𝓤) (A : Atoms 𝓤) → Given 𝓤 H A → (at-mem : Memory → SProp 𝓤) (run : Routine → Fun 𝓤)
-    (𝓣 : Tables 𝓤 H) → Triple 𝓤 (𝓣 .C #planner·step) (Step 𝓤 H A at-mem run)
+    (𝓣 : Tables 𝓤 H) → Triple 𝓤 (𝓣 .C #planner·step) (StepContract 𝓤 H A at-mem run)
     → Meets 𝓤 H A move-on.signature (WpFn 𝓤 H (𝓣 .C) (𝓣 .Λ) code.function) (move-on.spec 𝓤 H A at-mem run)
 move-on-meets 𝓤 H A W at-mem run 𝓣 known =
     walk-meets 𝓤 H A move-on.ended stayed W (
@@ -269,5 +269,5 @@ move-on-spec 𝓤 H 𝓜 𝓖 𝓡 =
     entered 𝓤 H (tripleOf 𝓤 H (𝓖 .A) move-on.signature (move-on.spec 𝓤 H (𝓖 .A) (𝓜 .mem) (𝓡 .run)))
     (tables 𝓤 H 𝓜 𝓡 code.env .C) (tables 𝓤 H 𝓜 𝓡 code.env .Λ) #kept·move-on code.function (code.unfolded 𝓤 H 𝓜 𝓡)
     (move-on-meets 𝓤 H (𝓖 .A) (givenOf 𝓤 H 𝓜 𝓖) (𝓜 .mem) (𝓡 .run) (tablesOf 𝓤 H 𝓜 (tables 𝓤 H 𝓜 𝓡 code.env))
-    (cited 𝓤 H (Step 𝓤 H (𝓖 .A) (𝓜 .mem) (𝓡 .run)) 𝓜 𝓡 code.env #planner·step step-def.routine code.calls-planner·Planner·step
+    (cited 𝓤 H (StepContract 𝓤 H (𝓖 .A) (𝓜 .mem) (𝓡 .run)) 𝓜 𝓡 code.env #planner·step step-def.routine code.calls-planner·Planner·step
     (step-thm.met 𝓤 H 𝓜 𝓖 𝓡)))

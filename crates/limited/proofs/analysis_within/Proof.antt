@@ -1,17 +1,22 @@
 -- analysis_within: the refusal of the outline or of a limit, or what is weighed.
 use mathlib.Core.Path.{refl}
+use mathlib.Core.List.{List}
+use Prim.Native.Nat.{ℕ}
 use native.Mathlib.Omega.{arith}
 use borrow.Author.Needs.{needs}
 use Rattle.numbers.specs.Lists.{at}
 use Rattle.rules.specs.Bus.{Table}
-use Rattle.rules.specs.Refusals.{Answers, line-checks, limit-checks}
+use Rattle.rules.specs.Refusals.{Answers, line-checks, limit-checks, bound-checks}
 use Rattle.table.specs.Columns.{columnTable}
 use Rattle.ring.proofs.Rows.{sound-routes}
 use Rattle.outline.specs.Outlined.{Outlined}
 use Rattle.weights.proofs.Weighing.{times-of, rates-are}
 use Rattle.limits.specs.Limits.{labelled, Limited}
-use Rattle.verdict.specs.Weighing.{Rest}
-use Rattle.verdict.specs.Analysed.{Rated}
+use Rattle.verdict.specs.Weighing.{Rest, Weighs}
+use Rattle.verdict.specs.Analysed.{Rated, Analysed}
+use Rattle.verdict.specs.declared.Analysis.{Analysis}
+use Rattle.verdict.proofs.Analysing.{rated-weighable, analysed-next, analysed-done}
+use Rattle.limited.specs.Limited.{within-checks}
 use Rattle.limited.proofs.Checked.{within-line, within-limit, within-bound}
 use Rattle.limited.proofs.analysis_within.Statement.{statement}
 use Rattle.limited.proofs.analysis_within.Tie as tie
@@ -44,35 +49,36 @@ returns c =
     (within-line (table d) (a .label .now) (a .limits .ours) (a .limits .theirs) _ (outlined d) (c .before .if1 .taken))
 
 -- the way back from the rates to the outline, and from the segments to the rates
-abbrev asked : tie.Else1 → tie.After-outline-of
-asked e = e .before .before .before
+abbrev asked : tie.After-put-rates → tie.After-outline-of
+asked d = d .before .before .before .before .before
 
-rated : (d : tie.After-rates)
-    → (let a = asked (d .before) in
-    Rated (table a) (a .outline-of .result) (d .rates .result))
+abbrev rates : tie.After-put-rates → List ℕ
+rates d = d .put-rates .last .1 .1 .1 .1 .0
+
+rated : (d : tie.After-put-rates) → Rated (table (asked d)) (asked d .outline-of .result) (rates d)
 rated d =
-    let e = d .before in
-    let a = asked e in
+    let e = d .before .before in
+    let a = asked d in
     let F = outlined a .found (e .if1 .left) in
-    record { outlined = outlined a; passed = e .if1 .left; rate = rates-are (table a) (F .timed .hyper) (d .rates .ensures) }
+    record { outlined = outlined a; passed = e .if1 .left; rate = rates-are (table a) (F .timed .hyper) (d .put-rates .ensures) }
 
-rates-requires : tie.Need-rates-requires
-rates-requires c κs =
-    let T = outlined (asked c) .found (c .if1 .left) .timed in
-    (times-of (T .sound), omega (arith, T .hyper, T .short))
+put-rates-requires : tie.Need-put-rates-requires
+put-rates-requires c κs =
+    let e = c .before in
+    let T = outlined (e .before .before .before) .found (e .if1 .left) .timed in
+    (times-of (T .sound), omega (arith, T .hyper, T .short), refl)
 
 lay-segments-requires : tie.Need-lay-segments-requires
-lay-segments-requires c κs = sound-routes {t = table (asked (c .before))} (asked (c .before) .before .pre .0)
+lay-segments-requires c κs = sound-routes {t = table (asked c)} (asked c .before .pre .0)
 
 limited : (s : tie.After-lay-segments)
     → (let d = s .before in
-    let o = asked (d .before) in
+    let o = asked d in
     let a = o .before .args in
-    Limited (table o) (a .elements) (a .rows) (o .outline-of .result .time .hyper) (d .rates .result) (s .lay-segments .result))
+    Limited (table o) (a .elements) (a .rows) (o .outline-of .result .time .hyper) (rates d) (s .lay-segments .result))
 limited s =
     let d = s .before in
-    let e = d .before in
-    let T = outlined (asked e) .found (e .if1 .left) .timed in
+    let T = outlined (asked d) .found (d .before .before .if1 .left) .timed in
     record {
       sound = T .sound;
       one-ring = refl;
@@ -87,7 +93,7 @@ limited s =
 kept-within-requires : tie.Need-kept-within-requires
 kept-within-requires c κs =
     let s = c .before .before in
-    let o = asked (s .before .before) in
+    let o = asked (s .before) in
     ((table o, limited s), o .before .pre .1, o .before .pre .2)
 
 -- the way back from what is kept to the segments
@@ -95,7 +101,7 @@ abbrev laid : tie.After-kept-within → tie.After-lay-segments
 laid k = k .before .before .before
 
 abbrev found : tie.After-kept-within → tie.After-outline-of
-found k = asked (laid k .before .before)
+found k = asked (laid k .before)
 
 within : (k : tie.After-kept-within)
     → (let a = found k .before .args in
@@ -114,16 +120,47 @@ returns-2 c =
     (within-limit (table (found k)) (a .label .now) (a .limits .ours) (a .limits .theirs) (rated (laid k .before)) _ (within k)
     (c .before .if2 .taken))
 
-weighed-requires : tie.Need-weighed-requires
-weighed-requires c κs = let k = c .before .before in (rest (found k), rated (laid k .before))
+weigh-requires : tie.Need-weigh-requires
+weigh-requires c κs =
+    let k = c .before .before .before .before .before .before .before in
+    (rest (found k), rated-weighable (table (found k)) (rated (laid k .before)))
+
+-- the way back from the weights to what is kept
+abbrev kept : tie.After-weigh → tie.Else2
+kept w = w .before .before .before .before .before .before
+
+-- past the limits, what is weighed
+after : (w : tie.After-weigh) (z : Analysis)
+    → (let k = kept w .before .before in
+    let t = table (found k) in
+    let a = found k .before .args in
+    Analysed (bound-checks t) t z → Analysed (within-checks (labelled t (a .label .now)) (a .limits .ours) (a .limits .theirs)) t z)
+after w z A =
+    let k = kept w .before .before in
+    let a = found k .before .args in
+    within-bound (table (found k)) (a .label .now) (a .limits .ours) (a .limits .theirs) (rated (laid k .before)) _ (within k)
+    (kept w .if2 .left) A
+
+weighs : (w : tie.After-weigh) → Weighs (table (found (kept w .before .before))) (w .weigh .result)
+weighs w =
+    let k = kept w .before .before in
+    w .weigh .ensures (rest (found k)) (rated-weighable (table (found k)) (rated (laid k .before)))
+
+refused-requires-3 : tie.Need-refused-requires-3
+refused-requires-3 c κs = search needs
 
 returns-3 : tie.Need-returns-3
 returns-3 c =
-    let k = c .before .before .before in
-    let a = found k .before .args in
-    let R = rated (laid k .before) in
-    within-bound (table (found k)) (a .label .now) (a .limits .ours) (a .limits .theirs) R _ (within k) (c .before .if2 .left)
-    (c .weighed .ensures (rest (found k)) R)
+    let w = c .before .before .before .before in
+    let k = kept w .before .before in
+    rw (c .refused3 .ensures)
+    (after w _ (analysed-next (table (found k)) (rated (laid k .before)) _ (weighs w) (c .before .if3 .taken)))
+
+returns-4 : tie.Need-returns-4
+returns-4 c =
+    let w = c .before .before .before in
+    let k = kept w .before .before in
+    after w _ (analysed-done (table (found k)) (rated (laid k .before)) _ (weighs w) (c .if3 .left))
 
 pub analysis-within-spec : {M : Type 1} → statement M
 analysis-within-spec =
@@ -132,10 +169,12 @@ analysis-within-spec =
     outline-of-requires
     refused-requires
     returns
-    rates-requires
+    put-rates-requires
     lay-segments-requires
     kept-within-requires
     refused-requires-2
     returns-2
-    weighed-requires
-    returns-3)
+    weigh-requires
+    refused-requires-3
+    returns-3
+    returns-4)

@@ -6,7 +6,7 @@ use borrow.Author.Needs.{needs}
 use Rattle.rules.specs.ElementList.{listNumbers}
 use Rattle.rules.specs.Refusals.{list-file-checks}
 use Rattle.rules.proofs.Answers.{None, none-of}
-use Rattle.lists.proofs.Heads.{Passed, file-numbered, file-head, head-passed}
+use Rattle.lists.proofs.Heads.{ListPassed, file-numbered, file-head, head-passed}
 use Rattle.lists.proofs.Calls.{read-refused, read-short, read-done}
 use Rattle.lists.proofs.read.Statement.{statement}
 use Rattle.lists.proofs.read.Tie as tie
@@ -18,7 +18,7 @@ bytes z = z .before .before .before .before .before .args .file .now
 none : (z : tie.Else1) → None (list-file-checks (bytes z))
 none z = none-of (list-file-checks (bytes z)) _ (file-numbered (bytes z)) (rw (z .if1 .left) at (z .before .before .check-file .ensures))
 
-held : (z : tie.Else1) → Passed (bytes z)
+held : (z : tie.Else1) → ListPassed (bytes z)
 held z = head-passed (bytes z) (file-head (bytes z) (none z))
 
 check-file-requires : tie.Need-check-file-requires

@@ -13,7 +13,7 @@ use Rattle.rules.specs.Calls.{oneRingAsk, lent}
 use Rattle.rules.proofs.Calls.{lent-headed}
 use Rattle.lists.proofs.RoundTrip.{bytes-length}
 use Rattle.moves.specs.Words.{flat}
-use Rattle.maker.specs.Finding.{Ready}
+use Rattle.maker.specs.Finding.{Makeable}
 use Rattle.maker.proofs.Finding.{judged-numbered}
 use Rattle.maker.proofs.Answered.{bytes-are, made-refused, made-short, made-done}
 use Rattle.maker.proofs.make_file.Statement.{statement}
@@ -30,7 +30,7 @@ found c = c .before .before .before
 
 ready : (c : tie.Else1)
     → let f = found c in
-    Ready (fileTable (bytes f)) (start f .args .plan .now) (start f .args .element) (f .find-in .result)
+    Makeable (fileTable (bytes f)) (start f .args .plan .now) (start f .args .element) (f .find-in .result)
 ready c = found c .find-in .ensures .ready (c .if1 .left)
 
 -- how many bytes are wanted

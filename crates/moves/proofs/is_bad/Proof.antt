@@ -8,20 +8,20 @@ use lib.Bits.{bitAnd, bitOr}
 use borrow.Author.Needs.{needs}
 use Rattle.numbers.proofs.Truth.{decides-yes, decides-no}
 use Rattle.rules.specs.Bus.{Table}
-use Rattle.moves.specs.Words.{Laid}
+use Rattle.moves.specs.Words.{Segmented}
 use Rattle.moves.proofs.Bad.{Used, used-start, used-skip, used-add, used-stop, used-end}
 use Rattle.moves.proofs.Words.{bit-is, bit-is-not}
 use Rattle.moves.proofs.is_bad.Statement.{statement}
 use Rattle.moves.proofs.is_bad.Tie as tie
 
 abbrev Inv-loop : tie.InvT-loop
-Inv-loop rows routes word used₀ i₀ used i = (i ≤ rows) × ((t : Table) → t .rows ≡ rows → Laid t routes → Used t word i used)
+Inv-loop rows routes word used₀ i₀ used i = (i ≤ rows) × ((t : Table) → t .rows ≡ rows → Segmented t routes → Used t word i used)
 
 abbrev μ-loop : tie.MeasureT-loop
 μ-loop rows routes word used₀ i₀ used i = rows - i
 
 -- its rows run one way
-ways : {t : Table} {xs : List ℕ} → Laid t xs → (i : ℕ) → i < t .rows → (j : ℕ) → j < i → t .way j ≡ t .way i
+ways : {t : Table} {xs : List ℕ} → Segmented t xs → (i : ℕ) → i < t .rows → (j : ℕ) → j < i → t .way j ≡ t .way i
 ways L i l j k = L .way j (omega (arith, l, k)) ∙ sym (L .way i l)
 
 past-last-requires : tie.Need-past-last-requires Inv-loop μ-loop

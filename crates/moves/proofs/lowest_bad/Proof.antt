@@ -4,13 +4,13 @@ use Prim.Native.Nat.{_-_, _≤_}
 use native.Mathlib.Omega.{arith}
 use borrow.Author.Needs.{needs}
 use Rattle.rules.specs.Bus.{Table}
-use Rattle.moves.specs.Words.{Laid}
+use Rattle.moves.specs.Words.{Segmented}
 use Rattle.moves.proofs.Bad.{Clean, clean-start, clean-next, clean-found, clean-past, clean-end}
 use Rattle.moves.proofs.lowest_bad.Statement.{statement}
 use Rattle.moves.proofs.lowest_bad.Tie as tie
 
 abbrev Inv-loop : tie.InvT-loop
-Inv-loop rows routes plan hyper slot₀ slot = (slot ≤ hyper) × ((t : Table) → t .rows ≡ rows → Laid t routes → Clean t plan slot)
+Inv-loop rows routes plan hyper slot₀ slot = (slot ≤ hyper) × ((t : Table) → t .rows ≡ rows → Segmented t routes → Clean t plan slot)
 
 abbrev μ-loop : tie.MeasureT-loop
 μ-loop rows routes plan hyper slot₀ slot = hyper - slot

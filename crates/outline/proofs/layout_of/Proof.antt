@@ -1,5 +1,5 @@
 -- layout_of: each refusal stands as its check gives it, and what is left is found.
-use mathlib.Core.Path.{_≡_, refl, _∙_}
+use mathlib.Core.Path.{_≡_, refl}
 use Prim.Native.Nat.{ℕ}
 use native.Mathlib.Omega.{arith}
 use borrow.Author.Needs.{needs}
@@ -9,10 +9,8 @@ use Rattle.table.specs.Sound.{Sound}
 use Rattle.ring.specs.Route.{Element}
 use Rattle.ring.proofs.Rows.{sound-routes, sound-one-way, laid-first, laid-second}
 use Rattle.ring.proofs.OnLine.{line-short}
-use Rattle.numbers.proofs.Divisors.{least-gcd-only}
-use Rattle.lags.proofs.Intervals.{hyperperiod-positive, shortest-gcd}
 use Rattle.outline.specs.Layout.{tableWith}
-use Rattle.time.proofs.Periods.{periods-of, capped-hyper, capped-some, capped-none}
+use Rattle.time.proofs.Periods.{periods-of, clocks-timed, clocks-long}
 use Rattle.outline.proofs.Outlined.{long-refused, answers-at}
 use Rattle.outline.proofs.Cuts.{cut-searched, uncut-refused, all-cut, cut-element, other-element, cut-board}
 use Rattle.outline.proofs.Laying.{laid-refused, laid-found}
@@ -59,8 +57,8 @@ returns c cost s =
     (answers-at _ _ _ _ (c .before .at .ensures)
     (uncut-refused s (is-cut u cost s) (is-other u cost s) (u .lowest-uncut .ensures) (c .before .before .if1 .taken))))
 
-hyperperiod-of-requires : tie.Need-hyperperiod-of-requires
-hyperperiod-of-requires c κs = periods-of (entry (c .before) .pre .1)
+of-requires : tie.Need-of-requires
+of-requires c κs = periods-of (entry (c .before) .pre .1)
 
 at-requires-2 : tie.Need-at-requires-2
 at-requires-2 c κs = search needs
@@ -87,17 +85,17 @@ module _ (e : tie.Else1) (cost : ℕ → ℕ) (s : Sound (table (entry (e .befor
 
 returns-2 : tie.Need-returns-2
 returns-2 c cost s =
-    let h = c .before .before .before in
+    let h = c .before .before .before .before in
     let t = table (entry (h .before .before)) cost in
-    let long = capped-none (capped-hyper t (h .hyperperiod-of .ensures)) (c .before .before .if2 .taken) (hyperperiod-positive s) in
     rw (c .refused2 .ensures)
     (laid-refused _ (λ q. omega (arith, c .before .at2 .ensures .0))
-    (answers-at _ _ _ _ (c .before .at2 .ensures) (long-refused t (has-cuts (h .before) cost s) long)))
+    (answers-at _ _ _ _ (c .before .at2 .ensures)
+    (long-refused t (has-cuts (h .before) cost s) (clocks-long s (h .of .ensures) (c .before .before .if2 .taken)))))
 
 -- ---- past both tests all is found
 
 abbrev asked : tie.After-done → tie.Else1
-asked d = d .before .before .before
+asked d = d .before .before .before .before
 
 abbrev start : tie.After-done → tie.Start
 start d = entry (asked d .before)
@@ -124,36 +122,25 @@ mul-t19 c =
     let p = start d .pre in
     omega (arith, line-short (table (start d) (p .0)) (p .1) (has-cuts (asked d) (p .0) (p .1)))
 
-of-requires : tie.Need-of-requires
-of-requires c κs = periods-of (start (c .before .before) .pre .1)
-
 lay-requires : tie.Need-lay-requires
 lay-requires c κs =
-    let d = c .before .before .before in
+    let d = c .before .before in
     let p = start d .pre in
     (sound-routes (p .1), sound-one-way (p .1), has-cut (asked d) (p .0) (p .1), has-other (asked d) (p .0) (p .1))
 
 returns-3 : tie.Need-returns-3
 returns-3 c cost z =
-    let d = c .before .before .before .before in
+    let d = c .before .before .before in
     let u = asked d .before in
     let t = table (start d) cost in
     let q = is-cut u cost z in
     let o = is-other u cost z in
-    let h = capped-some (capped-hyper t (d .before .before .hyperperiod-of .ensures)) (d .before .if2 .left) in
-    let C = c .before .of .ensures in
     laid-found t _ (d .done .ensures)
     (record {
-      timed = record {
-        sound = z;
-        short = omega (arith, h);
-        hyper = C .hyper ∙ h .0;
-        interval = least-gcd-only (C .interval) (shortest-gcd z);
-        leads = C .leads;
-      };
+      timed = clocks-timed z (d .before .before .before .of .ensures) (d .before .if2 .left);
       clear = has-cuts (asked d) cost z;
-      cut = cut-board z clockwise q (c .before .before .before .board-cut .ensures);
-      other = cut-board z counterclockwise o (c .before .before .board-cut2 .ensures);
+      cut = cut-board z clockwise q (c .before .before .board-cut .ensures);
+      other = cut-board z counterclockwise o (c .before .board-cut2 .ensures);
       top = refl;
       first = laid-first t (sound-routes z .ways) q o (c .lay .ensures);
       second = laid-second t (sound-routes z .ways) q o (c .lay .ensures);
@@ -169,7 +156,7 @@ layout-of-spec =
     at-requires
     refused-requires
     returns
-    hyperperiod-of-requires
+    of-requires
     at-requires-2
     refused-requires-2
     returns-2
@@ -178,6 +165,5 @@ layout-of-spec =
     board-cut-requires-2
     add-t18
     mul-t19
-    of-requires
     lay-requires
     returns-3)

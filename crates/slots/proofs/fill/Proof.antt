@@ -1,13 +1,13 @@
 -- `fill` meets its contract: `Course` says what each of its loops keeps.
-use mathlib.Core.Path.{_≡_, refl, ap, _∙_}
+use mathlib.Core.Path.{_≡_, refl, sym, ap, _∙_}
 use mathlib.Core.Logic.{inl, inr, ⊎-elim}
 use mathlib.Core.List.{List}
-use Prim.Native.Nat.{ℕ, _-_, _≤_, _<_}
+use Prim.Native.Nat.{ℕ, _+_, _-_, _^_, _≤_, _<_}
 use native.Mathlib.Omega.{arith}
 use borrow.Author.Needs.{needs}
 use lib.Bits.{bitOr}
-use lib.ListN.{length}
-use lib.Seq.{getD-set-same}
+use lib.ListN.{length, set, length-set}
+use lib.Seq.{getD-set-same, getD-set-other}
 use Rattle.numbers.specs.Lists.{at}
 use Rattle.numbers.proofs.Word.{one-shl}
 use Rattle.rules.specs.Bounds.{max-rows, max-slots}
@@ -16,10 +16,10 @@ use Rattle.placing.specs.Filled.{Kept, FilledSlots}
 use Rattle.stretches.specs.Stretches.{most-stretches}
 use Rattle.chains.proofs.Chained.{link-row, rest, rest-less}
 use Rattle.placing.proofs.Kept.{kept-none, kept-trans, kept-set, kept-cleared}
-use Rattle.stretches.proofs.Stretches.{parted-sizes, parted-kept, parted-end}
+use Rattle.stretches.proofs.Stretches.{Fitted, fitted-whole, fitted-parted, fitted-end}
 use Rattle.stretches.proofs.Stretched.{stretched-low, stretched-end}
 use Rattle.stretches.proofs.Course.{Coming, coming-start, coming-end, Along, along-start, along-end}
-use Rattle.stretches.proofs.Course.{Turning, turning-as, turning-start, turning-skip, turning-take, turning-end}
+use Rattle.stretches.proofs.Course.{Turning, turning-start, turning-skip, turning-take, turning-end}
 use Rattle.slots.proofs.fill.Statement.{statement}
 use Rattle.slots.proofs.fill.Tie as tie
 
@@ -67,21 +67,24 @@ AtSlots = tie.At-slots Inv-slots μ-slots Inv-loop2 μ-loop2 Inv-loop μ-loop
 abbrev InSlots : Type 0
 InSlots = tie.In-slots Inv-slots μ-slots Inv-loop2 μ-loop2 Inv-loop μ-loop
 
--- where load is left
+-- where load and slots are left
 abbrev Loaded : Type 0
 Loaded = tie.Else1 Inv-slots μ-slots Inv-loop2 μ-loop2 Inv-loop μ-loop
 
--- where the stretch is parted
-abbrev AtPart : Type 0
-AtPart = tie.After-part Inv-slots μ-slots Inv-loop2 μ-loop2 Inv-loop μ-loop
+-- where the stretch is free
+abbrev Free : Type 0
+Free = tie.Else2 Inv-slots μ-slots Inv-loop2 μ-loop2 Inv-loop μ-loop
 
--- where the slot has its word
-abbrev Written : Type 0
-Written = tie.After-slice-known4 Inv-slots μ-slots Inv-loop2 μ-loop2 Inv-loop μ-loop
+-- where it has more slots than load is left, and where not
+abbrev TooLong : Type 0
+TooLong = tie.Then3 Inv-slots μ-slots Inv-loop2 μ-loop2 Inv-loop μ-loop
+
+abbrev Short : Type 0
+Short = tie.Else3 Inv-slots μ-slots Inv-loop2 μ-loop2 Inv-loop μ-loop
 
 -- where all is done
 abbrev Done : Type 0
-Done = tie.After-slice-known5 Inv-slots μ-slots Inv-loop2 μ-loop2 Inv-loop μ-loop
+Done = tie.After-slice-known4 Inv-slots μ-slots Inv-loop2 μ-loop2 Inv-loop μ-loop
 
 abbrev start : AtElements → tie.Start Inv-slots μ-slots Inv-loop2 μ-loop2 Inv-loop μ-loop
 start c = c .before .before .before .before .before .before
@@ -95,11 +98,20 @@ rows-of c = c .before .before
 abbrev start-slots : AtSlots → tie.Start Inv-slots μ-slots Inv-loop2 μ-loop2 Inv-loop μ-loop
 start-slots c = start-rows (rows-of c .before)
 
-abbrev slots-of : AtPart → InSlots
-slots-of c = c .before .before .before .before .before .before .before .before
+abbrev slots-of : Loaded → AtSlots
+slots-of c = c .before .before
 
-abbrev part-of : Written → AtPart
-part-of c = c .before .before .before
+abbrev row-of : Loaded → InRows
+row-of c = rows-of (slots-of c)
+
+abbrev free-of : Free → Loaded
+free-of c = c .before .before .before
+
+abbrev long-of : TooLong → Loaded
+long-of c = free-of (c .before .before)
+
+abbrev short-of : Short → Loaded
+short-of c = free-of (c .before .before)
 
 abbrev end-of : Done → AtElements
 end-of c = c .before .before .before .before .before .before .before
@@ -184,20 +196,38 @@ slots-holds c =
 
 -- ---- a stretch
 
+here : (c : Loaded) → slots-of c .slots .s < start-slots (slots-of c) .args .slots
+here c = c .before .slots-test .taken
+
+some : (c : Loaded) → 0 < slots-of c .slots .left
+some c = omega (arith, c .if1 .left)
+
 -- it is one of those there can be
-low : (c : InSlots) → c .before .slots .k < most-stretches
-low c = stretched-low (c .before .slots .inv .1 _ _ (start-slots (c .before) .pre .0 .2) .stretched) (c .slots-test .taken)
+low : (c : Loaded) → slots-of c .slots .k < most-stretches
+low c = stretched-low (slots-of c .slots .inv .1 _ _ (start-slots (slots-of c) .pre .0 .2) .stretched) (here c)
 
-ends : (c : InSlots)
-    → (c .before .slots .s < at (c .before .slots .end) (c .before .slots .k))
-    × (at (c .before .slots .end) (c .before .slots .k) ≤ start-slots (c .before) .args .slots)
-ends c = stretched-end (c .before .slots .inv .1 _ _ (start-slots (c .before) .pre .0 .2) .stretched) (c .slots-test .taken)
+sized : (c : Loaded) → (length (slots-of c .slots .end) ≡ most-stretches) × (length (slots-of c .slots .after) ≡ most-stretches)
+sized c = let S = slots-of c .slots .inv .1 _ _ (start-slots (slots-of c) .pre .0 .2) .stretched in (S .end-size, S .after-size)
 
-sized : (c : InSlots) → length (c .before .slots .end) ≡ most-stretches
-sized c = c .before .slots .inv .1 _ _ (start-slots (c .before) .pre .0 .2) .stretched .end-size
+ends : (c : Loaded)
+    → (slots-of c .slots .s < at (slots-of c .slots .end) (slots-of c .slots .k))
+    × (at (slots-of c .slots .end) (slots-of c .slots .k) ≤ start-slots (slots-of c) .args .slots)
+    × (start-slots (slots-of c) .args .slots ≤ max-slots)
+    × (start-slots (slots-of c) .args .slots ≤ length (slots-of c .slots .words))
+ends c =
+    let S = start-slots (slots-of c) in
+    let T = slots-of c .slots .inv .1 _ _ (S .pre .0 .2) .stretched in
+    let e = stretched-end T (here c) in
+    (e .0, e .1, S .pre .1, T .room)
 
-some : (c : Loaded) → 0 < c .before .before .slots .left
-some c = omega arith
+mul-slot : tie.Need-mul-slot Inv-slots μ-slots Inv-loop2 μ-loop2 Inv-loop μ-loop
+mul-slot c = record { fits = omega (arith, low c) }
+
+array-read-slot : tie.Need-array-read-slot Inv-slots μ-slots Inv-loop2 μ-loop2 Inv-loop μ-loop
+array-read-slot c = low c
+
+slot-requires : tie.Need-slot-requires Inv-slots μ-slots Inv-loop2 μ-loop2 Inv-loop μ-loop
+slot-requires c κs = search needs
 
 array-read-wide : tie.Need-array-read-wide Inv-slots μ-slots Inv-loop2 μ-loop2 Inv-loop μ-loop
 array-read-wide c = low (c .before)
@@ -205,133 +235,185 @@ array-read-wide c = low (c .before)
 wide-requires : tie.Need-wide-requires Inv-slots μ-slots Inv-loop2 μ-loop2 Inv-loop μ-loop
 wide-requires c κs = search needs
 
-add-part : tie.Need-add-part Inv-slots μ-slots Inv-loop2 μ-loop2 Inv-loop μ-loop
-add-part c = record { fits = omega (arith, row-is (rows-of (c .before .before .before .before .before .before .before .before))) }
-
-part-requires : tie.Need-part-requires Inv-slots μ-slots Inv-loop2 μ-loop2 Inv-loop μ-loop
-part-requires c κs =
-    let I = c .before .before .before .before .before .before .before in
-    let S = start-slots (I .before) in
-    let T = I .before .slots .inv .1 _ _ (S .pre .0 .2) .stretched in (
-      T .end-size,
-      T .last-size,
-      T .after-size,
-      low I,
-      omega (arith, row-is (rows-of (I .before))),
-      omega (arith, ends I),
-      omega (arith, ends I, S .pre .1),
-      omega (arith, ends I, T .room),
-    )
-
--- ---- it is taken
-
-room : (c : AtPart) → slots-of c .before .slots .s < length (c .part .last .1 .1 .1 .0)
-room c =
-    let I = slots-of c in
-    omega (
-      arith,
-      parted-sizes (c .part .ensures),
-      ends I,
-      I .before .slots .inv .1 _ _ (start-slots (I .before) .pre .0 .2) .stretched .room,
-    )
-
--- the row takes no more than its load
-sub-left : tie.Need-sub-left Inv-slots μ-slots Inv-loop2 μ-loop2 Inv-loop μ-loop
-sub-left c =
-    let P = c .before .before in
-    let I = slots-of P in
-    parted-end (P .part .ensures) (ends I .0) (some (P .before .before .before .before .before .before .before))
-    (omega (arith, low I, sized I)) .1
-
-small : (c : InSlots) → c .before .slots .s < max-slots
-small c = omega (arith, ends c, start-slots (c .before) .pre .1)
-
-mul-words : tie.Need-mul-words Inv-slots μ-slots Inv-loop2 μ-loop2 Inv-loop μ-loop
-mul-words c = record { fits = omega (arith, small (slots-of (c .before .before))) }
-
-slice-read-words : tie.Need-slice-read-words Inv-slots μ-slots Inv-loop2 μ-loop2 Inv-loop μ-loop
-slice-read-words c = room (part-of c)
-
-mul-words-2 : tie.Need-mul-words-2 Inv-slots μ-slots Inv-loop2 μ-loop2 Inv-loop μ-loop
-mul-words-2 c = record { fits = omega (arith, small (slots-of (part-of c))) }
-
-slice-write-words : tie.Need-slice-write-words Inv-slots μ-slots Inv-loop2 μ-loop2 Inv-loop μ-loop
-slice-write-words c = room (part-of c)
-
-element-copy-out-last : tie.Need-element-copy-out-last Inv-slots μ-slots Inv-loop2 μ-loop2 Inv-loop μ-loop
-element-copy-out-last c = omega (arith, row-is (rows-of (slots-of (part-of c) .before)))
-
-array-write-last : tie.Need-array-write-last Inv-slots μ-slots Inv-loop2 μ-loop2 Inv-loop μ-loop
-array-write-last c = low (slots-of (part-of (c .before)))
-
--- ---- on to the next stretch
-
-mul-slot : tie.Need-mul-slot Inv-slots μ-slots Inv-loop2 μ-loop2 Inv-loop μ-loop
-mul-slot c = record { fits = omega (arith, low (c .before .before .before)) }
-
-array-read-slot : tie.Need-array-read-slot Inv-slots μ-slots Inv-loop2 μ-loop2 Inv-loop μ-loop
-array-read-slot c = low (c .before .before .before)
-
-slot-requires : tie.Need-slot-requires Inv-slots μ-slots Inv-loop2 μ-loop2 Inv-loop μ-loop
-slot-requires c κs = search needs
+-- ---- it is not free
 
 array-read-wide-2 : tie.Need-array-read-wide-2 Inv-slots μ-slots Inv-loop2 μ-loop2 Inv-loop μ-loop
-array-read-wide-2 c = low (c .before .before .before .before)
+array-read-wide-2 c = low (c .before .before .before)
 
 wide-requires-2 : tie.Need-wide-requires-2 Inv-slots μ-slots Inv-loop2 μ-loop2 Inv-loop μ-loop
 wide-requires-2 c κs = search needs
 
 slots-less : tie.Need-slots-less Inv-slots μ-slots Inv-loop2 μ-loop2 Inv-loop μ-loop
 slots-less c =
-    let J = c .before .before in
-    let I = J .before .before .before in
-    let k = I .before .slots .k in
-    let to = c .before .slot .ensures in
-    ⊎-elim
-    (λ z.
-    omega (
-      arith,
-      ap (λ (es : List ℕ). at es k) (z .11),
-      parted-end (z .5 .ensures) (ends I .0) (some (J .before .before)) (omega (arith, low I, sized I)),
-      I .slots-test .taken,
-    ))
-    (λ z. omega (arith, ap (λ (es : List ℕ). at es k) (z .2), ends I, I .slots-test .taken))
-    (J .if2 .came)
+    let S = c .before .before .before in
+    omega (arith, S .slot .ensures, ends (S .before))
 
 slots-again : tie.Need-slots-again Inv-slots μ-slots Inv-loop2 μ-loop2 Inv-loop μ-loop
 slots-again c =
-    let J = c .before .before in
-    let I = J .before .before .before in
-    let k = I .before .slots .k in
-    let s = I .before .slots .s in
-    let i = rows-of (I .before) .before .loop2 .r - 1 in
-    ⊎-elim
-    (λ z.
-    let P = z .5 .ensures in
-    let word = ap (bitOr (at (z .5 .last .1 .1 .1 .0) s)) (one-shl i (omega (arith, row-is (rows-of (I .before))))) in (
-      rw (z .10) (kept-set s _ (parted-kept P (ends I .1) (I .before .slots .inv .0)) (I .slots-test .taken)),
+    let W = c .before .before in
+    let L = W .before .before in
+    let I = slots-of L .slots .inv in (
+      I .0,
       λ n f O.
-          let T = I .before .slots .inv .1 n f O in
-          turning-as
-          (turning-take T (I .slots-test .taken) (some (J .before .before)) P (O .few)
-          (omega (arith, z .0 .taken, J .before .wide .ensures, T .start)) word
-          (c .before .slot .ensures ∙ ap (λ (es : List ℕ). at es k) (z .11))
-          (c .wide2 .ensures ∙ ap (λ (fs : List ℕ). at fs k) (z .13))
-          (z .14) .0)
-          refl (z .11) (z .12) (z .13) (z .10),
-    ))
-    (λ z. (
-      rw (z .1) (I .before .slots .inv .0),
+          let T = I .1 n f O in
+          turning-skip T (here L) (some L) (omega (arith, c .before .if2 .taken, W .wide .ensures, T .start)) (W .before .slot .ensures)
+          (c .wide2 .ensures) .0,
+    )
+
+-- ---- it is free
+
+mul-word : tie.Need-mul-word Inv-slots μ-slots Inv-loop2 μ-loop2 Inv-loop μ-loop
+mul-word c = record { fits = omega (arith, ends (free-of c)) }
+
+slice-read-word : tie.Need-slice-read-word Inv-slots μ-slots Inv-loop2 μ-loop2 Inv-loop μ-loop
+slice-read-word c = omega (arith, ends (free-of (c .before)))
+
+sub-if3 : tie.Need-sub-if3 Inv-slots μ-slots Inv-loop2 μ-loop2 Inv-loop μ-loop
+sub-if3 c = omega (arith, ends (free-of (c .before)), c .before .before .before .slot .ensures)
+
+-- ---- it has more slots than load is left
+
+longer : (c : TooLong) → slots-of (long-of c) .slots .s + slots-of (long-of c) .slots .left
+    < at (slots-of (long-of c) .slots .end) (slots-of (long-of c) .slots .k)
+longer c = omega (arith, c .if3 .taken, c .before .before .before .before .slot .ensures)
+
+middle : (c : TooLong) → (slots-of (long-of c) .slots .s + slots-of (long-of c) .slots .left < start-slots (slots-of (long-of c)) .args .slots)
+    × (start-slots (slots-of (long-of c)) .args .slots ≤ max-slots)
+    × (start-slots (slots-of (long-of c)) .args .slots ≤ length (slots-of (long-of c) .slots .words))
+middle c = let e = ends (long-of c) in (omega (arith, longer c), e .2, e .3)
+
+add-words : tie.Need-add-words Inv-slots μ-slots Inv-loop2 μ-loop2 Inv-loop μ-loop
+add-words c = record { fits = omega (arith, middle c) }
+
+mul-words : tie.Need-mul-words Inv-slots μ-slots Inv-loop2 μ-loop2 Inv-loop μ-loop
+mul-words c = record { fits = omega (arith, middle c) }
+
+slice-write-words : tie.Need-slice-write-words Inv-slots μ-slots Inv-loop2 μ-loop2 Inv-loop μ-loop
+slice-write-words c = omega (arith, middle c)
+
+mul-words-2 : tie.Need-mul-words-2 Inv-slots μ-slots Inv-loop2 μ-loop2 Inv-loop μ-loop
+mul-words-2 c = record { fits = omega (arith, middle c) }
+
+slice-write-words-2 : tie.Need-slice-write-words-2 Inv-slots μ-slots Inv-loop2 μ-loop2 Inv-loop μ-loop
+slice-write-words-2 c = simp length-set (omega (arith, middle c))
+
+add-part : tie.Need-add-part Inv-slots μ-slots Inv-loop2 μ-loop2 Inv-loop μ-loop
+add-part c = record { fits = omega (arith, middle (c .before .before .before)) }
+
+add-part-2 : tie.Need-add-part-2 Inv-slots μ-slots Inv-loop2 μ-loop2 Inv-loop μ-loop
+add-part-2 c = record { fits = omega (arith, row-is (row-of (long-of (c .before .before .before)))) }
+
+part-requires : tie.Need-part-requires Inv-slots μ-slots Inv-loop2 μ-loop2 Inv-loop μ-loop
+part-requires c κs =
+    let M = c .before .before .before in
+    let L = long-of M in
+    let S = start-slots (slots-of L) in
+    let T = slots-of L .slots .inv .1 _ _ (S .pre .0 .2) .stretched in (
+      T .end-size,
+      T .last-size,
+      T .after-size,
+      low L,
+      omega (arith, row-is (row-of L)),
+      omega (arith, middle M),
+    )
+
+element-copy-out-last : tie.Need-element-copy-out-last Inv-slots μ-slots Inv-loop2 μ-loop2 Inv-loop μ-loop
+element-copy-out-last c = omega (arith, row-is (row-of (long-of (c .before .before .before .before))))
+
+array-write-last : tie.Need-array-write-last Inv-slots μ-slots Inv-loop2 μ-loop2 Inv-loop μ-loop
+array-write-last c = low (long-of (c .before .before .before .before .before))
+
+add-s : tie.Need-add-s Inv-slots μ-slots Inv-loop2 μ-loop2 Inv-loop μ-loop
+add-s c = record { fits = omega (arith, middle (c .before .before .before .before .before)) }
+
+add-k : tie.Need-add-k Inv-slots μ-slots Inv-loop2 μ-loop2 Inv-loop μ-loop
+add-k c = record { fits = omega (arith, row-is (row-of (long-of (c .before .before .before .before .before)))) }
+
+slots-less-2 : tie.Need-slots-less-2 Inv-slots μ-slots Inv-loop2 μ-loop2 Inv-loop μ-loop
+slots-less-2 c =
+    let M = c .before .before .before .before .before in
+    omega (arith, some (long-of M), here (long-of M))
+
+slots-again-2 : tie.Need-slots-again-2 Inv-slots μ-slots Inv-loop2 μ-loop2 Inv-loop μ-loop
+slots-again-2 c =
+    let P = c .before .part .ensures in
+    let M = c .before .before .before .before .before in
+    let L = long-of M in
+    let l = slots-of L .slots in
+    let i = row-of L .before .loop2 .r - 1 in
+    let ws = set (l .words) (l .s + l .left) (at (l .words) (l .s)) in
+    let F : Fitted (l .k) (l .s) (l .left) (i + 1) (l .left) (l .end) (l .last) (l .after) (l .words) _ _ _ ws =
+    fitted-parted (longer M) P refl in
+    let away : at ws (l .s) ≡ at (l .words) (l .s) =
+    getD-set-other (l .words) (l .s + l .left) (l .s) (at (l .words) (l .s)) 0 (λ q. omega (arith, some L)) in
+    let fits = fitted-end F (ends L .0) (some L) (omega (arith, low L, sized L)) in
+    let used : 0 ≡ l .left - l .left = omega arith in (
+      kept-set (l .s) _ (kept-set (l .s + l .left) _ (l .inv .0) (middle M .0)) (here L),
       λ n f O.
-          let T = I .before .slots .inv .1 n f O in
-          turning-as
-          (turning-skip T (I .slots-test .taken) (some (J .before .before))
-          (omega (arith, z .0 .left, J .before .wide .ensures, T .start))
-          (c .before .slot .ensures ∙ ap (λ (es : List ℕ). at es k) (z .2))
-          (c .wide2 .ensures ∙ ap (λ (fs : List ℕ). at fs k) (z .4)) .0)
-          (z .5) (z .2) (z .3) (z .4) (z .1),
-    ))
-    (J .if2 .came)
+          let T = l .inv .1 n f O in
+          turning-take T (here L) (some L) F (O .few)
+          (omega (arith, M .before .before .if2 .left, M .before .before .before .wide .ensures, T .start))
+          (ap (bitOr (at (l .words) (l .s))) (one-shl i (omega (arith, row-is (row-of L)))) ∙ ap (λ (v : ℕ). bitOr v (2 ^ i)) (sym away))
+          (sym (fits .2))
+          (sym (ap (λ (fs : List ℕ). at fs (l .k)) (P .afters)
+          ∙ getD-set-same (set (l .after) (i + 1) (at (l .after) (l .k))) (l .k) (i + 1) 0 (simp length-set (omega (arith, low L, sized L)))))
+          used .0,
+    )
+
+-- ---- it has no more
+
+fitting : (c : Short) → at (slots-of (short-of c) .slots .end) (slots-of (short-of c) .slots .k)
+    ≤ slots-of (short-of c) .slots .s + slots-of (short-of c) .slots .left
+fitting c = omega (arith, c .if3 .left, c .before .before .before .before .slot .ensures)
+
+mul-words-3 : tie.Need-mul-words-3 Inv-slots μ-slots Inv-loop2 μ-loop2 Inv-loop μ-loop
+mul-words-3 c = record { fits = omega (arith, ends (short-of c)) }
+
+slice-write-words-3 : tie.Need-slice-write-words-3 Inv-slots μ-slots Inv-loop2 μ-loop2 Inv-loop μ-loop
+slice-write-words-3 c = omega (arith, ends (short-of c))
+
+element-copy-out-last-2 : tie.Need-element-copy-out-last-2 Inv-slots μ-slots Inv-loop2 μ-loop2 Inv-loop μ-loop
+element-copy-out-last-2 c = omega (arith, row-is (row-of (short-of c)))
+
+array-write-last-2 : tie.Need-array-write-last-2 Inv-slots μ-slots Inv-loop2 μ-loop2 Inv-loop μ-loop
+array-write-last-2 c = low (short-of (c .before))
+
+sub-left : tie.Need-sub-left Inv-slots μ-slots Inv-loop2 μ-loop2 Inv-loop μ-loop
+sub-left c =
+    let S = c .before in
+    omega (arith, ends (short-of S), S .before .before .before .before .slot .ensures)
+
+sub-left-2 : tie.Need-sub-left-2 Inv-slots μ-slots Inv-loop2 μ-loop2 Inv-loop μ-loop
+sub-left-2 c =
+    let S = c .before in
+    omega (arith, fitting S, S .before .before .before .before .slot .ensures)
+
+array-read-wide-3 : tie.Need-array-read-wide-3 Inv-slots μ-slots Inv-loop2 μ-loop2 Inv-loop μ-loop
+array-read-wide-3 c = low (short-of (c .before))
+
+wide-requires-3 : tie.Need-wide-requires-3 Inv-slots μ-slots Inv-loop2 μ-loop2 Inv-loop μ-loop
+wide-requires-3 c κs = search needs
+
+slots-less-3 : tie.Need-slots-less-3 Inv-slots μ-slots Inv-loop2 μ-loop2 Inv-loop μ-loop
+slots-less-3 c =
+    let S = c .before .before in
+    omega (arith, ends (short-of S), S .before .before .before .before .slot .ensures)
+
+slots-again-3 : tie.Need-slots-again-3 Inv-slots μ-slots Inv-loop2 μ-loop2 Inv-loop μ-loop
+slots-again-3 c =
+    let S = c .before .before in
+    let L = short-of S in
+    let l = slots-of L .slots in
+    let i = row-of L .before .loop2 .r - 1 in
+    let to = S .before .before .before .before .slot .ensures in (
+      kept-set (l .s) _ (l .inv .0) (here L),
+      λ n f O.
+          let T = l .inv .1 n f O in
+          turning-take T (here L) (some L) (fitted-whole (i + 1) (fitting S) (ap (λ (e : ℕ). e - l .s) to)) (O .few)
+          (omega (arith, S .before .before .if2 .left, S .before .before .before .wide .ensures, T .start))
+          (ap (bitOr (at (l .words) (l .s))) (one-shl i (omega (arith, row-is (row-of L)))))
+          to (c .wide3 .ensures) refl .0,
+    )
 
 -- ---- the turn is over
 
@@ -422,24 +504,42 @@ fill-spec =
     mul-left
     element-copy-out-left
     slots-holds
-    array-read-wide
-    wide-requires
-    add-part
-    part-requires
-    sub-left
-    mul-words
-    slice-read-words
-    mul-words-2
-    slice-write-words
-    element-copy-out-last
-    array-write-last
     mul-slot
     array-read-slot
     slot-requires
+    array-read-wide
+    wide-requires
     array-read-wide-2
     wide-requires-2
     slots-less
     slots-again
+    mul-word
+    slice-read-word
+    sub-if3
+    add-words
+    mul-words
+    slice-write-words
+    mul-words-2
+    slice-write-words-2
+    add-part
+    add-part-2
+    part-requires
+    element-copy-out-last
+    array-write-last
+    add-s
+    add-k
+    slots-less-2
+    slots-again-2
+    mul-words-3
+    slice-write-words-3
+    element-copy-out-last-2
+    array-write-last-2
+    sub-left
+    sub-left-2
+    array-read-wide-3
+    wide-requires-3
+    slots-less-3
+    slots-again-3
     element-copy-out-r-2
     loop2-less
     loop2-again

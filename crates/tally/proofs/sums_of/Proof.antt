@@ -4,19 +4,19 @@ use Prim.Native.Nat.{ℕ, _-_, _≤_}
 use native.Mathlib.Omega.{arith}
 use Rattle.rules.specs.Live.{sumOver}
 use Rattle.tally.specs.Tally.{columnLive}
-use Rattle.tally.proofs.Tally.{Laid, laid-start, laid-next, laid-end}
+use Rattle.tally.proofs.Tally.{SummedTo, summed-start, summed-next, summed-end}
 use Rattle.tally.proofs.sums_of.Statement.{statement}
 use Rattle.tally.proofs.sums_of.Tie as tie
 
 abbrev Inv-loop : tie.InvT-loop
 Inv-loop elements d cost period first second sums₀ s₀ sums s =
-    (s ≤ elements) × ((label : List ℕ) → Laid (sumOver d (columnLive elements cost period first second label)) s sums)
+    (s ≤ elements) × ((label : List ℕ) → SummedTo (sumOver d (columnLive elements cost period first second label)) s sums)
 
 abbrev μ-loop : tie.MeasureT-loop
 μ-loop elements d cost period first second sums₀ s₀ sums s = elements - s
 
 loop-holds : tie.Need-loop-holds Inv-loop μ-loop
-loop-holds c = (omega arith, λ label. laid-start)
+loop-holds c = (omega arith, λ label. summed-start)
 
 sum-of-requires : tie.Need-sum-of-requires Inv-loop μ-loop
 sum-of-requires c κs = let z = c .before .before in (z .pre .0, omega arith, z .pre .1)
@@ -36,10 +36,10 @@ loop-less c = omega arith
 loop-again : tie.Need-loop-again Inv-loop μ-loop
 loop-again c =
     let u = c .before .before in
-    (omega arith, λ label. laid-next _ (u .loop .inv .1 label) (omega (arith, u .before .pre .1 .small)) (c .sum-of .ensures label))
+    (omega arith, λ label. summed-next _ (u .loop .inv .1 label) (omega (arith, u .before .pre .1 .small)) (c .sum-of .ensures label))
 
 returns : tie.Need-returns Inv-loop μ-loop
-returns c = let L = c .before .loop .inv .1 in (L [] .size, λ label. laid-end _ _ (L label) (omega arith))
+returns c = let L = c .before .loop .inv .1 in (L [] .size, λ label. summed-end _ _ (L label) (omega arith))
 
 pub sums-of-spec : {M : Type 1} → statement M
 sums-of-spec =

@@ -1,4 +1,7 @@
 -- analysis_of: the refusal of the outline, or what is weighed.
+use mathlib.Core.Path.{refl}
+use mathlib.Core.List.{List}
+use Prim.Native.Nat.{ℕ}
 use native.Mathlib.Omega.{arith}
 use borrow.Author.Needs.{needs}
 use Rattle.numbers.specs.Lists.{at}
@@ -7,9 +10,9 @@ use Rattle.rules.specs.Refusals.{line-checks, bound-checks}
 use Rattle.table.specs.Columns.{columnTable}
 use Rattle.outline.specs.Outlined.{Outlined}
 use Rattle.weights.proofs.Weighing.{times-of, rates-are}
-use Rattle.verdict.specs.Weighing.{Rest}
+use Rattle.verdict.specs.Weighing.{Rest, Weighs}
 use Rattle.verdict.specs.Analysed.{Rated}
-use Rattle.verdict.proofs.Analysing.{analysed-first, analysed-after, line-none}
+use Rattle.verdict.proofs.Analysing.{analysed-first, analysed-after, line-none, rated-weighable, analysed-next, analysed-done}
 use Rattle.verdict.proofs.analysis_of.Statement.{statement}
 use Rattle.verdict.proofs.analysis_of.Tie as tie
 
@@ -38,33 +41,66 @@ returns c =
     let d = c .before .before .before .before in
     rw (c .refused .ensures) (analysed-first (table d) _ (outlined d) (c .before .if1 .taken))
 
--- the way back from the rates to the outline
-abbrev asked : tie.Else1 → tie.After-outline-of
-asked e = e .before .before .before
+-- the way back from the rates to the outline, and from the weights to the rates
+abbrev asked : tie.After-put-rates → tie.After-outline-of
+asked d = d .before .before .before .before .before
 
-rated : (d : tie.After-rates)
-    → (let a = asked (d .before) in
-    Rated (table a) (a .outline-of .result) (d .rates .result))
+abbrev rates : tie.After-put-rates → List ℕ
+rates d = d .put-rates .last .1 .1 .1 .1 .0
+
+rated : (d : tie.After-put-rates) → Rated (table (asked d)) (asked d .outline-of .result) (rates d)
 rated d =
-    let e = d .before in
-    let a = asked e in
+    let e = d .before .before in
+    let a = asked d in
     let F = outlined a .found (e .if1 .left) in
-    record { outlined = outlined a; passed = e .if1 .left; rate = rates-are (table a) (F .timed .hyper) (d .rates .ensures) }
+    record { outlined = outlined a; passed = e .if1 .left; rate = rates-are (table a) (F .timed .hyper) (d .put-rates .ensures) }
 
-rates-requires : tie.Need-rates-requires
-rates-requires c κs =
-    let T = outlined (asked c) .found (c .if1 .left) .timed in
-    (times-of (T .sound), omega (arith, T .hyper, T .short))
+put-rates-requires : tie.Need-put-rates-requires
+put-rates-requires c κs =
+    let e = c .before in
+    let T = outlined (e .before .before .before) .found (e .if1 .left) .timed in
+    (times-of (T .sound), omega (arith, T .hyper, T .short), refl)
 
-weighed-requires : tie.Need-weighed-requires
-weighed-requires c κs = (rest (asked (c .before)), rated c)
+weigh-requires : tie.Need-weigh-requires
+weigh-requires c κs =
+    let d = c .before .before .before .before .before in
+    (rest (asked d), rated-weighable (table (asked d)) (rated d))
+
+abbrev weighed : tie.After-weigh → tie.After-put-rates
+weighed w = w .before .before .before .before .before .before
+
+weighs : (w : tie.After-weigh) → Weighs (table (asked (weighed w))) (w .weigh .result)
+weighs w =
+    let a = asked (weighed w) in
+    w .weigh .ensures (rest a) (rated-weighable (table a) (rated (weighed w)))
+
+refused-requires-2 : tie.Need-refused-requires-2
+refused-requires-2 c κs = search needs
 
 returns-2 : tie.Need-returns-2
 returns-2 c =
-    let d = c .before in
-    let a = asked (d .before) in
-    let t = table a in
-    analysed-after (line-checks t) (bound-checks t) (line-none t (rated d)) (c .weighed .ensures (rest a) (rated d))
+    let w = c .before .before .before .before in
+    let t = table (asked (weighed w)) in
+    let R = rated (weighed w) in
+    rw (c .refused2 .ensures)
+    (analysed-after (line-checks t) (bound-checks t) (line-none t R) (analysed-next t R _ (weighs w) (c .before .if2 .taken)))
+
+returns-3 : tie.Need-returns-3
+returns-3 c =
+    let w = c .before .before .before in
+    let t = table (asked (weighed w)) in
+    let R = rated (weighed w) in
+    analysed-after (line-checks t) (bound-checks t) (line-none t R) (analysed-done t R _ (weighs w) (c .if2 .left))
 
 pub analysis-of-spec : {M : Type 1} → statement M
-analysis-of-spec = tie.close (tie.spec outline-of-requires refused-requires returns rates-requires weighed-requires returns-2)
+analysis-of-spec =
+    tie.close
+    (tie.spec
+    outline-of-requires
+    refused-requires
+    returns
+    put-rates-requires
+    weigh-requires
+    refused-requires-2
+    returns-2
+    returns-3)

@@ -1,4 +1,5 @@
 -- judge_table: the verdict of each outcome; the values of a table that is admitted fit.
+use mathlib.Core.Path.{refl}
 use Prim.Native.Nat.{_≤_}
 use native.Mathlib.Omega.{arith}
 use Rattle.numbers.specs.Lists.{at}
@@ -40,16 +41,16 @@ returns c =
 abbrev asked : tie.Else1 → tie.After-layout-of
 asked e = e .before .before .before
 
-abbrev unrefused : tie.After-rates → tie.Else1
-unrefused d = d .before .before
+abbrev unrefused : tie.After-put-rates → tie.Else1
+unrefused d = d .before .before .before
 
-abbrev rated : tie.After-weigh → tie.After-rates
+abbrev rated : tie.After-weigh → tie.After-put-rates
 rated w = w .before .before .before .before .before
 
-ready : (d : tie.After-rates)
+ready : (d : tie.After-put-rates)
     → let a = asked (unrefused d) in
     let r = a .layout-of .result in
-    Weighable (table a) (r .time) (r .top) (r .line .first) (r .line .second) (d .rates .result)
+    Weighable (table a) (r .time) (r .top) (r .line .first) (r .line .second) (d .put-rates .last .1 .1 .1 .1 .0)
 ready d =
     let e = unrefused d in
     let F = laid (asked e) .found (e .if1 .left) in
@@ -59,17 +60,17 @@ ready d =
       top-is = F .top;
       first = F .first;
       second = F .second;
-      rate = rates-are (table (asked e)) (F .timed .hyper) (d .rates .ensures);
+      rate = rates-are (table (asked e)) (F .timed .hyper) (d .put-rates .ensures);
     }
 
 weighed : (w : tie.After-weigh) → Weighs (table (asked (unrefused (rated w)))) (w .weigh .result)
 weighed w = w .weigh .ensures (rest (asked (unrefused (rated w)))) (ready (rated w))
 
-rates-requires : tie.Need-rates-requires
-rates-requires c κs =
-    let e = c .before in
+put-rates-requires : tie.Need-put-rates-requires
+put-rates-requires c κs =
+    let e = c .before .before in
     let T = laid (asked e) .found (e .if1 .left) .timed in
-    (times-of (T .sound), omega (arith, T .hyper, T .short))
+    (times-of (T .sound), omega (arith, T .hyper, T .short), refl)
 
 weigh-requires : tie.Need-weigh-requires
 weigh-requires c κs =
@@ -94,33 +95,33 @@ small e =
     let u = unrefused (rated (passed e)) in
     values-small (laid (asked u)) (u .if1 .left) _ (weighed (passed e)) (e .if2 .left)
 
-cast-t22 : tie.Need-cast-t22
-cast-t22 c =
+cast-t23 : tie.Need-cast-t23
+cast-t23 c =
     let L = lies c in
     let s = L .timed .sound in
     omega (arith, L .cut, board-high s (L .clear) clockwise)
 
-cast-t24 : tie.Need-cast-t24
-cast-t24 c =
+cast-t25 : tie.Need-cast-t25
+cast-t25 c =
     let L = lies c in
     let s = L .timed .sound in
     omega (arith, L .other, board-high s (L .clear) counterclockwise)
 
-cast-t25 : tie.Need-cast-t25
-cast-t25 c =
+cast-t26 : tie.Need-cast-t26
+cast-t26 c =
     let T = lies (c .before) .timed in
     omega (arith, T .interval, shortest-le (T .sound))
 
-cast-t26 : tie.Need-cast-t26
-cast-t26 c =
+cast-t27 : tie.Need-cast-t27
+cast-t27 c =
     let T = lies (c .before .before) .timed in
     omega (arith, T .hyper, T .short)
 
-cast-t27 : tie.Need-cast-t27
-cast-t27 c = omega (arith, small (c .before .before .before) .0)
-
 cast-t28 : tie.Need-cast-t28
-cast-t28 c = omega (arith, small (c .before .before .before .before) .1)
+cast-t28 c = omega (arith, small (c .before .before .before) .0)
+
+cast-t29 : tie.Need-cast-t29
+cast-t29 c = omega (arith, small (c .before .before .before .before) .1)
 
 returns-3 : tie.Need-returns-3
 returns-3 c =
@@ -134,13 +135,13 @@ judge-table-spec =
     (tie.spec
     layout-of-requires
     returns
-    rates-requires
+    put-rates-requires
     weigh-requires
     returns-2
-    cast-t22
-    cast-t24
+    cast-t23
     cast-t25
     cast-t26
     cast-t27
     cast-t28
+    cast-t29
     returns-3)

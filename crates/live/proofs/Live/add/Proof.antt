@@ -19,7 +19,7 @@ use Rattle.table.proofs.Faults.{faults-numbered, row-sound}
 use Rattle.seats.specs.Seats.{equal}
 use Rattle.live.specs.State.{liveOf, entryOf, rowOf, PutIn}
 use Rattle.live.specs.Answers.{Sized}
-use Rattle.live.proofs.Answering.{answer-done, some-free, Found, add-off, add-fault, add-found, add-clear, add-long, add-done}
+use Rattle.live.proofs.Answering.{answer-done, some-free, SeatNumber, add-off, add-fault, add-found, add-clear, add-long, add-done}
 use Rattle.live.proofs.Answering.{put-long, put-short}
 use Rattle.live.proofs.Live.add.Statement.{statement}
 use Rattle.live.proofs.Live.add.Tie as tie
@@ -68,7 +68,7 @@ sought c =
 found : (c : tie.After-earlier-of)
     → c .earlier-of .result
     ≡ cond (c .before .before .before .before .has-row .result) 18 (cond (eqb (c .before .lowest-free .result) max-rows) 24 0)
-    → let z = start c .args in Found (z .self) (z .entry) (c .earlier-of .result)
+    → let z = start c .args in SeatNumber (z .self) (z .entry) (c .earlier-of .result)
 unfolding repeated
 found c e =
     e ∙ ap₂ (λ (a b : Bool). cond a 18 (cond b 24 0)) (sought c)

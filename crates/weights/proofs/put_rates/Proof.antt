@@ -1,4 +1,4 @@
--- rates: row after row's rate is put in its place; the jobs are those of the period before.
+-- put_rates: row after row's rate is put in its place; the jobs are those of the period before.
 use mathlib.Core.Path.{_≡_, sym, ap, ap₂, _∙_}
 use Prim.Native.Nat.{ℕ, _-_, _*_, _/_, _≤_}
 use native.Mathlib.Nat.{div-one, div-mul-le-self, mul-le-mul-left}
@@ -7,8 +7,8 @@ use Rattle.numbers.specs.Lists.{at}
 use Rattle.rules.specs.Bounds.{max-slots}
 use Rattle.table.specs.Columns.{ByRow}
 use Rattle.table.proofs.ByRow.{by-row-start, by-row-put}
-use Rattle.weights.proofs.rates.Statement.{statement}
-use Rattle.weights.proofs.rates.Tie as tie
+use Rattle.weights.proofs.put_rates.Statement.{statement}
+use Rattle.weights.proofs.put_rates.Tie as tie
 
 abbrev Inv-loop : tie.InvT-loop
 Inv-loop rows hyper cost period rate₀ last₀ jobs₀ i₀ rate last jobs i =
@@ -18,7 +18,7 @@ abbrev μ-loop : tie.MeasureT-loop
 μ-loop rows hyper cost period rate₀ last₀ jobs₀ i₀ rate last jobs i = rows - i
 
 loop-holds : tie.Need-loop-holds Inv-loop μ-loop
-loop-holds c = (omega arith, by-row-start _, sym (div-one (c .args .hyper)))
+loop-holds c = (omega arith, rw (c .pre .2) (by-row-start _), sym (div-one (c .args .hyper)))
 
 slots-at-requires : tie.Need-slots-at-requires Inv-loop μ-loop
 slots-at-requires c κs = omega arith
@@ -58,8 +58,10 @@ cast-rate c = omega (arith, rate-low c)
 mul-rate-2 : tie.Need-mul-rate-2 Inv-loop μ-loop
 mul-rate-2 c = omega arith
 
-array-write-rate : tie.Need-array-write-rate Inv-loop μ-loop
-array-write-rate c = omega arith
+element-write-rate : tie.Need-element-write-rate Inv-loop μ-loop
+element-write-rate c =
+    let u = c .before .before .before .before in
+    omega (arith, u .loop .inv .1 .size, u .before .pre .0 .few)
 
 add-i : tie.Need-add-i Inv-loop μ-loop
 add-i c = omega arith
@@ -84,8 +86,8 @@ returns c =
     let e : c .before .loop .i ≡ c .before .before .args .rows = omega arith in
     rw e at (c .before .loop .inv .1)
 
-pub rates-spec : {M : Type 1} → statement M
-rates-spec =
+pub put-rates-spec : {M : Type 1} → statement M
+put-rates-spec =
     tie.close
     (tie.spec
     Inv-loop
@@ -97,7 +99,7 @@ rates-spec =
     mul-rate
     cast-rate
     mul-rate-2
-    array-write-rate
+    element-write-rate
     add-i
     loop-less
     loop-again

@@ -1,4 +1,4 @@
--- `decoding::ways_of` meets its contract. The loop's invariant: the directions of the rows before row `i` are read.
+-- put_ways: the directions of the rows before row `i` are read.
 use mathlib.Core.Path.{_≡_, sym, ap, _∙_}
 use Prim.Native.Nat.{ℕ, _+_, _-_, _≤_}
 use native.Mathlib.Omega.{arith}
@@ -8,40 +8,42 @@ use Rattle.table.specs.Columns.{ByRow}
 use Rattle.table.proofs.ByRow.{by-row-start, by-row-put}
 use Rattle.table.proofs.RowSizes.{last-way}
 use Rattle.decoding.proofs.Decoding.{last-end, wayless, way-at, ways-none}
-use Rattle.decoding.proofs.ways_of.Statement.{statement}
-use Rattle.decoding.proofs.ways_of.Tie as tie
+use Rattle.decoding.proofs.put_ways.Statement.{statement}
+use Rattle.decoding.proofs.put_ways.Tie as tie
 
 abbrev Inv-loop : tie.InvT-loop
-Inv-loop file ways₀ rows i₀ ways i = (i ≤ rows) × ByRow i (fileTable file .way) ways
+Inv-loop file way₀ rows i₀ way i = (i ≤ rows) × ByRow i (fileTable file .way) way
 
 abbrev μ-loop : tie.MeasureT-loop
-μ-loop file ways₀ rows i₀ ways i = rows - i
+μ-loop file way₀ rows i₀ way i = rows - i
 
 rings-of-requires : tie.Need-rings-of-requires Inv-loop μ-loop
 rings-of-requires c κs = omega arith
 
 returns : tie.Need-returns Inv-loop μ-loop
-returns c = ways-none (c .before .before .before .args .file .now) (rw (c .before .rings-of .ensures) at (c .if1 .taken))
+returns c =
+    let z = c .before .before .before in
+    rw (z .pre .1) (ways-none (z .args .file .now) (rw (c .before .rings-of .ensures) at (c .if1 .taken)))
 
 of-requires : tie.Need-of-requires Inv-loop μ-loop
 of-requires c κs = omega arith
 
 loop-holds : tie.Need-loop-holds Inv-loop μ-loop
-loop-holds c = (omega arith, by-row-start _)
+loop-holds c = (omega arith, rw (c .before .before .before .before .pre .1) (by-row-start _))
 
 row-in-requires : tie.Need-row-in-requires Inv-loop μ-loop
-row-in-requires c κs = (c .before .before .before .before .before .before .pre, omega arith)
+row-in-requires c κs = (c .before .before .before .before .before .before .pre .0, omega arith)
 
-add-ways : tie.Need-add-ways Inv-loop μ-loop
-add-ways c = omega arith
+add-way : tie.Need-add-way Inv-loop μ-loop
+add-way c = omega arith
 
-shared-slice-read-ways : tie.Need-shared-slice-read-ways Inv-loop μ-loop
-shared-slice-read-ways c =
+shared-slice-read-way : tie.Need-shared-slice-read-way Inv-loop μ-loop
+shared-slice-read-way c =
     let e = c .before .before .before .before .before in
     omega (arith, last-way (version (e .before .before .before .args .file .now)) (sym (e .before .rings-of .ensures) ∙ e .if1 .left))
 
-array-write-ways : tie.Need-array-write-ways Inv-loop μ-loop
-array-write-ways c = omega arith
+element-write-way : tie.Need-element-write-way Inv-loop μ-loop
+element-write-way c = let u = c .before .before .before in omega (arith, u .loop .inv .1 .size)
 
 add-i : tie.Need-add-i Inv-loop μ-loop
 add-i c = omega arith
@@ -65,11 +67,11 @@ returns-2 c =
     let of = c .before .before .of in
     let z = c .before .before .before .before .before .before in
     let e : c .before .loop .i ≡ of .result .rows = omega arith in
-    last-end (z .args .file .now) (z .pre) (wayIn (fileRings (z .args .file .now))) (wayless (fileRings (z .args .file .now)))
+    last-end (z .args .file .now) (z .pre .0) (wayIn (fileRings (z .args .file .now))) (wayless (fileRings (z .args .file .now)))
     (of .ensures .rows) (rw e at (c .before .loop .inv .1))
 
-pub ways-of-spec : {M : Type 1} → statement M
-ways-of-spec =
+pub put-ways-spec : {M : Type 1} → statement M
+put-ways-spec =
     tie.close
     (tie.spec
     Inv-loop
@@ -79,9 +81,9 @@ ways-of-spec =
     of-requires
     loop-holds
     row-in-requires
-    add-ways
-    shared-slice-read-ways
-    array-write-ways
+    add-way
+    shared-slice-read-way
+    element-write-way
     add-i
     loop-less
     loop-again
