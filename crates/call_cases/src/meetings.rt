@@ -38,7 +38,7 @@ pub(crate) fn crowd_case(heading: &[u8], given: &[u64]) {
     }
     let size = table_file(is_board(heading), &given[1..], &mut file);
     if size <= SIZE {
-        let r = crowd::of_set(&file[..size], number_at(given, 0) as usize);
+        let r = meeting::of_set(&file[..size], number_at(given, 0) as usize);
         print(
             heading,
             &[

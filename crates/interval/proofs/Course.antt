@@ -17,19 +17,19 @@ use Rattle.loads.specs.Loads.{last, digit, none, share-most, Spans, Parts, Qual
 use Rattle.loads.specs.State.{Ends}
 use Rattle.loads.specs.declared.Size.{Size}
 use Rattle.loads.proofs.Choice.{greatest-shift}
-use Rattle.fold.specs.Folded.{lowSets}
-use Rattle.fold.specs.Rings.{OnEach}
-use Rattle.fold.proofs.Unfolding.{unfolded-greatest}
+use Rattle.interval.specs.Folded.{lowSets}
+use Rattle.interval.specs.Rings.{OnEach}
+use Rattle.interval.proofs.Unfolding.{unfolded-greatest}
 use Rattle.chains.specs.Chained.{ChainedRows}
 use Rattle.placing.specs.Filled.{FilledSlots}
-use Rattle.places.specs.declared.Places.{Places}
+use Rattle.nodes.specs.declared.Nodes.{Nodes}
 use Rattle.interval.specs.Interval.{Given}
 use Rattle.interval.specs.Ready.{Ready, Due, Advanced}
-use Rattle.interval.proofs.Choice.{share-small, had-le, whole-small, moved-of}
+use Rattle.interval.proofs.Chosen.{share-small, had-le, whole-small, moved-of}
 use Rattle.interval.proofs.RowSets.{low-some, ring-few, ranged-low, ranged-high, ranged-ends, ranged-spans}
 use Rattle.interval.proofs.Ready.{line-narrow, ready-ends, ready-words, ready-share}
 
-module _ {t : Table} {size : Size} {top upper : ℕ} {first second rate words : List ℕ} {L : Places}
+module _ {t : Table} {size : Size} {top upper : ℕ} {first second rate words : List ℕ} {L : Nodes}
     (R : Ready t size top first second rate upper words L) where
   -- ---- what is laid, for the code's counts
 
@@ -64,7 +64,7 @@ module _ {t : Table} {size : Size} {top upper : ℕ} {first second rate words : 
     heads = heads-laid;
     wired = record {
       few-rows = spans-laid .few-rows;
-      few-places = omega (arith, spans-laid .few-sets);
+      few-nodes = omega (arith, spans-laid .few-sets);
       ends = λ i l. let r = spans-laid .row i l in (omega (arith, r), omega (arith, r, heads-laid i l));
       starting = λ v i l. R .laid .starting v i (omega (arith, spans-laid .few-sets));
       ending = λ v i l. R .laid .ending v i (omega (arith, spans-laid .few-sets));

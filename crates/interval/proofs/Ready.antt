@@ -16,7 +16,7 @@ use Rattle.table.specs.Columns.{ByRow}
 use Rattle.table.specs.Sound.{Sound}
 use Rattle.lags.specs.Lags.{Admissible}
 use Rattle.loads.specs.declared.Size.{Size}
-use Rattle.places.specs.declared.Places.{Places}
+use Rattle.nodes.specs.declared.Nodes.{Nodes}
 use Rattle.interval.specs.Ready.{Ready}
 
 -- the line of two rings
@@ -36,7 +36,7 @@ ends-on-line {t} A F S i m =
       omega (arith, line-high t (A .sound) (A .clear) i m),
     )
 
-module _ {t : Table} {size : Size} {top upper : ℕ} {first second rate words : List ℕ} {L : Places}
+module _ {t : Table} {size : Size} {top upper : ℕ} {first second rate words : List ℕ} {L : Nodes}
     (R : Ready t size top first second rate upper words L) where
   -- ---- the ends
 

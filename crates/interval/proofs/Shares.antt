@@ -48,8 +48,8 @@ shares-sum h r s l some =
     let q = ap (λ (n : ℕ). n / h) e ∙ add-mul-div-right (r * s % h + r * l % h) (r * s / h + r * l / h) some in
     (omega arith, sym (ap (λ (n : ℕ). n % h) e ∙ add-mul-mod-self-right (r * s % h + r * l % h) (r * s / h + r * l / h) h))
 
-pub shares-more : (h r s l : ℕ) {e w m p q w′ p′ : ℕ} → 0 < h → (w ≡ r * s / h) × (p ≡ r * s % h) → (m ≡ r * l / h) × (q ≡ r * l % h) → s + l ≡ e
-    → (w′ ≡ w + m + (p + q) / h) × (p′ ≡ (p + q) % h) → (w′ ≡ r * e / h) × (p′ ≡ r * e % h)
+pub shares-more : (h r s l : ℕ) {e w m p q w′ p′ : ℕ} → 0 < h → (w ≡ r * s / h) × (p ≡ r * s % h)
+    → (m ≡ r * l / h) × (q ≡ r * l % h) → s + l ≡ e → (w′ ≡ w + m + (p + q) / h) × (p′ ≡ (p + q) % h) → (w′ ≡ r * e / h) × (p′ ≡ r * e % h)
 shares-more h r s l {w = w} {m} {p} {q} some a b e c =
     let z = shares-sum h r s l some in
     let x : p + q ≡ r * s % h + r * l % h = omega arith in

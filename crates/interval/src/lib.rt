@@ -1,7 +1,11 @@
 // One planning interval of an admitted table, in pieces: from totals that keep step at its first slot to its loads and the totals after it
 // (document 01, "Loads of one interval, and its slots"). Who plans intervals calls them in turn, and then fills the slots; that they make
 // an interval is a law (proofs/Course, `advanced-of`).
-use flow::PLACES;
+mod choice;
+mod fold;
+
+pub use fold::fold_sets;
+use loads::NODES;
 use loads::Size;
 use table::Table;
 ghost use mathlib.Core.Path.{_≡_};
@@ -15,8 +19,8 @@ ghost use Rattle.rules.specs.Bounds.{max-rows, max-rings, max-slots};
 ghost use Rattle.rules.specs.Interval.{Greatest};
 ghost use Rattle.loads.specs.Loads.{share-most, digit, last, Parts};
 ghost use Rattle.loads.specs.State.{Ends};
-ghost use Rattle.choice.specs.Taken.{Uneven};
-ghost use Rattle.fold.specs.Rings.{OnEach, ringCount};
+ghost use Rattle.interval.specs.Taken.{Uneven};
+ghost use Rattle.interval.specs.Rings.{OnEach, ringCount};
 ghost use Rattle.interval.specs.Interval.{Inverse, Given};
 
 // ---- shares
@@ -167,8 +171,8 @@ pub fn round_rows<'a>(
     upper: u64,
     tail: &'a [u8; Table::ROWS],
     head: &'a [u8; Table::ROWS],
-    out: &'a [u64; PLACES],
-    into: &'a [u64; PLACES],
+    out: &'a [u64; NODES],
+    into: &'a [u64; NODES],
     size: Size,
     part: &'a [u32; Table::ROWS],
     parted: u64,

@@ -94,7 +94,7 @@ pub extern "C" fn ring_live_remove(live: &mut Live, place: usize) -> u32
 fn written(was: Live, version: u64, out: &mut [u8]) -> u32
     ensures { λ r. ⌜ FileToC was version (now (out .entry)) (now (out .exit)) r ⌝ }
 {
-    let answer = live_file::write_file(was, version, out);
+    let answer = live::write_file(was, version, out);
     256 * answer.number + answer.place
 }
 

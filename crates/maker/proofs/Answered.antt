@@ -28,7 +28,7 @@ use Rattle.rules.proofs.Answers.{
   answers-split,
 }
 use Rattle.rules.proofs.Calls.{call-only}
-use Rattle.moves.specs.Words.{flat}
+use Rattle.maker.specs.Words.{flat}
 use Rattle.maker.specs.Finding.{word-checks, early-checks}
 use Rattle.maker.proofs.Finding.{early-numbered}
 

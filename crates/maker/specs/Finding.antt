@@ -14,7 +14,7 @@ use Rattle.rules.specs.Bus.{Table}
 use Rattle.rules.specs.Loads.{hyperperiod}
 use Rattle.rules.specs.ElementList.{elementMoves}
 use Rattle.rules.specs.Refusals.{Check, Answers, wrong-element, bad-word, short-output}
-use Rattle.moves.specs.Words.{planMoves, Clear}
+use Rattle.maker.specs.Words.{planMoves, Clear}
 use Rattle.maker.specs.declared.Source.{Source}
 
 abbrev pub word-checks : List Check → Table → (plan : List ℕ) (element : ℕ) → List Check

@@ -1,4 +1,6 @@
 // The list of one element's moves, made from a table file and a plan (#101): in memory, or as the bytes of a list file.
+mod moves;
+
 use lists::Head;
 use table::Answer;
 use table::Columns;
@@ -16,7 +18,7 @@ ghost use Rattle.rules.specs.Refusals.{Answers};
 ghost use Rattle.rules.specs.Calls.{oneRingAsk, ListMade};
 ghost use Rattle.table.specs.Sound.{Sound};
 ghost use Rattle.table.specs.Columns.{tableOf};
-ghost use Rattle.moves.specs.Words.{LowestBad};
+ghost use Rattle.maker.specs.Words.{LowestBad};
 ghost use Rattle.maker.specs.Finding.{early-checks, Finds};
 
 // What a list is written from: the first refusal, or how many slots and entries there are, and the words of the rows that come to the

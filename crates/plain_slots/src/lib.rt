@@ -42,7 +42,7 @@ fn is_free<'a>(
 {
     let mut asked: u64 = 0;
     while asked != word {
-        let j = flow::pick(word, asked);
+        let j = loads::pick(word, asked);
         if do_overlap(first, second, j, i) {
             return false;
         }
@@ -104,8 +104,8 @@ pub fn fill_plain<'a>(
     words: &mut [u64],
 )
     requires { ⌜ ((n : ℕ) × ChainedRows n (at (now first)) (at (now second)) top (now head) (now next)) × (slots ≤ length (now words)) ⌝ }
-    ensures { λ _. ⌜ ((n : ℕ) → ChainedRows n (at (now (first .entry))) (at (now (second .entry))) top (now (head .entry)) (now (next .entry))
-        → FilledSlots n (at (now (first .entry))) (at (now (second .entry))) (at (now (load .entry))) slots
+    ensures { λ _. ⌜ ((n : ℕ) → ChainedRows n (at (now (first .entry))) (at (now (second .entry))) top (now (head .entry))
+        (now (next .entry)) → FilledSlots n (at (now (first .entry))) (at (now (second .entry))) (at (now (load .entry))) slots
         (now (words .entry)) (now (words .exit))) ⌝ }
 {
     clear(slots, words);

@@ -1,6 +1,9 @@
 // What the program prints, written to lent bytes (document 01, "The program and one whole output").
 //
 // Each `put_` function writes lines from place `at` on, as far as there is room, and returns the place after them.
+pub mod meetings;
+pub mod raised;
+
 use decimal::put_line;
 use table::Table;
 use verdict::Analysis;

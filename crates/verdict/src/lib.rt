@@ -1,8 +1,11 @@
 // The verdict: whether the bus can carry a table (document 01, "Loads and bound"), and what is found of a table that is planned.
+mod weights;
+
 use outline::Outline;
 use table::Answer;
 use table::Table;
 use time::Time;
+pub use weights::put_rates;
 ghost use mathlib.Core.Path.{_≡_};
 ghost use Rattle.rules.specs.TableFile.{fileTable};
 ghost use Rattle.rules.specs.Bus as bus;

@@ -1,6 +1,8 @@
 // The writer: from numbers in memory to a file.
-use memory::check_version;
-use memory::row_of;
+mod memory;
+
+pub use memory::check_version;
+pub use memory::row_of;
 use table::Answer;
 use table::Row;
 use table::Table;

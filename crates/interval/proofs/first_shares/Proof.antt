@@ -1,8 +1,6 @@
 -- `first_shares` parts them where that is asked for.
-use mathlib.Core.Path.{_≡_, sym, _∙_}
-use mathlib.Core.Bool.{Bool, true, false}
-use Prim.Native.Nat.{ℕ}
-use native.Mathlib.Omega.{arith}
+use mathlib.Core.Path.{sym, _∙_}
+use mathlib.Core.Bool.{false≢true}
 use borrow.Author.Needs.{needs}
 use Rattle.interval.proofs.first_shares.Statement.{statement}
 use Rattle.interval.proofs.first_shares.Tie as tie
@@ -17,7 +15,7 @@ returns : tie.Need-returns
 returns c = search needs
 
 returns-2 : tie.Need-returns-2
-returns-2 c = let z = c .before in (z .pre .5, z .pre .6, λ on. absurd (let q : false ≡ true = sym (c .if1 .left) ∙ on in let z : _≡_ {A = ℕ} 0 1 = cc in omega arith))
+returns-2 c = let p = c .before .pre in (p .5, p .6, λ on. absurd (false≢true (sym (c .if1 .left) ∙ on)))
 
 pub first-shares-spec : {M : Type 1} → statement M
 first-shares-spec = tie.close (tie.spec part-shares-requires returns returns-2)

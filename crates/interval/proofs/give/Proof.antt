@@ -6,9 +6,9 @@ use native.Mathlib.Omega.{arith}
 use lib.ListN.{length, length-set}
 use Rattle.numbers.specs.Lists.{at}
 use Rattle.rules.specs.Bounds.{max-rows}
-use Rattle.flow.proofs.Network.{put-set-is}
+use Rattle.loads.proofs.Network.{put-set-is}
 use Rattle.loads.specs.Loads.{digit}
-use Rattle.fold.proofs.Product.{digit-is}
+use Rattle.interval.proofs.Product.{digit-is}
 use Rattle.interval.specs.Interval.{Given}
 use Rattle.interval.proofs.Fill.{giving-none, giving-next}
 use Rattle.interval.proofs.give.Statement.{statement}

@@ -9,7 +9,7 @@ use Rattle.rules.specs.TableFile.{fileTable}
 use Rattle.rules.specs.ElementList.{inMemory, listNumbers, movesList}
 use Rattle.rules.specs.Calls.{oneRingAsk, lent}
 use Rattle.lists.proofs.RoundTrip.{numbers-length}
-use Rattle.moves.specs.Words.{flat}
+use Rattle.maker.specs.Words.{flat}
 use Rattle.maker.specs.Finding.{Makeable}
 use Rattle.maker.proofs.Finding.{judged-numbered}
 use Rattle.maker.proofs.Answered.{numbers-are, made-refused, made-short, made-done}

@@ -12,7 +12,7 @@ use Rattle.rules.specs.ElementList.{listHeader, inFile, fileHead, elementMoves,
 use Rattle.rules.specs.Calls.{oneRingAsk, lent}
 use Rattle.rules.proofs.Calls.{lent-headed}
 use Rattle.lists.proofs.RoundTrip.{bytes-length}
-use Rattle.moves.specs.Words.{flat}
+use Rattle.maker.specs.Words.{flat}
 use Rattle.maker.specs.Finding.{Makeable}
 use Rattle.maker.proofs.Finding.{judged-numbered}
 use Rattle.maker.proofs.Answered.{bytes-are, made-refused, made-short, made-done}

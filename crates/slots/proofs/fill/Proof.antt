@@ -277,7 +277,8 @@ longer : (c : TooLong) → slots-of (long-of c) .slots .s + slots-of (long-of c)
     < at (slots-of (long-of c) .slots .end) (slots-of (long-of c) .slots .k)
 longer c = omega (arith, c .if3 .taken, c .before .before .before .before .slot .ensures)
 
-middle : (c : TooLong) → (slots-of (long-of c) .slots .s + slots-of (long-of c) .slots .left < start-slots (slots-of (long-of c)) .args .slots)
+middle : (c : TooLong)
+    → (slots-of (long-of c) .slots .s + slots-of (long-of c) .slots .left < start-slots (slots-of (long-of c)) .args .slots)
     × (start-slots (slots-of (long-of c)) .args .slots ≤ max-slots)
     × (start-slots (slots-of (long-of c)) .args .slots ≤ length (slots-of (long-of c) .slots .words))
 middle c = let e = ends (long-of c) in (omega (arith, longer c), e .2, e .3)
@@ -356,7 +357,8 @@ slots-again-2 c =
           (ap (bitOr (at (l .words) (l .s))) (one-shl i (omega (arith, row-is (row-of L)))) ∙ ap (λ (v : ℕ). bitOr v (2 ^ i)) (sym away))
           (sym (fits .2))
           (sym (ap (λ (fs : List ℕ). at fs (l .k)) (P .afters)
-          ∙ getD-set-same (set (l .after) (i + 1) (at (l .after) (l .k))) (l .k) (i + 1) 0 (simp length-set (omega (arith, low L, sized L)))))
+          ∙ getD-set-same (set (l .after) (i + 1) (at (l .after) (l .k))) (l .k) (i + 1) 0
+          (simp length-set (omega (arith, low L, sized L)))))
           used .0,
     )
 

@@ -9,7 +9,7 @@ use Rattle.rules.specs.Bus.{Table}
 use Rattle.rules.specs.Refusals.{line-checks, bound-checks}
 use Rattle.table.specs.Columns.{columnTable}
 use Rattle.outline.specs.Outlined.{Outlined}
-use Rattle.weights.proofs.Weighing.{times-of, rates-are}
+use Rattle.verdict.proofs.Weighing.{times-of, rates-are}
 use Rattle.verdict.specs.Weighing.{Rest, Weighs}
 use Rattle.verdict.specs.Analysed.{Rated}
 use Rattle.verdict.proofs.Analysing.{analysed-first, analysed-after, line-none, rated-weighable, analysed-next, analysed-done}
