@@ -19,7 +19,9 @@ use Rattle.numbers.proofs.Word.{bit-zero, bit-ext, bit-lt, bit-and, bit-word}
 use Rattle.numbers.proofs.Lists.{Filled, filled-sets, each-none, each-next, each-eq}
 use Rattle.rules.specs.Bounds.{max-rows}
 use Rattle.rules.specs.ElementList.{Entry, move, wayMoves}
-use Rattle.maker.specs.Words.{endingAt, picked, wordMoves, planMoves, AtMostOne, flat}
+use Rattle.lists.specs.declared.Entry.{Entry as Place}
+use Rattle.lists.specs.Entries.{entryOf}
+use Rattle.maker.specs.Words.{endingAt, picked, wordMoves, planMoves, AtMostOne, IsMove, flat, PutMoves}
 
 -- ---- those of n that have p
 
@@ -97,13 +99,26 @@ module _ (g : Entry → List ℕ) where
   flat-length k h (x ∷ xs) = omega (arith, length-append (g x) (flat g xs), h x, flat-length k h xs)
 
   -- more entries, after p and those before them
-  pub filled-flat : {was out : List ℕ} {n : ℕ} (k : ℕ) → ((x : Entry) → length (g x) ≡ k) → (p : List ℕ) (xs ys : List Entry)
+  filled-flat : {was out : List ℕ} {n : ℕ} (k : ℕ) → ((x : Entry) → length (g x) ≡ k) → (p : List ℕ) (xs ys : List Entry)
       (out′ : List ℕ) (m : ℕ) → Filled was out n (p ++ flat g xs) → out′ ≡ sets out n (flat g ys) → m ≡ n + k * length ys → m ≤ length was
       → Filled was out′ m (p ++ flat g (xs ++ ys))
   filled-flat k h p xs ys out′ m F o e l =
       let same : (p ++ flat g xs) ++ flat g ys ≡ p ++ flat g (xs ++ ys) =
       append-assoc p (flat g xs) (flat g ys) ∙ ap (λ (r : List ℕ). p ++ r) (sym (flat-append xs ys)) in
       rw o (rw same at (filled-sets (flat g ys) m F (omega (arith, e, flat-length k h ys)) l))
+
+  -- a word without a move, and one with one
+  pub put-none : (x s d p n : ℕ) (was : List ℕ) → x ≡ 0 → PutMoves g (picked x s d) p was was n n
+  unfolding flat
+  put-none x s d p n was z =
+      let none : picked x s d ≡ [] = rw z (picked-none s d) in
+      record { holds = rw none; count = omega (arith, ap length none) }
+
+  pub put-one : {x s d : ℕ} {r : Place} (p n : ℕ) (was now : List ℕ) → IsMove x s d r → now ≡ sets was p (g (entryOf r))
+      → PutMoves g (picked x s d) p was now n (n + 1)
+  unfolding flat
+  put-one {r = r} p n was now M q =
+      record { holds = rw (M .one, append-nil (g (entryOf r))) q; count = omega (arith, ap length (M .one)) }
 
 -- ---- the plan's words, one after the other
 
@@ -134,10 +149,45 @@ module _ (a b : ℕ) (ws : List ℕ) where
       let e : s + suc k ≡ s + k + 1 = omega arith in
       omega (arith, grows s k, moves-length (s + k), ap (λ (n : ℕ). length (planMoves a b n ws)) e)
 
-  pub moves-grow : (s n : ℕ) → s ≤ n → length (planMoves a b s ws) ≤ length (planMoves a b n ws)
+  moves-grow : (s n : ℕ) → s ≤ n → length (planMoves a b s ws) ≤ length (planMoves a b n ws)
   moves-grow s n l =
       let e : s + (n - s) ≡ n = omega arith in
       omega (arith, grows s (n - s), ap (λ (n : ℕ). length (planMoves a b n ws)) e)
+
+-- ---- the moves of one word after another, put into a slice after `front`
+
+-- n moves of the first s words stand in out, up to place p
+pub record Written (g : Entry → List ℕ) (a b : ℕ) (ws front was out : List ℕ) (n p s : ℕ) : Type 0 where
+  pub count : n ≡ length (planMoves a b s ws)
+  pub filled : Filled was out p (front ++ flat g (planMoves a b s ws))
+
+pub written-start : (g : Entry → List ℕ) (a b : ℕ) (ws : List ℕ) {front was : List ℕ} {p : ℕ} → Filled was was p front
+    → Written g a b ws front was was 0 p 0
+written-start g a b ws {front} F =
+    record { count = sym (moves-none a b ws); filled = rw (moves-empty a b ws g, append-nil front) F }
+
+module _ {g : Entry → List ℕ} {a b : ℕ} {ws front was out : List ℕ} {n p s : ℕ} (W : Written g a b ws front was out n p s) where
+  abbrev xs : List Entry
+  xs = picked (bitAnd (at ws s) a) s 0
+
+  abbrev ys : List Entry
+  ys = picked (bitAnd (at ws s) b) s 1
+
+  -- up to word s and in it there are no more moves than in h words
+  pub written-room : (h : ℕ) → s < h → n + length xs + length ys ≤ length (planMoves a b h ws)
+  written-room h l = omega (arith, W .count, moves-length a b ws s, moves-grow a b ws (s + 1) h (omega arith))
+
+  -- both moves of word s, each of k places
+  pub written-next : (k : ℕ) → ((x : Entry) → length (g x) ≡ k) → {out₁ out₂ : List ℕ} {n₁ n₂ p₁ : ℕ} (p₂ : ℕ)
+      → PutMoves g xs p out out₁ n n₁ → p₁ ≡ p + k * length xs → PutMoves g ys p₁ out₁ out₂ n₁ n₂ → p₂ ≡ p₁ + k * length ys
+      → p₂ ≤ length was → Written g a b ws front was out₂ n₂ p₂ (s + 1)
+  written-next k wide {out₁} {out₂} {p₁ = p₁} p₂ P e Q f l =
+      let ms = planMoves a b s ws in
+      let F = filled-flat g k wide front ms xs out₁ p₁ (W .filled) (P .holds) e (omega arith) in
+      record {
+        count = omega (arith, W .count, P .count, Q .count, moves-length a b ws s);
+        filled = rw (moves-next a b ws s) (filled-flat g k wide front (ms ++ xs) ys out₂ p₂ F (Q .holds) f l);
+      }
 
 -- ---- a table's rows that end at an element
 

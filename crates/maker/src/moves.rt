@@ -4,11 +4,11 @@ use lists::Entry;
 use lists::Head;
 use table::Table;
 ghost use mathlib.Core.Path.{_≡_};
+ghost use mathlib.Core.Logic.{_≢_};
 ghost use mathlib.Core.List.{_++_};
 ghost use Prim.Native.Nat.{ℕ, _+_, _*_, _≤_, _<_};
 ghost use lib.Dec.{T};
 ghost use lib.ListN.{length, take};
-ghost use lib.Seq.{sets};
 ghost use Rattle.numbers.specs.Decides.{Decides};
 ghost use Rattle.numbers.specs.Lists.{at};
 ghost use Rattle.numbers.specs.Word.{bit};
@@ -16,7 +16,18 @@ ghost use Rattle.rules.specs.Bounds.{max-rows, max-slots};
 ghost use Rattle.rules.specs.Bus as bus;
 ghost use Rattle.rules.specs.ElementList.{listHeader, entrySize, entryNumbers, inMemory, inFile, BadWord};
 ghost use Rattle.rules.specs.Calls.{lent};
-ghost use Rattle.maker.specs.Words.{endingAt, Segmented, picked, planMoves, AtMostOne, Clear, flat, LowestBad};
+ghost use Rattle.maker.specs.Words.{
+  endingAt,
+  Segmented,
+  picked,
+  planMoves,
+  AtMostOne,
+  IsMove,
+  Clear,
+  flat,
+  PutMoves,
+  LowestBad,
+};
 
 // The word of the rows that end at an element.
 pub fn ending_at(rows: usize, ends: &[u8; Table::ROWS], element: usize) -> u64
@@ -123,21 +134,27 @@ pub fn count(plan: &[u64], hyper: usize, into: u64, from: u64) -> usize
     n
 }
 
+// The move of a word that has exactly one.
+fn move_of(word: u64, slot: usize, way: u16) -> Entry
+    requires { ⌜ AtMostOne word × (word ≢ 0) × (slot < max-slots) ⌝ }
+    ensures { λ r. ⌜ IsMove word slot way r ⌝ }
+{
+    Entry {
+        slot: slot as u16,
+        row: sets::lowest_row(word) as u16,
+        way: way,
+    }
+}
+
 // The numbers of the move of a word that has at most one, after those of `n` moves; how many moves there are then.
 fn put_number(word: u64, slot: usize, way: u16, out: &mut [u16], n: usize) -> usize
     requires { ⌜ AtMostOne word × (slot < max-slots) × (entryNumbers * (n + length (picked word slot way)) ≤ length (now out)) ⌝ }
-    ensures { λ r. ⌜ (now (out .exit) ≡ sets (now (out .entry)) (entryNumbers * n) (flat inMemory (picked word slot way)))
-        × (r ≡ n + length (picked word slot way)) ⌝ }
+    ensures { λ r. ⌜ PutMoves inMemory (picked word slot way) (entryNumbers * n) (now (out .entry)) (now (out .exit)) n r ⌝ }
 {
     if word == 0 {
         return n;
     }
-    let entry = Entry {
-        slot: slot as u16,
-        row: sets::lowest_row(word) as u16,
-        way: way,
-    };
-    lists::put_numbers(entry, Head::ENTRY_NUMBERS * n, out);
+    lists::put_numbers(move_of(word, slot, way), Head::ENTRY_NUMBERS * n, out);
     n + 1
 }
 
@@ -161,18 +178,16 @@ pub fn put_numbers(plan: &[u64], hyper: usize, into: u64, from: u64, out: &mut [
 fn put_byte(word: u64, slot: usize, way: u16, out: &mut [u8], n: usize) -> usize
     requires { ⌜ AtMostOne word × (slot < max-slots) × (way < 256)
         × (listHeader + entrySize * (n + length (picked word slot way)) ≤ length (now out)) ⌝ }
-    ensures { λ r. ⌜ (now (out .exit) ≡ sets (now (out .entry)) (listHeader + entrySize * n) (flat inFile (picked word slot way)))
-        × (r ≡ n + length (picked word slot way)) ⌝ }
+    ensures { λ r. ⌜ PutMoves inFile (picked word slot way) (listHeader + entrySize * n) (now (out .entry)) (now (out .exit)) n r ⌝ }
 {
     if word == 0 {
         return n;
     }
-    let entry = Entry {
-        slot: slot as u16,
-        row: sets::lowest_row(word) as u16,
-        way: way,
-    };
-    lists::put_bytes(entry, Head::BYTES + Head::ENTRY_BYTES * n, out);
+    lists::put_bytes(
+        move_of(word, slot, way),
+        Head::BYTES + Head::ENTRY_BYTES * n,
+        out,
+    );
     n + 1
 }
 

@@ -1,45 +1,18 @@
 -- `moves::put_byte` meets its contract.
-use mathlib.Core.Path.{_≡_, ap}
-use mathlib.Core.List.{[], _∷_}
-use Prim.Native.Nat.{_+_, _*_, _≤_}
+use mathlib.Core.Path.{ap}
 use native.Mathlib.Omega.{arith}
 use lib.ListN.{length}
 use borrow.Author.Needs.{needs}
-use Rattle.rules.specs.ElementList.{move, listHeader, entrySize}
-use Rattle.numbers.proofs.Truth.{of-true}
-use Rattle.maker.specs.Words.{picked, flat}
-use Rattle.maker.proofs.Words.{picked-none, picked-one}
+use Rattle.rules.specs.ElementList.{inFile}
+use Rattle.maker.proofs.Words.{put-none, put-one}
 use Rattle.maker.proofs.moves.put_byte.Statement.{statement}
 use Rattle.maker.proofs.moves.put_byte.Tie as tie
 
-abbrev start : tie.Else1 → tie.Start
-start z = z .before .before
-
--- the word's one move
-found : (z : tie.After-lowest-row) → let a = start (z .before) .args in picked (a .word) (a .slot) (a .way) ≡ move (a .slot)
-    (z .lowest-row .result) (a .way) ∷ []
-found z =
-    let a = start (z .before) .args in
-    picked-one (a .word) (a .slot) (a .way) _ (start (z .before) .pre .0) (z .lowest-row .ensures .0) (of-true (z .lowest-row .ensures .1))
-
-room : (z : tie.After-lowest-row) → let a = start (z .before) .args in listHeader + entrySize * (a .n + 1) ≤ length (a .out .now)
-room z = omega (arith, ap length (found z), start (z .before) .pre .3)
-
 returns : tie.Need-returns
-unfolding flat
-returns c =
-    let a = c .before .before .args in
-    let none : picked (a .word) (a .slot) (a .way) ≡ [] = rw (c .if1 .taken) (picked-none (a .slot) (a .way)) in
-    (rw none, omega (arith, ap length none))
+returns c = let a = c .before .before .args in put-none inFile (a .word) (a .slot) (a .way) _ (a .n) (a .out .now) (c .if1 .taken)
 
-cast-t8 : tie.Need-cast-t8
-cast-t8 c = search needs
-
-lowest-row-requires : tie.Need-lowest-row-requires
-lowest-row-requires c κs = search needs
-
-cast-t10 : tie.Need-cast-t10
-cast-t10 c = search needs
+move-of-requires : tie.Need-move-of-requires
+move-of-requires c κs = let s = c .before .before in (s .pre .0, c .if1 .left, s .pre .1)
 
 mul-put-bytes : tie.Need-mul-put-bytes
 mul-put-bytes c = search needs
@@ -48,12 +21,9 @@ add-put-bytes : tie.Need-add-put-bytes
 add-put-bytes c = search needs
 
 put-bytes-requires : tie.Need-put-bytes-requires
-put-bytes-requires c κs = (
-  omega (arith, room (c .before)),
-  omega (arith, c .before .lowest-row .ensures .0),
-  c .before .before .before
-      .before .pre .2,
-)
+put-bytes-requires c κs = let M = c .before .move-of .ensures in
+    let s = c .before .before .before .before in
+    (omega (arith, ap length (M .one), s .pre .3), omega (arith, M .row), omega (arith, M .way, s .pre .2))
 
 add-result : tie.Need-add-result
 add-result c = search needs
@@ -62,22 +32,9 @@ same-length : tie.Need-same-length
 same-length c = search needs
 
 returns-2 : tie.Need-returns-2
-unfolding flat
-returns-2 c =
-    let z = c .before .before .before .before in
-    (rw (found z) (c .before .before .put-bytes .ensures), omega (arith, ap length (found z)))
+returns-2 c = let m = c .before .before .before .before in put-one inFile _ _ _ _ (m .move-of .ensures) (c .before .before .put-bytes .ensures)
 
 pub put-byte-spec : {M : Type 1} → statement M
 put-byte-spec =
     tie.close
-    (tie.spec
-    returns
-    cast-t8
-    lowest-row-requires
-    cast-t10
-    mul-put-bytes
-    add-put-bytes
-    put-bytes-requires
-    add-result
-    same-length
-    returns-2)
+    (tie.spec returns move-of-requires mul-put-bytes add-put-bytes put-bytes-requires add-result same-length returns-2)

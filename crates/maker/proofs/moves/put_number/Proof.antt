@@ -1,51 +1,24 @@
 -- `moves::put_number` meets its contract.
-use mathlib.Core.Path.{_≡_, ap}
-use mathlib.Core.List.{[], _∷_}
-use Prim.Native.Nat.{_+_, _*_, _≤_}
+use mathlib.Core.Path.{ap}
 use native.Mathlib.Omega.{arith}
 use lib.ListN.{length}
 use borrow.Author.Needs.{needs}
-use Rattle.rules.specs.ElementList.{move, entryNumbers}
-use Rattle.numbers.proofs.Truth.{of-true}
-use Rattle.maker.specs.Words.{picked, flat}
-use Rattle.maker.proofs.Words.{picked-none, picked-one}
+use Rattle.rules.specs.ElementList.{inMemory}
+use Rattle.maker.proofs.Words.{put-none, put-one}
 use Rattle.maker.proofs.moves.put_number.Statement.{statement}
 use Rattle.maker.proofs.moves.put_number.Tie as tie
 
-abbrev start : tie.Else1 → tie.Start
-start z = z .before .before
-
--- the word's one move
-found : (z : tie.After-lowest-row) → let a = start (z .before) .args in picked (a .word) (a .slot) (a .way) ≡ move (a .slot)
-    (z .lowest-row .result) (a .way) ∷ []
-found z =
-    let a = start (z .before) .args in
-    picked-one (a .word) (a .slot) (a .way) _ (start (z .before) .pre .0) (z .lowest-row .ensures .0) (of-true (z .lowest-row .ensures .1))
-
-room : (z : tie.After-lowest-row) → let a = start (z .before) .args in entryNumbers * (a .n + 1) ≤ length (a .out .now)
-room z = omega (arith, ap length (found z), start (z .before) .pre .2)
-
 returns : tie.Need-returns
-unfolding flat
-returns c =
-    let a = c .before .before .args in
-    let none : picked (a .word) (a .slot) (a .way) ≡ [] = rw (c .if1 .taken) (picked-none (a .slot) (a .way)) in
-    (rw none, omega (arith, ap length none))
+returns c = let a = c .before .before .args in put-none inMemory (a .word) (a .slot) (a .way) _ (a .n) (a .out .now) (c .if1 .taken)
 
-cast-t8 : tie.Need-cast-t8
-cast-t8 c = search needs
-
-lowest-row-requires : tie.Need-lowest-row-requires
-lowest-row-requires c κs = search needs
-
-cast-t10 : tie.Need-cast-t10
-cast-t10 c = search needs
+move-of-requires : tie.Need-move-of-requires
+move-of-requires c κs = let s = c .before .before in (s .pre .0, c .if1 .left, s .pre .1)
 
 mul-put-numbers : tie.Need-mul-put-numbers
 mul-put-numbers c = search needs
 
 put-numbers-requires : tie.Need-put-numbers-requires
-put-numbers-requires c κs = omega (arith, room (c .before))
+put-numbers-requires c κs = omega (arith, ap length (c .before .move-of .ensures .one), c .before .before .before .before .pre .2)
 
 add-result : tie.Need-add-result
 add-result c = search needs
@@ -54,21 +27,9 @@ same-length : tie.Need-same-length
 same-length c = search needs
 
 returns-2 : tie.Need-returns-2
-unfolding flat
-returns-2 c =
-    let z = c .before .before .before .before in
-    (rw (found z) (c .before .before .put-numbers .ensures), omega (arith, ap length (found z)))
+returns-2 c = let m = c .before .before .before .before in put-one inMemory _ _ _ _ (m .move-of .ensures) (c .before .before .put-numbers .ensures)
 
 pub put-number-spec : {M : Type 1} → statement M
 put-number-spec =
     tie.close
-    (tie.spec
-    returns
-    cast-t8
-    lowest-row-requires
-    cast-t10
-    mul-put-numbers
-    put-numbers-requires
-    add-result
-    same-length
-    returns-2)
+    (tie.spec returns move-of-requires mul-put-numbers put-numbers-requires add-result same-length returns-2)

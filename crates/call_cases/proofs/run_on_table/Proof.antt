@@ -1,16 +1,22 @@
--- judged: the file that it lends is as long as it says.
+-- run_on_table: the bytes that it lends are as many as it says.
 use native.Mathlib.Omega.{arith}
 use mathlib.Core.Path.{sym}
 use lib.Seq.{length-take-le}
 use borrow.Author.Needs.{needs}
-use Rattle.call_cases.proofs.relays.judged.Statement.{statement}
-use Rattle.call_cases.proofs.relays.judged.Tie as tie
+use Rattle.call_cases.proofs.run_on_table.Statement.{statement}
+use Rattle.call_cases.proofs.run_on_table.Tie as tie
+
+before-table-requires : tie.Need-before-table-requires
+before-table-requires c κs = search needs
 
 returns : tie.Need-returns
 returns c = search needs
 
 is-board-requires : tie.Need-is-board-requires
 is-board-requires c κs = search needs
+
+mul-table-file : tie.Need-mul-table-file
+mul-table-file c = search needs
 
 sub-table-file : tie.Need-sub-table-file
 sub-table-file c = search needs
@@ -30,17 +36,11 @@ table-file-requires c κs = search needs
 array-share-prefix-file : tie.Need-array-share-prefix-file
 array-share-prefix-file c = search needs
 
-slice-aggregate-judge : tie.Need-slice-aggregate-judge
-slice-aggregate-judge c = sym (length-take-le _ _ (omega arith))
+slice-aggregate-run-on : tie.Need-slice-aggregate-run-on
+slice-aggregate-run-on c = sym (length-take-le _ _ (omega arith))
 
-number-at-requires : tie.Need-number-at-requires
-number-at-requires c κs = search needs
-
-judge-requires : tie.Need-judge-requires
-judge-requires c κs = search needs
-
-answer-requires : tie.Need-answer-requires
-answer-requires c κs = search needs
+run-on-requires : tie.Need-run-on-requires
+run-on-requires c κs = search needs
 
 returns-2 : tie.Need-returns-2
 returns-2 c = search needs
@@ -48,21 +48,21 @@ returns-2 c = search needs
 returns-3 : tie.Need-returns-3
 returns-3 c = search needs
 
-pub judged-spec : {M : Type 1} → statement M
-judged-spec =
+pub run-on-table-spec : {M : Type 1} → statement M
+run-on-table-spec =
     tie.close
     (tie.spec
+    before-table-requires
     returns
     is-board-requires
+    mul-table-file
     sub-table-file
     part-table-file-start
     part-table-file-end
     slice-aggregate-table-file
     table-file-requires
     array-share-prefix-file
-    slice-aggregate-judge
-    number-at-requires
-    judge-requires
-    answer-requires
+    slice-aggregate-run-on
+    run-on-requires
     returns-2
     returns-3)
