@@ -22,14 +22,13 @@ use Rattle.interval.specs.Rings.{OnEach}
 use Rattle.interval.proofs.Unfolding.{unfolded-greatest}
 use Rattle.chains.specs.Chained.{ChainedRows}
 use Rattle.placing.specs.Filled.{FilledSlots}
-use Rattle.nodes.specs.declared.Nodes.{Nodes}
 use Rattle.interval.specs.Interval.{Given}
-use Rattle.interval.specs.Ready.{Ready, Due, Advanced}
+use Rattle.interval.specs.Ready.{Laid, Ready, Due, Advanced}
 use Rattle.interval.proofs.Chosen.{share-small, had-le, whole-small, moved-of}
 use Rattle.interval.proofs.RowSets.{low-some, ring-few, ranged-low, ranged-high, ranged-ends, ranged-spans}
 use Rattle.interval.proofs.Ready.{line-narrow, ready-ends, ready-words, ready-share}
 
-module _ {t : Table} {size : Size} {top upper : ℕ} {first second rate words : List ℕ} {L : Nodes}
+module _ {t : Table} {size : Size} {top upper : ℕ} {first second rate words : List ℕ} {L : Laid}
     (R : Ready t size top first second rate upper words L) where
   -- ---- what is laid, for the code's counts
 
@@ -79,7 +78,7 @@ module _ {t : Table} {size : Size} {top upper : ℕ} {first second rate words : 
     few = few-rows;
     low = omega (arith, R .top-end, line-narrow (R .admissible .sound));
     line = ready-ends R;
-    chained = rw (R .row-count) (R .laid .chained);
+    chained = rw (R .row-count) (R .chained);
   }
 
   module _ {k b e : ℕ} {totals : List ℕ} (D : Due t k b e totals) where
@@ -94,10 +93,13 @@ module _ {t : Table} {size : Size} {top upper : ℕ} {first second rate words : 
     steady : Steady t (start t k) (at totals)
     steady = rw (D .begins) at (D .steady)
 
-    pub shares-fit : (i : ℕ) → i < size .rows → at rate i * e ≤ share-most
+    pub shares-fit : (i : ℕ) → i < size .rows → (at rate i * e ≤ share-most) × (at rate i * e / size .hyper ≤ max-slots)
     shares-fit i l =
         let m : i < t .rows = omega (arith, R .row-count) in
-        omega (arith, row-share i m, share-small (R .admissible) (D .in-range) i m)
+        let q : at rate i * e / size .hyper ≡ at rate i * e / hyperperiod t = ap (λ (h : ℕ). at rate i * e / h) (R .hyper-is) in (
+          omega (arith, row-share i m, share-small (R .admissible) (D .in-range) i m),
+          omega (arith, q, whole-small (R .admissible) (D .in-range) steady (λ i. at rate i * e) row-share i m),
+        )
 
     -- ---- the loads, from the shares' whole slots and the parts above them
 

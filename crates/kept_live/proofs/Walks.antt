@@ -48,8 +48,8 @@ Left κ q b o γ h = ‵ (fobs γ (T.the-row .coded .code h)) ∷ ‵ (fbor κ (
 module _ {M : Type 1} {𝓤 : URA M} {H : Heap 𝓤} {A : Atoms 𝓤} {K : Type 0} {W : Given 𝓤 H A} {Γ : List (Item 𝓤)} {G : Goal 𝓤 H} where
   pub opened : K → Soaks G → {κ : Lft} {q : Share} {γ : GName} (h : Live) (b o : ℕ)
       → (Is T.the-row h (mach h ∷ []) → Seq K W
-      (‵ (cellAt fullShare (T.the-row .mir) (mach h ∷ []) b o) ∷ ‵ (T.the-row .own h (mach h ∷ [])) ∷ ‵ (fobor κ q (Body (mem T.the-row) b o γ))
-      ∷ ‵ (fobs γ (T.the-row .coded .code h)) ∷ ‵ (fauth γ (T.the-row .coded .code h)) ∷ Γ) G)
+      (‵ (cellAt fullShare (T.the-row .mir) (mach h ∷ []) b o) ∷ ‵ (T.the-row .own h (mach h ∷ []))
+      ∷ ‵ (fobor κ q (Body (mem T.the-row) b o γ)) ∷ ‵ (fobs γ (T.the-row .coded .code h)) ∷ ‵ (fauth γ (T.the-row .coded .code h)) ∷ Γ) G)
       → Seq K W (‵ (fobs γ (T.the-row .coded .code h)) ∷ ‵ (fbor κ (Body (mem T.the-row) b o γ)) ∷ ‵ (flft κ q) ∷ Γ) G
   opened t z h b o k =
       opens t z T.the-row {h = h} b o (λ vs.
@@ -74,6 +74,7 @@ module _ {M : Type 1} {𝓤 : URA M} {H : Heap 𝓤} {A : Atoms 𝓤} {K : Type 
       → ((r : Kept) → Says r → Is S.the-row r (w ∷ []) → Seq K W (‵ (S.the-row .own r (w ∷ [])) ∷ ‵ ftrue ∷ Γ) G)
       → Seq K W (i ∷ Γ) G
   answered t z w Says {X} L e k =
-      use1 W (later (some (λ (r : Kept). (‵ ftrue ⊛ ‵ (S.the-row .own r (w ∷ []))) ⊛ some (λ (x : X). ‵ (L x) ⊛ raw (fact 𝓤 (Says r)))))) e $
+      use1 W
+      (later (some (λ (r : Kept). (‵ ftrue ⊛ ‵ (S.the-row .own r (w ∷ []))) ⊛ some (λ (x : X). ‵ (L x) ⊛ raw (fact 𝓤 (Says r)))))) e $
       await t z $ pick t (λ r. split t $ move t (1 ∷ []) $ pick t (λ x. split t $ drop t $ heard t (Says r) (λ said.
       split t $ move t (1 ∷ []) $ peeks t S.the-row (Is S.the-row) (shows 𝓤 H A S.the-row) r (w ∷ []) (λ is. k r said is))))

@@ -1,6 +1,7 @@
 // Lists of the moves of one element (#101): their reader, from a list file to numbers in memory, and their writer.
 use table::Answer;
 use table::Table;
+use table::put16;
 use table::read16;
 ghost use mathlib.Core.Path.{_≡_};
 ghost use mathlib.Core.List.{[], _∷_, _++_};
@@ -45,8 +46,8 @@ impl Head {
     pub const ENTRY_NUMBERS: usize = 3;
     // a list has at most two entries a slot
     pub const ENTRIES: usize = 2 * Table::SLOTS;
-    // the mark, and where the version, the element and the hyperperiod stand
-    pub const MARK: [u8; 3] = [b'R', b'B', b'E'];
+    // the mark's last byte, and where the version, the element and the hyperperiod stand
+    pub const MARK: u8 = b'E';
 
     pub const VERSION: u16 = 1;
 
@@ -137,8 +138,7 @@ pub fn put_bytes(entry: Entry, at: usize, out: &mut [u8])
     requires { ⌜ (at + entrySize ≤ length (now out)) × (entry .row < 256) × (entry .way < 256) ⌝ }
     ensures { λ _. ⌜ now (out .exit) ≡ sets (now (out .entry)) at (inFile (entryOf entry)) ⌝ }
 {
-    out[at] = (entry.slot % 256) as u8;
-    out[at + 1] = (entry.slot / 256) as u8;
+    put16(entry.slot, at, out);
     out[at + 2] = entry.row as u8;
     out[at + 3] = entry.way as u8;
 }
@@ -148,14 +148,9 @@ pub fn put_head(element: u8, hyper: u16, out: &mut [u8])
     requires { ⌜ listHeader ≤ length (now out) ⌝ }
     ensures { λ _. ⌜ now (out .exit) ≡ sets (now (out .entry)) 0 (fileHead element hyper) ⌝ }
 {
-    out[0] = Head::MARK[0];
-    out[1] = Head::MARK[1];
-    out[2] = Head::MARK[2];
-    out[Head::VERSION_AT] = (Head::VERSION % 256) as u8;
-    out[Head::VERSION_AT + 1] = (Head::VERSION / 256) as u8;
+    table::put_start(Head::MARK, Head::VERSION, out);
     out[Head::ELEMENT_AT] = element;
-    out[Head::HYPER_AT] = (hyper % 256) as u8;
-    out[Head::HYPER_AT + 1] = (hyper / 256) as u8;
+    put16(hyper, Head::HYPER_AT, out);
 }
 
 // ---- checks
@@ -259,7 +254,7 @@ fn head_fault(file: &[u8]) -> u32
     if file.len() < Head::BYTES {
         return Answer::SHORT_FILE;
     }
-    if !table::begins(file, Head::MARK[2]) {
+    if !table::begins(file, Head::MARK) {
         return Answer::WRONG_MARK;
     }
     if read16(file, Head::VERSION_AT) != Head::VERSION {

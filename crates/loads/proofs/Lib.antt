@@ -6,7 +6,7 @@ pub mod Over
 pub mod Turning
 pub mod States
 pub mod Network
-pub mod Cut
+pub mod Closed
 pub mod Raising
 pub mod Words
 pub mod Ways

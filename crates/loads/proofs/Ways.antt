@@ -19,7 +19,7 @@ use Rattle.loads.specs.Network.{Net, Circulation, Within, Put}
 use Rattle.loads.specs.Raised.{Pushed, Best}
 use Rattle.loads.specs.Way.{Stride, Way, Shut, Toggled, With, Reached, Visited, Entered, Done, ByNode, Wired, Narrow, Shown}
 use Rattle.loads.proofs.Network.{put, put-is, sum-put}
-use Rattle.loads.proofs.Cut.{closed-best}
+use Rattle.loads.proofs.Closed.{closed-best}
 use Rattle.loads.proofs.Words.{or-left, or-not, or-same, or-right, and-both, and-left, one-of, unseen}
 
 -- ---- ways grow

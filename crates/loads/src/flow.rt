@@ -8,7 +8,8 @@
 // - What can be taken is four words: the rows that can carry one more or one less, and the sets. So are the nodes reached and those
 //   gone on from, and to each node the rows that are toggled on the way there. There are no amounts and no queue, and no way is
 //   walked back: an exclusive or toggles it.
-// - Where no way is found, the nodes reached form a cut whose arcs all stand at a bound. So an arc into it carries the most that it can.
+// - Where no way is found, the nodes reached are a closed set, whose arcs all stand at a bound. So an arc into it carries the most that it
+//   can.
 use table::Table;
 ghost use mathlib.Core.Path.{_≡_};
 ghost use mathlib.Core.Bool.{Bool, true};

@@ -1,6 +1,4 @@
-// What the intervals of a table share, laid out once: between which sets each row starts and ends, the rows of each such node, and the
-// chains of rows by their first ends.
-use chains::Chains;
+// The nodes between sets, laid out once for a table's intervals: where each row starts and ends, and the rows of each node.
 use loads::NODES;
 use table::Table;
 ghost use mathlib.Core.Path.{_≡_};
@@ -13,7 +11,6 @@ ghost use Rattle.rules.specs.Bounds.{max-elements, max-rows};
 ghost use Rattle.table.specs.Columns.{ByRow};
 ghost use Rattle.loads.specs.Network.{nodes-most};
 ghost use Rattle.loads.specs.Way.{ByNode};
-ghost use Rattle.chains.specs.Chained.{all-heads};
 ghost use Rattle.nodes.specs.Ranges.{lowestSet, highestSet, Marked};
 ghost use Rattle.nodes.specs.NodesOf.{NodesOf};
 
@@ -43,40 +40,36 @@ fn put(rows: u64, v: u8, to: &mut [u8; Table::ROWS])
     }
 }
 
-// The node where each row starts, before its lowest set, and 0 past the last row. `left` are the rows that no set so far has.
-fn starts_of(rows: usize, sets: usize, words: &[u64; Table::ROWS]) -> [u8; Table::ROWS]
-    requires { ⌜ (rows ≤ max-rows) × (sets ≤ max-elements) ⌝ }
-    ensures { λ r. ⌜ ByRow rows (lowestSet sets (now (words .entry))) r ⌝ }
+// Writes the node where each row starts, before its lowest set, to `tail`, which is 0. `left` are the rows that no set so far has.
+fn put_starts(rows: usize, sets: usize, words: &[u64; Table::ROWS], tail: &mut [u8; Table::ROWS])
+    requires { ⌜ (rows ≤ max-rows) × (sets ≤ max-elements) × (now tail ≡ replicate max-rows 0) ⌝ }
+    ensures { λ _. ⌜ ByRow rows (lowestSet sets (now (words .entry))) (now (tail .exit)) ⌝ }
 {
-    let mut tail = [0u8; Table::ROWS];
     let mut left = all_rows(rows);
     let mut k: usize = 0;
     while k < sets {
         let here = left & words[k];
-        put(here, k as u8, &mut tail);
+        put(here, k as u8, tail);
         left = left ^ here;
         k += 1;
     }
-    put(left, sets as u8, &mut tail);
-    tail
+    put(left, sets as u8, tail);
 }
 
-// The node where each row ends, after its highest set, and 0 past the last row: the sets from the last on.
-fn stops_of(rows: usize, sets: usize, words: &[u64; Table::ROWS]) -> [u8; Table::ROWS]
-    requires { ⌜ (rows ≤ max-rows) × (sets ≤ max-elements) ⌝ }
-    ensures { λ r. ⌜ ByRow rows (λ i. suc (highestSet sets (now (words .entry)) i)) r ⌝ }
+// Writes the node where each row ends, after its highest set, to `head`, which is 0: the sets from the last on.
+fn put_stops(rows: usize, sets: usize, words: &[u64; Table::ROWS], head: &mut [u8; Table::ROWS])
+    requires { ⌜ (rows ≤ max-rows) × (sets ≤ max-elements) × (now head ≡ replicate max-rows 0) ⌝ }
+    ensures { λ _. ⌜ ByRow rows (λ i. suc (highestSet sets (now (words .entry)) i)) (now (head .exit)) ⌝ }
 {
-    let mut head = [0u8; Table::ROWS];
     let mut left = all_rows(rows);
     let mut k = sets;
     while k > 0 {
         let here = left & words[k - 1];
-        put(here, k as u8, &mut head);
+        put(here, k as u8, head);
         left = left ^ here;
         k -= 1;
     }
-    put(left, 1, &mut head);
-    head
+    put(left, 1, head);
 }
 
 // ---- the rows of each node
@@ -97,41 +90,22 @@ fn sort_rows(end: &[u8; Table::ROWS], rows: usize, words: &mut [u64; NODES])
 
 // ---- all of it
 
-// The nodes where the rows start and end, the rows that start and end at each node, and the chains of rows by their first ends.
-pub struct Nodes {
-    pub tail: [u8; Table::ROWS],
-    pub head: [u8; Table::ROWS],
-    pub out: [u64; NODES],
-    pub into: [u64; NODES],
-    pub heads: [u8; Chains::HEADS],
-    pub next: [u8; Table::ROWS],
-}
-
-// Lays this out, once for a table.
-pub fn lay<'a>(
+// Lays this out in arrays that are 0. Lent, they are nowhere copied.
+pub fn lay(
     rows: usize,
     sets: usize,
-    words: &'a [u64; Table::ROWS],
-    first: &'a [u8; Table::ROWS],
-) -> Nodes
-    requires { ⌜ (rows ≤ max-rows) × (sets ≤ max-elements) × ((i : ℕ) → i < rows → at (now first) i < all-heads) ⌝ }
-    ensures { λ r. ⌜ NodesOf rows sets (now (words .entry)) (now (first .entry)) r ⌝ }
+    words: &[u64; Table::ROWS],
+    tail: &mut [u8; Table::ROWS],
+    head: &mut [u8; Table::ROWS],
+    out: &mut [u64; NODES],
+    into: &mut [u64; NODES],
+)
+    requires { ⌜ (rows ≤ max-rows) × (sets ≤ max-elements) × (now tail ≡ replicate max-rows 0) × (now head ≡ replicate max-rows 0)
+        × (now out ≡ replicate nodes-most 0) × (now into ≡ replicate nodes-most 0) ⌝ }
+    ensures { λ _. ⌜ NodesOf rows sets (now (words .entry)) (now (tail .exit)) (now (head .exit)) (now (out .exit)) (now (into .exit)) ⌝ }
 {
-    let tail = starts_of(rows, sets, words);
-    let head = stops_of(rows, sets, words);
-    let mut out = [0u64; NODES];
-    sort_rows(&tail, rows, &mut out);
-    let mut into = [0u64; NODES];
-    sort_rows(&head, rows, &mut into);
-    let chains = chains::chain(first, rows);
-    let heads = chains.head;
-    let next = chains.next;
-    Nodes {
-        tail,
-        head,
-        out,
-        into,
-        heads,
-        next,
-    }
+    put_starts(rows, sets, words, tail);
+    put_stops(rows, sets, words, head);
+    sort_rows(tail, rows, out);
+    sort_rows(head, rows, into);
 }

@@ -10,5 +10,4 @@ pub mod Promises
 pub mod CourseNumbers
 pub mod Walked
 pub mod Shared
-pub mod Shares
 pub mod MovedOnly

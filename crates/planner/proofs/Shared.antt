@@ -7,12 +7,11 @@ use Rattle.rules.specs.Bounds.{max-elements}
 use Rattle.rules.specs.Bus.{Table}
 use Rattle.verdict.specs.declared.Analysis.{Analysis}
 use Rattle.verdict.specs.Analysed.{Accepted}
-use Rattle.chains.specs.Chained.{all-heads}
+use Rattle.chains.specs.Chained.{all-heads, Chained}
 use Rattle.interval.specs.declared.fold.Folded.{Folded}
 use Rattle.interval.specs.Folded.{FoldedSets}
-use Rattle.nodes.specs.declared.Nodes.{Nodes}
 use Rattle.nodes.specs.NodesOf.{NodesOf}
-use Rattle.interval.specs.Ready.{Ready}
+use Rattle.interval.specs.Ready.{Laid, Ready}
 use Rattle.interval.proofs.RowSets.{folded-few}
 use Rattle.interval.proofs.Ready.{line-narrow, ends-on-line}
 use Rattle.planner.proofs.CourseNumbers.{hyper-is}
@@ -38,10 +37,11 @@ module _ {t : Table} {a : Analysis} (A : Accepted t a) where
           A .admissible .sound .elements-high,
         )
 
-    pub ready-of : {L : Nodes} → NodesOf (a .outline .rows) (F .sets) words (a .outline .first) L
+    pub ready-of : {L : Laid} → NodesOf (a .outline .rows) (F .sets) words (L .tail) (L .head) (L .out) (L .into)
+        → Chained (a .outline .rows) (at (a .outline .first)) (L .heads) (L .next)
         → Ready t (record { rows = a .outline .rows; sets = F .sets; hyper = a .outline .time .hyper }) (a .outline .top)
         (a .outline .first) (a .outline .second) (a .rate) (F .upper) words L
-    ready-of L = record {
+    ready-of N C = record {
       admissible = A .admissible;
       row-count = A .outline .rows;
       top-end = A .outline .top;
@@ -53,5 +53,6 @@ module _ {t : Table} {a : Analysis} (A : Accepted t a) where
       listed = a .outline .words;
       list = A .outline .list;
       folded = folds;
-      laid = rw (A .outline .rows) at L;
+      laid = rw (A .outline .rows) at N;
+      chained = rw (A .outline .rows) at C;
     }

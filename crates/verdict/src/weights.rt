@@ -166,21 +166,27 @@ fn goes_on(started: bool, starts: bool, ends: bool) -> bool
     started
 }
 
-// Adds up for each element of the line the rates of the rows that have this end there; `sums` are 0.
+// Adds up for each element of the line the rates of the rows that start there, and of those that end there; both sums are 0.
 fn rates_at(
-    ends: &[u8; Table::ROWS],
+    first: &[u8; Table::ROWS],
+    second: &[u8; Table::ROWS],
     rows: usize,
     rate: &[u16; Table::ROWS],
-    sums: &mut [u32; Sets::LINE],
+    joining: &mut [u32; Sets::LINE],
+    leaving: &mut [u32; Sets::LINE],
 )
-    requires { ⌜ Rates (now rate) rows × ((i : ℕ) → i < rows → at (now ends) i < line-size)
-        × (now sums ≡ replicate line-size 0) ⌝ }
-    ensures { λ _. ⌜ SumsAt rows (at (now (ends .entry))) (at (now (rate .entry))) (now (sums .exit)) ⌝ }
+    requires { ⌜ Rates (now rate) rows × ((i : ℕ) → i < rows → (at (now first) i < line-size) × (at (now second) i < line-size))
+        × (now joining ≡ replicate line-size 0) × (now leaving ≡ replicate line-size 0) ⌝ }
+    ensures { λ _. ⌜ SumsAt rows (at (now (first .entry))) (at (now (rate .entry))) (now (joining .exit))
+        × SumsAt rows (at (now (second .entry))) (at (now (rate .entry))) (now (leaving .exit)) ⌝ }
 {
     let mut i: usize = 0;
     while i < rows {
-        let e = table::end_at(ends, i);
-        sums[e] = sums[e] + table::slots_at(rate, i) as u32;
+        let from = table::end_at(first, i);
+        let to = table::end_at(second, i);
+        let more = table::slots_at(rate, i) as u32;
+        joining[from] = joining[from] + more;
+        leaving[to] = leaving[to] + more;
         i += 1;
     }
 }
@@ -201,9 +207,8 @@ pub fn weigh_line<'a>(
         × Weighed rows (now (rate .entry)) (r .sets) ws (eqb interval hyper) hyper interval (r .over) (r .largest)) ⌝ }
 {
     let mut joining = [0u32; Sets::LINE];
-    rates_at(first, rows, rate, &mut joining);
     let mut leaving = [0u32; Sets::LINE];
-    rates_at(second, rows, rate, &mut leaving);
+    rates_at(first, second, rows, rate, &mut joining, &mut leaving);
     let mut found = Weights {
         sets: 0,
         over: 0,

@@ -187,7 +187,8 @@ module _
         (and-then ! (load ! (from ! (stop !)) (look ! 8 refl)) (and-then ! (load ! (from ! (stop !)) (look ! 20 refl)) (and-then ! (
         load ! (from ! (stop !)) (look ! 18 refl)) (and-then ! (load ! (from ! (stop !)) (look ! 16 refl)) (and-then ! (load ! (from ! (
         stop !)) (look ! 14 refl)) (and-then ! (load ! (from ! (stop !)) (look ! 12 refl)) (no-more !))))))) (λ w.
-        answered ! tt w Said (λ (zs : Unit {0} × (Unit {0} × (Unit {0} × (Unit {0} × (Unit {0} × (Unit {0} × Unit {0})))))). lasts callee.ended tt (h, (cost, (period, (first, (second, (label, tt)))))) zs) (id⊢ 𝓤 _) (λ r e is.
+        answered ! tt w Said (λ (zs : Unit {0} × (Unit {0} × (Unit {0} × (Unit {0} × (Unit {0} × (Unit {0} × Unit {0})))))).
+        lasts callee.ended tt (h, (cost, (period, (first, (second, (label, tt)))))) zs) (id⊢ 𝓤 _) (λ r e is.
         -- [what the answer owns; true; the live table's cell; what it owned; the open borrow; obs; auth; …; the locals; …]
         land ! (from ! (stop !)) (init ! 11 refl (LL.lawful S.the-type S′.the-laws 𝓤 H A W .typed r _ is .0)) $
         rewrite ! 11 (λ (u : Val). ‵ (fat fullShare S′.mir l7 0 u)) (ap only (LL.tells S.the-type S′.the-laws r _ is)) refl $

@@ -45,4 +45,6 @@ returns-2 c =
     file-joined _ _ _ (none (c .before .before .before)) (rw (o .entries, o .hyper) at (c .check-entries .ensures _ F))
 
 pub check-file-spec : {M : Type 1} → statement M
-check-file-spec = tie.close (tie.spec head-fault-requires at-requires returns of-requires first-wrong-in-requires check-entries-requires returns-2)
+check-file-spec =
+    tie.close
+    (tie.spec head-fault-requires at-requires returns of-requires first-wrong-in-requires check-entries-requires returns-2)

@@ -41,7 +41,8 @@ loop-again : tie.Need-loop-again Inv-loop μ-loop
 loop-again c =
     let z = c .before .before .before .before .before .before in
     let a = z .before .before .before .args in
-    (omega arith, lines-next (λ i. word-line (a .slots) i (at (a .words .now) i) ∷ []) (z .loop .k) (z .loop .inv .1) _ refl (c .before .before .put-word .ensures))
+    let put = c .before .before .put-word .ensures in
+    (omega arith, lines-next (λ i. word-line (a .slots) i (at (a .words .now) i) ∷ []) (z .loop .k) (z .loop .inv .1) _ refl put)
 
 same-length : tie.Need-same-length Inv-loop μ-loop
 same-length c = c .before .loop .inv .1 .0 .same

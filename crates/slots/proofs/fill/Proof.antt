@@ -178,11 +178,8 @@ cast-i c = record { fits = omega (arith, row-is c) }
 shl-row : tie.Need-shl-row Inv-slots μ-slots Inv-loop2 μ-loop2 Inv-loop μ-loop
 shl-row c = omega (arith, row-is c)
 
-mul-left : tie.Need-mul-left Inv-slots μ-slots Inv-loop2 μ-loop2 Inv-loop μ-loop
-mul-left c = record { fits = omega (arith, row-is c) }
-
-element-copy-out-left : tie.Need-element-copy-out-left Inv-slots μ-slots Inv-loop2 μ-loop2 Inv-loop μ-loop
-element-copy-out-left c = omega (arith, row-is c)
+slots-at-requires : tie.Need-slots-at-requires Inv-slots μ-slots Inv-loop2 μ-loop2 Inv-loop μ-loop
+slots-at-requires c κs = omega (arith, row-is c)
 
 slots-holds : tie.Need-slots-holds Inv-slots μ-slots Inv-loop2 μ-loop2 Inv-loop μ-loop
 slots-holds c =
@@ -191,7 +188,7 @@ slots-holds c =
       kept-none _ _,
       λ n f O.
           let A = l .inv .1 n f O in
-          turning-start A (r .0) refl (O .line (l .r - 1) (omega (arith, link-row (A .link))) .1),
+          rw (c .slots-at .ensures) (turning-start A (r .0) refl (O .line (l .r - 1) (omega (arith, link-row (A .link))) .1)),
     )
 
 -- ---- a stretch
@@ -503,8 +500,7 @@ fill-spec =
     sub-i
     cast-i
     shl-row
-    mul-left
-    element-copy-out-left
+    slots-at-requires
     slots-holds
     mul-slot
     array-read-slot

@@ -32,7 +32,9 @@ same-length : tie.Need-same-length
 same-length c = search needs
 
 returns-2 : tie.Need-returns-2
-returns-2 c = let m = c .before .before .before .before in put-one inFile _ _ _ _ (m .move-of .ensures) (c .before .before .put-bytes .ensures)
+returns-2 c =
+    let m = c .before .before .before .before in
+    put-one inFile _ _ _ _ (m .move-of .ensures) (c .before .before .put-bytes .ensures)
 
 pub put-byte-spec : {M : Type 1} → statement M
 put-byte-spec =

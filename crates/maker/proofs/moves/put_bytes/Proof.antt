@@ -22,7 +22,8 @@ abbrev μ-loop : tie.MeasureT-loop
 loop-holds : tie.Need-loop-holds Inv-loop μ-loop
 loop-holds c =
     let a = c .before .before .args in
-    (omega arith, written-start inFile (a .into) (a .from) (a .plan .now) (filled-front (a .out .now) listHeader (omega (arith, c .before .before .pre .3))))
+    let front = filled-front (a .out .now) listHeader (omega (arith, c .before .before .pre .3)) in
+    (omega arith, written-start inFile (a .into) (a .from) (a .plan .now) front)
 
 mul-word : tie.Need-mul-word Inv-loop μ-loop
 mul-word c = search needs
@@ -70,7 +71,8 @@ loop-again c =
     let Q = c .before .before .put-byte2 .ensures in
     let r = written-room W (s .args .hyper) (z .loop-test .taken) in (
       omega (arith, z .loop-test .taken),
-      written-next W entrySize (λ x. refl) _ P (omega (arith, P .count)) Q (omega (arith, Q .count)) (omega (arith, r, P .count, Q .count, s .pre .3)),
+      written-next W entrySize (λ x. refl) _ P (omega (arith, P .count)) Q (omega (arith, Q .count))
+          (omega (arith, r, P .count, Q .count, s .pre .3)),
     )
 
 same-length : tie.Need-same-length Inv-loop μ-loop

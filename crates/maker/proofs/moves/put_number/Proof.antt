@@ -27,7 +27,9 @@ same-length : tie.Need-same-length
 same-length c = search needs
 
 returns-2 : tie.Need-returns-2
-returns-2 c = let m = c .before .before .before .before in put-one inMemory _ _ _ _ (m .move-of .ensures) (c .before .before .put-numbers .ensures)
+returns-2 c =
+    let m = c .before .before .before .before in
+    put-one inMemory _ _ _ _ (m .move-of .ensures) (c .before .before .put-numbers .ensures)
 
 pub put-number-spec : {M : Type 1} → statement M
 put-number-spec =

@@ -68,7 +68,8 @@ loop-again c =
     let Q = c .before .before .put-number2 .ensures in
     let r = written-room W (s .args .hyper) (z .loop-test .taken) in (
       omega (arith, z .loop-test .taken),
-      written-next W entryNumbers (λ x. refl) _ P (omega (arith, P .count)) Q (omega (arith, Q .count)) (omega (arith, r, P .count, Q .count, s .pre .3)),
+      written-next W entryNumbers (λ x. refl) _ P (omega (arith, P .count)) Q (omega (arith, Q .count))
+          (omega (arith, r, P .count, Q .count, s .pre .3)),
     )
 
 same-length : tie.Need-same-length Inv-loop μ-loop

@@ -1,7 +1,8 @@
--- rates_at: row after row is added to the sum at its end.
+-- rates_at: row after row is added to the sums at its ends.
 use Prim.Native.Nat.{_-_, _≤_, _<_}
 use native.Mathlib.Omega.{arith}
 use Rattle.numbers.specs.Lists.{at}
+use Rattle.rules.specs.Bounds.{max-slots}
 use Rattle.sets.specs.Walk.{line-size}
 use Rattle.verdict.specs.Weights.{SumsAt}
 use Rattle.verdict.proofs.Line.{sums-start, sums-next, sums-end, sums-small}
@@ -9,55 +10,91 @@ use Rattle.verdict.proofs.weights.rates_at.Statement.{statement}
 use Rattle.verdict.proofs.weights.rates_at.Tie as tie
 
 abbrev Inv-loop : tie.InvT-loop
-Inv-loop ends rows rate sums₀ i₀ sums i = (i ≤ rows) × SumsAt i (at ends) (at rate) sums
+Inv-loop first second rows rate joining₀ leaving₀ i₀ joining leaving i =
+    (i ≤ rows) × SumsAt i (at first) (at rate) joining × SumsAt i (at second) (at rate) leaving
 
 abbrev μ-loop : tie.MeasureT-loop
-μ-loop ends rows rate sums₀ i₀ sums i = rows - i
+μ-loop first second rows rate joining₀ leaving₀ i₀ joining leaving i = rows - i
 
--- the row's end is on the line
-on-line : (c : tie.After-end-at Inv-loop μ-loop) → c .end-at .result < line-size
+abbrev start : tie.After-slots-at Inv-loop μ-loop → tie.Start Inv-loop μ-loop
+start c = c .before .before .before .before .before
+
+-- the row's ends are on the line
+on-line : (c : tie.After-slots-at Inv-loop μ-loop)
+    → (c .before .before .end-at .result < line-size) × (c .before .end-at2 .result < line-size)
 on-line c =
-    let u = c .before .before in
-    omega (arith, c .end-at .ensures, u .before .pre .1 (u .loop .i) (omega arith))
+    let d = c .before .before in
+    let z = start c .pre .1 (d .before .before .loop .i) (omega arith) in
+    (omega (arith, d .end-at .ensures, z .0), omega (arith, c .before .end-at2 .ensures, z .1))
+
+-- its rate is small
+small : (c : tie.After-slots-at Inv-loop μ-loop) → c .slots-at .result ≤ max-slots
+small c = omega (arith, c .slots-at .ensures, start c .pre .0 .small (c .before .before .before .before .loop .i) (omega arith))
 
 loop-holds : tie.Need-loop-holds Inv-loop μ-loop
-loop-holds c = (omega arith, rw (c .pre .2) (sums-start _ _))
+loop-holds c = (omega arith, rw (c .pre .2) (sums-start _ _), rw (c .pre .3) (sums-start _ _))
 
 end-at-requires : tie.Need-end-at-requires Inv-loop μ-loop
 end-at-requires c κs = omega (arith, c .before .before .pre .0 .few)
 
-mul-sums : tie.Need-mul-sums Inv-loop μ-loop
-mul-sums c = omega (arith, on-line c)
-
-element-copy-out-sums : tie.Need-element-copy-out-sums Inv-loop μ-loop
-element-copy-out-sums c = omega (arith, on-line c, c .before .before .loop .inv .1 .size)
+end-at-requires-2 : tie.Need-end-at-requires-2 Inv-loop μ-loop
+end-at-requires-2 c κs = omega (arith, c .before .before .before .pre .0 .few)
 
 slots-at-requires : tie.Need-slots-at-requires Inv-loop μ-loop
 slots-at-requires c κs = omega (arith, c .before .before .before .before .pre .0 .few)
 
-cast-sums : tie.Need-cast-sums Inv-loop μ-loop
-cast-sums c =
-    let u = c .before .before .before .before in
-    omega (arith, c .slots-at .ensures, u .before .pre .0 .small (u .loop .i) (omega arith))
+cast-more : tie.Need-cast-more Inv-loop μ-loop
+cast-more c = omega (arith, small c)
 
-add-sums : tie.Need-add-sums Inv-loop μ-loop
-add-sums c =
-    let d = c .before .before in
-    let u = d .before .before in
-    let R = u .before .pre .0 in
+mul-joining : tie.Need-mul-joining Inv-loop μ-loop
+mul-joining c = omega (arith, on-line c)
+
+element-copy-out-joining : tie.Need-element-copy-out-joining Inv-loop μ-loop
+element-copy-out-joining c = omega (arith, on-line c, c .before .before .before .before .loop .inv .1 .size)
+
+add-joining : tie.Need-add-joining Inv-loop μ-loop
+add-joining c =
+    let d = c .before in
+    let u = d .before .before .before .before in
+    let R = start d .pre .0 in
     omega (
       arith,
-      sums-small (u .loop .inv .1) (λ j m. R .small j (omega arith)) (d .end-at .result) (on-line d),
-      c .slots-at .ensures,
-      R .small (u .loop .i) (omega arith),
+      sums-small (u .loop .inv .1) (λ j m. R .small j (omega arith)) (d .before .before .end-at .result) (on-line d .0),
+      small d,
       R .few,
     )
 
-mul-sums-2 : tie.Need-mul-sums-2 Inv-loop μ-loop
-mul-sums-2 c = omega (arith, on-line (c .before .before))
+mul-joining-2 : tie.Need-mul-joining-2 Inv-loop μ-loop
+mul-joining-2 c = omega (arith, on-line (c .before))
 
-element-write-sums : tie.Need-element-write-sums Inv-loop μ-loop
-element-write-sums c = let d = c .before .before in omega (arith, on-line d, d .before .before .loop .inv .1 .size)
+element-write-joining : tie.Need-element-write-joining Inv-loop μ-loop
+element-write-joining c = let d = c .before in omega (arith, on-line d, d .before .before .before .before .loop .inv .1 .size)
+
+mul-leaving : tie.Need-mul-leaving Inv-loop μ-loop
+mul-leaving c = omega (arith, on-line (c .before))
+
+element-copy-out-leaving : tie.Need-element-copy-out-leaving Inv-loop μ-loop
+element-copy-out-leaving c = let d = c .before in omega (arith, on-line d, d .before .before .before .before .loop .inv .2 .size)
+
+add-leaving : tie.Need-add-leaving Inv-loop μ-loop
+add-leaving c =
+    let d = c .before .before in
+    let u = d .before .before .before .before in
+    let R = start d .pre .0 in
+    omega (
+      arith,
+      sums-small (u .loop .inv .2) (λ j m. R .small j (omega arith)) (d .before .end-at2 .result) (on-line d .1),
+      small d,
+      R .few,
+    )
+
+mul-leaving-2 : tie.Need-mul-leaving-2 Inv-loop μ-loop
+mul-leaving-2 c = omega (arith, on-line (c .before .before))
+
+element-write-leaving : tie.Need-element-write-leaving Inv-loop μ-loop
+element-write-leaving c =
+    let d = c .before .before in
+    omega (arith, on-line d, d .before .before .before .before .loop .inv .2 .size)
 
 add-i : tie.Need-add-i Inv-loop μ-loop
 add-i c = omega arith
@@ -68,10 +105,15 @@ loop-less c = omega arith
 loop-again : tie.Need-loop-again Inv-loop μ-loop
 loop-again c =
     let d = c .before .before in
-    (omega arith, sums-next _ _ (d .before .before .loop .inv .1) (d .end-at .ensures) (c .slots-at .ensures) (on-line d))
+    let e = d .before .before in
+    let u = e .before .before .loop in (
+      omega arith,
+      sums-next _ _ (u .inv .1) (e .end-at .ensures) (d .slots-at .ensures) (on-line d .0),
+      sums-next _ _ (u .inv .2) (d .before .end-at2 .ensures) (d .slots-at .ensures) (on-line d .1),
+    )
 
 returns : tie.Need-returns Inv-loop μ-loop
-returns c = sums-end (omega arith) (c .before .loop .inv .1)
+returns c = let u = c .before .loop in (sums-end (omega arith) (u .inv .1), sums-end (omega arith) (u .inv .2))
 
 pub rates-at-spec : {M : Type 1} → statement M
 rates-at-spec =
@@ -81,13 +123,19 @@ rates-at-spec =
     μ-loop
     loop-holds
     end-at-requires
-    mul-sums
-    element-copy-out-sums
+    end-at-requires-2
     slots-at-requires
-    cast-sums
-    add-sums
-    mul-sums-2
-    element-write-sums
+    cast-more
+    mul-joining
+    element-copy-out-joining
+    add-joining
+    mul-joining-2
+    element-write-joining
+    mul-leaving
+    element-copy-out-leaving
+    add-leaving
+    mul-leaving-2
+    element-write-leaving
     add-i
     loop-less
     loop-again

@@ -25,37 +25,33 @@ abbrev μ-loop : tie.MeasureT-loop
 
 rates-at-requires : tie.Need-rates-at-requires Inv-loop μ-loop
 rates-at-requires c κs =
-    let O = c .before .pre .0 in
-    (c .before .pre .1, λ i l. omega (arith, O .line i l, O .within i l, O .short), refl)
-
-rates-at-requires-2 : tie.Need-rates-at-requires-2 Inv-loop μ-loop
-rates-at-requires-2 c κs =
-    let p = c .before .before .before .pre in
-    (p .1, λ i l. omega (arith, p .0 .within i l, p .0 .short), refl)
+    let p = c .before .before .pre in
+    let O = p .0 in
+    (p .1, λ i l. (omega (arith, O .line i l, O .within i l, O .short), omega (arith, O .within i l, O .short)), refl, refl)
 
 loop-holds : tie.Need-loop-holds Inv-loop μ-loop
 loop-holds c = (omega arith, passing-start)
 
 abbrev entry : tie.In-loop Inv-loop μ-loop → tie.Start Inv-loop μ-loop
-entry c = c .before .before .before .before .before .before
+entry c = c .before .before .before .before .before
 
 on-line : (c : tie.In-loop Inv-loop μ-loop) → c .before .loop .e < line-size
 on-line c = omega (arith, entry c .pre .0 .short)
 
 -- the sums by first ends, and by second ends
 abbrev joining : tie.In-loop Inv-loop μ-loop → List ℕ
-joining c = c .before .before .before .before .rates-at .last .1 .1 .1 .0
+joining c = c .before .before .rates-at .last .1 .1 .1 .1 .0
 
 abbrev leaving : tie.In-loop Inv-loop μ-loop → List ℕ
-leaving c = c .before .before .rates-at2 .last .1 .1 .1 .0
+leaving c = c .before .before .rates-at .last .1 .1 .1 .1 .1 .0
 
 joins : (c : tie.In-loop Inv-loop μ-loop)
     → let a = entry c .args in SumsAt (a .rows) (at (a .first .now)) (at (a .rate .now)) (joining c)
-joins c = c .before .before .before .before .rates-at .ensures
+joins c = c .before .before .rates-at .ensures .0
 
 leaves : (c : tie.In-loop Inv-loop μ-loop)
     → let a = entry c .args in SumsAt (a .rows) (at (a .second .now)) (at (a .rate .now)) (leaving c)
-leaves c = c .before .before .rates-at2 .ensures
+leaves c = c .before .before .rates-at .ensures .1
 
 -- rows end at e, or none does
 ends : (c : tie.In-loop Inv-loop μ-loop)
@@ -142,7 +138,7 @@ loop-again c =
 
 returns : tie.Need-returns Inv-loop μ-loop
 returns c =
-    let z = c .before .before .before .before .before .before .pre in
+    let z = c .before .before .before .before .before .pre in
     passing-end (z .0) (z .1) (c .before .loop .inv .1) (omega arith)
 
 pub weigh-line-spec : {M : Type 1} → statement M
@@ -152,7 +148,6 @@ weigh-line-spec =
     Inv-loop
     μ-loop
     rates-at-requires
-    rates-at-requires-2
     loop-holds
     mul-starting
     array-read-starting

@@ -1,4 +1,4 @@
--- `stops_of` gives each row the node after the last set that has it: the sets from the last on.
+-- `put_stops` gives each row the node after the last set that has it: the sets from the last on.
 use borrow.Author.Needs.{needs}
 use mathlib.Core.Path.{_≡_}
 use mathlib.Core.Bool.{Bool}
@@ -13,8 +13,8 @@ use Rattle.numbers.proofs.Truth.{of-true, of-false}
 use Rattle.numbers.proofs.Finite.{highest-is, highest-none}
 use Rattle.nodes.specs.Ranges.{highestSet}
 use Rattle.nodes.proofs.Leaving.{Leaving, leaving-start, leaving-next, leaving-end}
-use Rattle.nodes.proofs.stops_of.Statement.{statement}
-use Rattle.nodes.proofs.stops_of.Tie as tie
+use Rattle.nodes.proofs.put_stops.Statement.{statement}
+use Rattle.nodes.proofs.put_stops.Tie as tie
 
 -- no set from k on has the row
 abbrev Above : (sets k : ℕ) → (ℕ → Bool) → Type 0
@@ -44,7 +44,10 @@ all-rows-requires : tie.Need-all-rows-requires Inv-loop μ-loop
 all-rows-requires c κs = search needs
 
 loop-holds : tie.Need-loop-holds Inv-loop μ-loop
-loop-holds c = (omega arith, leaving-start _ _ _ _ (c .all-rows .ensures) (λ i j l m. absurd (omega arith)))
+loop-holds c = (
+  omega arith,
+  rw (c .before .pre .2) (leaving-start _ _ _ _ (c .all-rows .ensures) (λ i j l m. absurd (omega arith))),
+)
 
 sub-here : tie.Need-sub-here Inv-loop μ-loop
 sub-here c = omega arith
@@ -90,8 +93,8 @@ returns c =
     leaving-end (u .inv .1) 1 (c .put2 .ensures)
     (λ i m o. above-none (a .sets) (λ j. bit (at (a .words .now) j) i) (λ j l g. o j (omega arith) g))
 
-pub stops-of-spec : {M : Type 1} → statement M
-stops-of-spec =
+pub put-stops-spec : {M : Type 1} → statement M
+put-stops-spec =
     tie.close
     (tie.spec
     Inv-loop

@@ -1,5 +1,5 @@
--- The theorem of the cut. A set of nodes that nothing can leave by arcs above i shows that arc i, which leads into it, carries the most
--- that it can with the arcs below it as they are.
+-- The theorem of the closed set. A set of nodes that nothing can leave by arcs above i shows that arc i, which leads into it, carries
+-- the most that it can with the arcs below it as they are.
 --
 --   Closed G i x r    arc i ends in the set r of nodes and begins outside, and no arc above i can take more out of r
 use mathlib.Core.Path.{_≡_, refl}

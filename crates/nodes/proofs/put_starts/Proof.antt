@@ -1,4 +1,4 @@
--- `starts_of` gives each row the node of the first set that has it.
+-- `put_starts` gives each row the node of the first set that has it.
 use borrow.Author.Needs.{needs}
 use mathlib.Core.Path.{_≡_, sym}
 use mathlib.Core.Bool.{Bool}
@@ -12,8 +12,8 @@ use Rattle.numbers.proofs.Truth.{of-true, of-false}
 use Rattle.numbers.proofs.Finite.{lowest-is, lowest-none}
 use Rattle.nodes.specs.Ranges.{lowestSet}
 use Rattle.nodes.proofs.Leaving.{Leaving, leaving-start, leaving-next, leaving-end}
-use Rattle.nodes.proofs.starts_of.Statement.{statement}
-use Rattle.nodes.proofs.starts_of.Tie as tie
+use Rattle.nodes.proofs.put_starts.Statement.{statement}
+use Rattle.nodes.proofs.put_starts.Tie as tie
 
 abbrev Inv-loop : tie.InvT-loop
 Inv-loop rows sets words tail₀ left₀ k₀ tail left k =
@@ -26,7 +26,10 @@ all-rows-requires : tie.Need-all-rows-requires Inv-loop μ-loop
 all-rows-requires c κs = search needs
 
 loop-holds : tie.Need-loop-holds Inv-loop μ-loop
-loop-holds c = (omega arith, leaving-start _ _ _ _ (c .all-rows .ensures) (λ i j l. absurd (omega arith)))
+loop-holds c = (
+  omega arith,
+  rw (c .before .pre .2) (leaving-start _ _ _ _ (c .all-rows .ensures) (λ i j l. absurd (omega arith))),
+)
 
 mul-here : tie.Need-mul-here Inv-loop μ-loop
 mul-here c = omega arith
@@ -70,8 +73,8 @@ returns c =
     leaving-end (u .inv .1) (a .sets) (c .put2 .ensures)
     (λ i m o. sym (lowest-none (a .sets) (λ j. bit (at (a .words .now) j) i) (λ j l. o j (omega (arith, u .inv .0)))))
 
-pub starts-of-spec : {M : Type 1} → statement M
-starts-of-spec =
+pub put-starts-spec : {M : Type 1} → statement M
+put-starts-spec =
     tie.close
     (tie.spec
     Inv-loop

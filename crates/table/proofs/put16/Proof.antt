@@ -1,11 +1,10 @@
--- `writer::put_label` meets its contract.
+-- `table::put16` meets its contract.
 use native.Mathlib.Omega.{arith}
 use native.Mathlib.Numerals.{towards-suc}
 use lib.ListN.{length-set}
-use Rattle.numbers.specs.Codec.{writeLow}
 use borrow.Author.Needs.{needs}
-use Rattle.writer.proofs.put_label.Statement.{statement}
-use Rattle.writer.proofs.put_label.Tie as tie
+use Rattle.table.proofs.put16.Statement.{statement}
+use Rattle.table.proofs.put16.Tie as tie
 
 cast-out : tie.Need-cast-out
 cast-out c = search needs
@@ -26,10 +25,9 @@ same-length : tie.Need-same-length
 same-length c = search needs
 
 returns : tie.Need-returns
-unfolding writeLow
 returns c = simp towards-suc
 
-pub put-label-spec : {M : Type 1} → statement M
-put-label-spec =
+pub put16-spec : {M : Type 1} → statement M
+put16-spec =
     tie.close
     (tie.spec cast-out slice-write-out cast-out-2 add-out slice-write-out-2 same-length returns)
