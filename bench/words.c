@@ -8,7 +8,7 @@
 #include <string.h>
 
 /* a ring has no more sets than elements; the line of both rings has the second's elements after the first's */
-enum { ROWS = 64, ELEMENTS = 32, RINGS = 2, SLOTS = 4096, SETS = ELEMENTS, PLACES = SETS + 1, LINE = RINGS * (ELEMENTS + 1) + 1 };
+enum { ROWS = 64, ELEMENTS = 32, RINGS = 2, SLOTS = 4096, SETS = ELEMENTS, NODES = SETS + 1, LINE = RINGS * (ELEMENTS + 1) + 1 };
 
 typedef uint32_t u32;
 typedef uint64_t u64;
@@ -186,21 +186,21 @@ struct loads {
     u32 rows, sets[RINGS];
     int32_t hyper;
     u64 top, upper;                              /* the rows rounded up, those of the second ring */
-    uint8_t from[ROWS], to[ROWS];                /* a row leads from place to place; set q lies between places q and q + 1 */
-    u64 out[RINGS][PLACES], into[RINGS][PLACES]; /* the rows that lead from a place, and to it */
+    uint8_t from[ROWS], to[ROWS];                /* a row leads from node to node; set q lies between nodes q and q + 1 */
+    u64 out[RINGS][NODES], into[RINGS][NODES];   /* the rows that lead from a node, and to it */
     int32_t whole[ROWS], part[ROWS], rest[ROWS]; /* a row's share of an interval, whole and rest; its share at the last end, its rest */
     int32_t room[SETS];                          /* what a set's rests leave when h is taken for each row rounded up */
     int32_t load[ROWS];
 };
 
-/* Looks on ring d for a way from place `from` to place `to` by rows of `free` and by sets, and takes it: rows on it are rounded the other
+/* Looks on ring d for a way from node `from` to node `to` by rows of `free` and by sets, and takes it: rows on it are rounded the other
  * way. */
 static int take_way(struct loads *n, u32 d, u32 from, u32 to, u64 free) {
-    u64 seen = bit(from), todo = seen, rows_by[PLACES], sets_by[PLACES];
+    u64 seen = bit(from), open = seen, rows_by[NODES], sets_by[NODES];
     rows_by[from] = sets_by[from] = 0;
-    while (todo) {
-        u32 v = lowest(todo);
-        todo &= todo - 1;
+    while (open) {
+        u32 v = lowest(open);
+        open &= open - 1;
         u64 was = seen, rows = rows_by[v], sets = sets_by[v];
         if (v > 0 && n->room[v - 1] > 0 && !(seen >> (v - 1) & 1)) {
             seen |= bit(v - 1);
@@ -234,7 +234,7 @@ static int take_way(struct loads *n, u32 d, u32 from, u32 to, u64 free) {
             }
             return 1;
         }
-        todo |= seen & ~was;
+        open |= seen & ~was;
     }
     return 0;
 }
@@ -290,7 +290,7 @@ static inline void choose_on(struct loads *n, u32 d, const int32_t *sum, u64 par
 
 /* The loads of the next interval: the greatest in row order, on each ring by itself. */
 static inline void choose(struct loads *n, u32 rings) {
-    int32_t h = n->hyper, sum[RINGS][PLACES];
+    int32_t h = n->hyper, sum[RINGS][NODES];
     u64 had = n->top, parted = 0;
     memset(sum, 0, rings * sizeof *sum);
     for (u32 i = 0; i < n->rows; i++) {

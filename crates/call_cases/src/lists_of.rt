@@ -6,20 +6,15 @@
 // The first calls the maker with a plan of so many words; it is lent `room` numbers. The second reads a list file of so many entries, two
 // a slot, of which the one at `place` has this row and all others row 0. For each a line is printed: the call, the name, number and place,
 // the hyperperiod and the entry count, and of the first all of the lent numbers, which were 9 before.
-use crate::is_board;
 use crate::tables::print_numbers;
 use cases::number_at;
 use cases::print;
-use cases::table_file;
 use lists::Entry;
 use lists::Head;
 use lists::Reading;
 use table::Answer;
-use table::Table;
 ghost use Prim.Native.Nat.{_+_, _*_, _≤_, _<_};
 ghost use Rattle.rules.specs.Bounds.{max-slots};
-
-const SIZE: usize = Table::HEADER + (Table::ROW_BYTES + Table::WAY_BYTES) * Table::ROWS;
 
 // as many numbers as the maker is lent at most, and what they hold before it
 const ROOM: usize = 64;
@@ -123,7 +118,16 @@ fn make_front(heading: &[u8], file: &[u8], plan: &[u64], element: u64, room: usi
     make(heading, file, plan, element, &mut out[..room]);
 }
 
-pub(crate) fn make_case(heading: &[u8], given: &[u64]) {
+// Three numbers and the plan's words; more than there are where the words are more.
+pub(crate) fn before_table(given: &[u64]) -> usize {
+    let words = number_at(given, 2) as usize;
+    if words > given.len() {
+        return words;
+    }
+    3 + words
+}
+
+pub(crate) fn make_case(heading: &[u8], file: &[u8], given: &[u64]) {
     if given.len() < 3 {
         return;
     }
@@ -132,15 +136,11 @@ pub(crate) fn make_case(heading: &[u8], given: &[u64]) {
     if words > rest.len() {
         return;
     }
-    let mut file = [0u8; SIZE];
-    let size = table_file(is_board(heading), &rest[words..], &mut file);
-    if size <= SIZE {
-        make_front(
-            heading,
-            &file[..size],
-            &rest[..words],
-            number_at(given, 0),
-            number_at(given, 1) as usize,
-        );
-    }
+    make_front(
+        heading,
+        file,
+        &rest[..words],
+        number_at(given, 0),
+        number_at(given, 1) as usize,
+    );
 }

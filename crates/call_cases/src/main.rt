@@ -10,17 +10,22 @@ mod tables;
 mod verdicts;
 
 use cases::find;
+use cases::table_file;
 use libc::STDIN_FILENO;
 use libc::STDOUT_FILENO;
+use table::Table;
 
 // as many numbers as a case has at most
 const MOST: usize = 540;
+
+// room for the file of one row more than a table may have
+const SIZE: usize = Table::HEADER + (Table::ROW_BYTES + Table::WAY_BYTES) * (Table::ROWS + 1);
 
 pub(crate) fn byte_at(text: &[u8], k: usize) -> u8 {
     if k < text.len() { text[k] } else { 0 }
 }
 
-pub(crate) fn is_board(heading: &[u8]) -> bool {
+fn is_board(heading: &[u8]) -> bool {
     find(heading, 0, b'+') < heading.len()
 }
 
@@ -32,7 +37,78 @@ fn end_line() {
     io::write_all(STDOUT_FILENO, b"\n");
 }
 
+// A case that has a name only.
+pub(crate) fn is_named(heading: &[u8]) -> bool {
+    find(heading, 0, b' ') == heading.len()
+}
+
+// ---- calls on a table's file
+
 // Calls are told apart by their first letter.
+fn call_on(heading: &[u8], file: &[u8], given: &[u64]) {
+    let letter = byte_at(heading, 0);
+    if letter == b'e' {
+        lists_of::make_case(heading, file, given);
+        return;
+    }
+    if letter == b'm' {
+        meetings::meet_case(heading, file, given);
+        return;
+    }
+    if letter == b'c' {
+        meetings::crowd_case(heading, file, given);
+        return;
+    }
+    plans::run(heading, file, given);
+}
+
+fn run_on(heading: &[u8], file: &[u8], given: &[u64]) {
+    if is_relayed(heading) {
+        relays::run(heading, file, given);
+    } else if is_named(heading) {
+        verdicts::answer(heading, verdict::judge(file));
+    } else {
+        call_on(heading, file, given);
+    }
+}
+
+// How many numbers stand before those of the table.
+fn before_table(heading: &[u8], given: &[u64]) -> usize {
+    if is_relayed(heading) {
+        return relays::before_table(heading);
+    }
+    if is_named(heading) {
+        return 0;
+    }
+    let letter = byte_at(heading, 0);
+    if letter == b'e' {
+        return lists_of::before_table(given);
+    }
+    if letter == b'm' {
+        return 2;
+    }
+    if letter == b'c' {
+        return 1;
+    }
+    plans::BEFORE_TABLE
+}
+
+// The table's file is made here, for all calls.
+fn run_on_table(heading: &[u8], given: &[u64]) {
+    let at = before_table(heading, given);
+    if at > given.len() {
+        return;
+    }
+    let mut file = [0u8; SIZE];
+    let size = table_file(is_board(heading), &given[at..], &mut file);
+    if size <= SIZE {
+        run_on(heading, &file[..size], given);
+    }
+}
+
+// ---- a case
+
+// The calls that take no table's file have first letters of their own.
 fn call(heading: &[u8], given: &[u64]) {
     let letter = byte_at(heading, 0);
     if letter == b'r' {
@@ -59,30 +135,16 @@ fn call(heading: &[u8], given: &[u64]) {
         tables::write_case(heading, given);
         return;
     }
-    if letter == b'e' {
-        lists_of::make_case(heading, given);
-        return;
-    }
     if letter == b'h' {
         lists_of::full_case(heading, given);
         return;
     }
-    if letter == b'm' {
-        meetings::meet_case(heading, given);
-        return;
-    }
-    if letter == b'c' {
-        meetings::crowd_case(heading, given);
-        return;
-    }
-    plans::run(heading, given);
+    run_on_table(heading, given);
 }
 
 fn run(heading: &[u8], given: &[u64]) {
-    if is_relayed(heading) {
-        relays::run(heading, given);
-    } else if find(heading, 0, b' ') == heading.len() {
-        verdicts::judged(heading, given);
+    if is_relayed(heading) || is_named(heading) {
+        run_on_table(heading, given);
     } else {
         call(heading, given);
     }

@@ -6,11 +6,9 @@
 // For each a line is printed: the call, the name, number and place, then what the call left: the stage, the first four totals, and all of
 // the lent words, which were 9 before; or the first four standings.
 use crate::byte_at;
-use crate::is_board;
 use cases::find;
 use cases::number_at;
 use cases::print;
-use cases::table_file;
 use libc::STDOUT_FILENO;
 use planner::MovedOn;
 use planner::Planner;
@@ -23,6 +21,9 @@ use table::Table;
 pub(crate) const WORDS: usize = 64;
 
 pub(crate) const KEPT: u64 = 9;
+
+// room, interval and four totals
+pub(crate) const BEFORE_TABLE: usize = 6;
 
 // ---- what is printed
 
@@ -141,32 +142,11 @@ pub(crate) fn planner_of(stage: Stage, given: &[u64]) -> Planner {
     }
 }
 
-// The call on the front of the file and of the words.
-fn front(
-    heading: &[u8],
-    planner: Planner,
-    file: &[u8],
-    size: usize,
-    words: &mut [u64],
-    room: usize,
-) {
-    if size > file.len() {
-        return;
-    }
-    if room > words.len() {
-        return;
-    }
-    call(heading, planner, &file[..size], &mut words[..room]);
-}
-
-pub(crate) fn run(heading: &[u8], given: &[u64]) {
-    if given.len() < 6 {
-        return;
-    }
-    let mut file = [0u8; 64];
-    let size = table_file(is_board(heading), &given[6..], &mut file);
+pub(crate) fn run(heading: &[u8], file: &[u8], given: &[u64]) {
     let mut words = [KEPT; WORDS];
     let room = number_at(given, 0) as usize;
     let planner = planner_of(stage_of(heading, number_at(given, 1)), given);
-    front(heading, planner, &file, size, &mut words, room);
+    if room <= WORDS {
+        call(heading, planner, file, &mut words[..room]);
+    }
 }

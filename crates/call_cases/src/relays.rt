@@ -6,13 +6,11 @@
 // A call is plan, step or standings, as without a relay, or list. For a list a line is printed with number and place, how many sets there
 // are, and all of the lent words; for the others what is printed without.
 use crate::byte_at;
-use crate::is_board;
+use crate::is_named;
 use crate::plans;
 use crate::verdicts;
-use cases::find;
 use cases::number_at;
 use cases::print;
-use cases::table_file;
 use planner::Planner;
 
 fn list(heading: &[u8], relay: usize, file: &[u8], words: &mut [u64]) {
@@ -68,33 +66,18 @@ fn lend(heading: &[u8], file: &[u8], given: &[u64]) {
     }
 }
 
-fn called(heading: &[u8], given: &[u64]) {
-    if given.len() < 7 {
-        return;
+// The relay's number, and those that stand before the table without a relay.
+pub(crate) fn before_table(heading: &[u8]) -> usize {
+    if is_named(heading) {
+        return 1;
     }
-    let mut file = [0u8; verdicts::SIZE];
-    let size = table_file(is_board(heading), &given[7..], &mut file);
-    if size <= verdicts::SIZE {
-        lend(heading, &file[..size], given);
-    }
+    1 + plans::BEFORE_TABLE
 }
 
-fn judged(name: &[u8], given: &[u64]) {
-    if given.len() < 1 {
-        return;
-    }
-    let mut file = [0u8; verdicts::SIZE];
-    let size = table_file(is_board(name), &given[1..], &mut file);
-    if size <= verdicts::SIZE {
-        let r = relayed::judge(&file[..size], number_at(given, 0) as usize);
-        verdicts::answer(name, r);
-    }
-}
-
-pub(crate) fn run(heading: &[u8], given: &[u64]) {
-    if find(heading, 0, b' ') == heading.len() {
-        judged(heading, given);
+pub(crate) fn run(heading: &[u8], file: &[u8], given: &[u64]) {
+    if is_named(heading) {
+        verdicts::answer(heading, relayed::judge(file, number_at(given, 0) as usize));
     } else {
-        called(heading, given);
+        lend(heading, file, given);
     }
 }

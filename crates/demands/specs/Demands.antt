@@ -65,7 +65,7 @@ use Rattle.relay_jobs.specs.Jobs.{Two-held}
 use Rattle.relayed.specs.Without.{As-without, Same-table}
 use Rattle.relayed.specs.Promises as relayed
 use Rattle.relayed.specs.Promises.{Relayed-proper, Relayed-carried}
-use Rattle.kept.specs.InPlace.{joined, MovedInPlace}
+use Rattle.planner.specs.InPlace.{joined, MovedInPlace}
 use Rattle.raising.specs.Raises.{Raise-raises, Raised-verdict, Data-arrives}
 
 abbrev pub Answered : List Check → Type 0

@@ -7,7 +7,7 @@
 --   longest-text       no text of a table has more bytes
 --   Made P was now n   bytes that P allows stand at the front of a lent slice, as far as there is room; n is how many they are
 --
--- `was` and `now` are what the lent slice holds before and after. Only one answer fits (crate `text_report`, proofs/Only).
+-- `was` and `now` are what the lent slice holds before and after. Only one answer fits (crate `file_report`, proofs/TextOnly).
 use mathlib.Core.Logic.{_≢_}
 use mathlib.Core.List.{List, [], _∷_}
 use Prim.Native.Nat.{ℕ, _≤_}

@@ -17,19 +17,18 @@ use Rattle.loads.specs.Loads.{last, digit, none, share-most, Spans, Parts, Qual
 use Rattle.loads.specs.State.{Ends}
 use Rattle.loads.specs.declared.Size.{Size}
 use Rattle.loads.proofs.Choice.{greatest-shift}
-use Rattle.fold.specs.Folded.{lowSets}
-use Rattle.fold.specs.Rings.{OnEach}
-use Rattle.fold.proofs.Unfolding.{unfolded-greatest}
+use Rattle.interval.specs.Folded.{lowSets}
+use Rattle.interval.specs.Rings.{OnEach}
+use Rattle.interval.proofs.Unfolding.{unfolded-greatest}
 use Rattle.chains.specs.Chained.{ChainedRows}
 use Rattle.placing.specs.Filled.{FilledSlots}
-use Rattle.places.specs.declared.Places.{Places}
 use Rattle.interval.specs.Interval.{Given}
-use Rattle.interval.specs.Ready.{Ready, Due, Advanced}
-use Rattle.interval.proofs.Choice.{share-small, had-le, whole-small, moved-of}
+use Rattle.interval.specs.Ready.{Laid, Ready, Due, Advanced}
+use Rattle.interval.proofs.Chosen.{share-small, had-le, whole-small, moved-of}
 use Rattle.interval.proofs.RowSets.{low-some, ring-few, ranged-low, ranged-high, ranged-ends, ranged-spans}
 use Rattle.interval.proofs.Ready.{line-narrow, ready-ends, ready-words, ready-share}
 
-module _ {t : Table} {size : Size} {top upper : ℕ} {first second rate words : List ℕ} {L : Places}
+module _ {t : Table} {size : Size} {top upper : ℕ} {first second rate words : List ℕ} {L : Laid}
     (R : Ready t size top first second rate upper words L) where
   -- ---- what is laid, for the code's counts
 
@@ -64,7 +63,7 @@ module _ {t : Table} {size : Size} {top upper : ℕ} {first second rate words : 
     heads = heads-laid;
     wired = record {
       few-rows = spans-laid .few-rows;
-      few-places = omega (arith, spans-laid .few-sets);
+      few-nodes = omega (arith, spans-laid .few-sets);
       ends = λ i l. let r = spans-laid .row i l in (omega (arith, r), omega (arith, r, heads-laid i l));
       starting = λ v i l. R .laid .starting v i (omega (arith, spans-laid .few-sets));
       ending = λ v i l. R .laid .ending v i (omega (arith, spans-laid .few-sets));
@@ -79,7 +78,7 @@ module _ {t : Table} {size : Size} {top upper : ℕ} {first second rate words : 
     few = few-rows;
     low = omega (arith, R .top-end, line-narrow (R .admissible .sound));
     line = ready-ends R;
-    chained = rw (R .row-count) (R .laid .chained);
+    chained = rw (R .row-count) (R .chained);
   }
 
   module _ {k b e : ℕ} {totals : List ℕ} (D : Due t k b e totals) where
@@ -94,10 +93,13 @@ module _ {t : Table} {size : Size} {top upper : ℕ} {first second rate words : 
     steady : Steady t (start t k) (at totals)
     steady = rw (D .begins) at (D .steady)
 
-    pub shares-fit : (i : ℕ) → i < size .rows → at rate i * e ≤ share-most
+    pub shares-fit : (i : ℕ) → i < size .rows → (at rate i * e ≤ share-most) × (at rate i * e / size .hyper ≤ max-slots)
     shares-fit i l =
         let m : i < t .rows = omega (arith, R .row-count) in
-        omega (arith, row-share i m, share-small (R .admissible) (D .in-range) i m)
+        let q : at rate i * e / size .hyper ≡ at rate i * e / hyperperiod t = ap (λ (h : ℕ). at rate i * e / h) (R .hyper-is) in (
+          omega (arith, row-share i m, share-small (R .admissible) (D .in-range) i m),
+          omega (arith, q, whole-small (R .admissible) (D .in-range) steady (λ i. at rate i * e) row-share i m),
+        )
 
     -- ---- the loads, from the shares' whole slots and the parts above them
 

@@ -3,7 +3,7 @@ use mathlib.Core.Path.{_≡_, refl, ap, _∙_}
 use Prim.Native.Nat.{ℕ, _+_, _-_, _≤_, _<_}
 use native.Mathlib.Decide.{ℕ-discrete}
 use native.Mathlib.Omega.{arith}
-use Rattle.flow.specs.Network.{Put}
+use Rattle.loads.specs.Network.{Put}
 use Rattle.loads.specs.Loads.{digit}
 use Rattle.interval.specs.Interval.{Given}
 

@@ -1,8 +1,13 @@
 pub mod Moved
 pub mod Rings
 pub mod RowSets
-pub mod Choice
+pub mod Chosen
 pub mod Shares
 pub mod Fill
 pub mod Ready
 pub mod Course
+pub mod Filling
+pub mod Taking
+pub mod Folding
+pub mod Product
+pub mod Unfolding

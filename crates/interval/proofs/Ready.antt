@@ -16,8 +16,7 @@ use Rattle.table.specs.Columns.{ByRow}
 use Rattle.table.specs.Sound.{Sound}
 use Rattle.lags.specs.Lags.{Admissible}
 use Rattle.loads.specs.declared.Size.{Size}
-use Rattle.places.specs.declared.Places.{Places}
-use Rattle.interval.specs.Ready.{Ready}
+use Rattle.interval.specs.Ready.{Laid, Ready}
 
 -- the line of two rings
 pub line-narrow : {t : Table} → Sound t → lineTop t ≤ max-rings * (max-elements + 1)
@@ -36,7 +35,7 @@ ends-on-line {t} A F S i m =
       omega (arith, line-high t (A .sound) (A .clear) i m),
     )
 
-module _ {t : Table} {size : Size} {top upper : ℕ} {first second rate words : List ℕ} {L : Places}
+module _ {t : Table} {size : Size} {top upper : ℕ} {first second rate words : List ℕ} {L : Laid}
     (R : Ready t size top first second rate upper words L) where
   -- ---- the ends
 

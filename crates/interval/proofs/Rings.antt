@@ -22,8 +22,8 @@ use Rattle.rules.specs.Line.{meet, Least, SetList}
 use Rattle.sets.proofs.Overlap.{closed}
 use Rattle.loads.specs.Loads.{digit}
 use Rattle.loads.proofs.Settling.{digit-on, digit-off}
-use Rattle.fold.specs.Folded.{lowSets}
-use Rattle.fold.proofs.Unfolding.{ringSets, in-line}
+use Rattle.interval.specs.Folded.{lowSets}
+use Rattle.interval.proofs.Unfolding.{ringSets, in-line}
 
 module _ (n M : ℕ) (first second : ℕ → ℕ) (upper : ℕ) (line : (i : ℕ) → i < n → first i < second i) (pos : 0 < n)
     (own : (i : ℕ) → i < n → (digit upper i * (M + 1) < first i) × (second i ≤ digit upper i * (M + 1) + (M + 1))) where

@@ -28,11 +28,11 @@ use Rattle.sets.proofs.Transfer.{list-agree}
 use Rattle.lags.specs.Lags.{Admissible}
 use Rattle.loads.specs.Loads.{covers, inSet, last, digit, Spans}
 use Rattle.loads.proofs.Settling.{digit-on, digit-off}
-use Rattle.fold.specs.declared.Folded.{Folded}
-use Rattle.fold.specs.Folded.{upperRows, lowSets, FoldedSets}
-use Rattle.fold.proofs.Unfolding.{ringSets}
+use Rattle.interval.specs.declared.fold.Folded.{Folded}
+use Rattle.interval.specs.Folded.{upperRows, lowSets, FoldedSets}
+use Rattle.interval.proofs.Unfolding.{ringSets}
 use Rattle.promises.proofs.Words.{overlap-agrees}
-use Rattle.places.specs.Ranges.{lowestSet, highestSet, Ranged}
+use Rattle.nodes.specs.Ranges.{lowestSet, highestSet, Ranged}
 use Rattle.interval.proofs.Rings.{in-ring, few-folded}
 
 -- ---- a row's sets
@@ -158,7 +158,7 @@ module _ {t : Table} {K : ℕ} {was first : List ℕ} {F : Folded} {vs : List �
       own ws (on-line A S)
 
   module _ {tail head : List ℕ} (R : Ranged (t .rows) (F .sets) vs tail head) where
-    -- the places where the rows start and end, on the line that is not folded
+    -- the nodes where the rows start and end, on the line that is not folded
     abbrev pub from : ℕ → ℕ
     from i = digit (F .upper) i * low + at tail i
 

@@ -1,8 +1,7 @@
 -- Shares parted without a division: 2^36 / h, rounded up, is near enough to 1 / h for every share that there is.
-use mathlib.Core.Path.{_≡_, sym, ap, _∙_}
-use Prim.Native.Nat.{ℕ, _+_, _-_, _*_, _/_, _%_, _^_, _≤_, _<_}
+use mathlib.Core.Path.{_≡_}
+use Prim.Native.Nat.{ℕ, _+_, _-_, _*_, _/_, _^_, _≤_, _<_}
 use native.Mathlib.Nat.{mul-le-mul, mul-le-mul-left, mul-le-mul-right, lt-of-mul-lt-mul-right, div-eq-of-lt-le}
-use native.Mathlib.Nat.{mod-add-div', add-mul-div-right, add-mul-mod-self-right}
 use native.Mathlib.Omega.{arith}
 use Rattle.numbers.proofs.Rounding.{down-under, down-over}
 use Rattle.rules.specs.Bounds.{max-slots}
@@ -38,20 +37,3 @@ module _ (h v n : ℕ) (some : 0 < h) (short : h ≤ max-slots) (I : Inverse h v
 
   pub whole-is : n * v / 2 ^ 36 ≡ n / h
   whole-is = div-eq-of-lt-le (2 ^ 36) over under
-
--- the shares of slots and of more slots are the share of them all, where their parts come to a whole slot too
-pub shares-sum : (h r s l : ℕ) → 0 < h
-    → (r * s / h + r * l / h + (r * s % h + r * l % h) / h ≡ r * (s + l) / h) × ((r * s % h + r * l % h) % h ≡ r * (s + l) % h)
-shares-sum h r s l some =
-    let e : r * (s + l) ≡ (r * s % h + r * l % h) + (r * s / h + r * l / h) * h =
-    omega (arith, mod-add-div' (r * s) h, mod-add-div' (r * l) h) in
-    let q = ap (λ (n : ℕ). n / h) e ∙ add-mul-div-right (r * s % h + r * l % h) (r * s / h + r * l / h) some in
-    (omega arith, sym (ap (λ (n : ℕ). n % h) e ∙ add-mul-mod-self-right (r * s % h + r * l % h) (r * s / h + r * l / h) h))
-
-pub shares-more : (h r s l : ℕ) {e w m p q w′ p′ : ℕ} → 0 < h → (w ≡ r * s / h) × (p ≡ r * s % h) → (m ≡ r * l / h) × (q ≡ r * l % h) → s + l ≡ e
-    → (w′ ≡ w + m + (p + q) / h) × (p′ ≡ (p + q) % h) → (w′ ≡ r * e / h) × (p′ ≡ r * e % h)
-shares-more h r s l {w = w} {m} {p} {q} some a b e c =
-    let z = shares-sum h r s l some in
-    let x : p + q ≡ r * s % h + r * l % h = omega arith in
-    let y : w + m + (p + q) / h ≡ r * (s + l) / h = omega (arith, ap (λ (n : ℕ). n / h) x) in
-    (c .0 ∙ y ∙ ap (λ (n : ℕ). r * n / h) e, c .1 ∙ ap (λ (n : ℕ). n % h) x ∙ z .1 ∙ ap (λ (n : ℕ). r * n % h) e)

@@ -1,2 +1,5 @@
 pub mod Interval
 pub mod Ready
+pub mod Taken
+pub mod Folded
+pub mod Rings

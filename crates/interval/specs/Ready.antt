@@ -1,8 +1,9 @@
 -- What one interval needs of a table, and what it gives.
 --
+--   Laid                    the arrays of nodes and chains that a table's intervals share
 --   Ready t size top first second rate upper words L
 --                           the table may be admitted; the arrays hold its rows' ends on the line, their rates and the words of its sets,
---                           folded, where `upper` are the rows of the second ring, and L are the places for these
+--                           folded, where `upper` are the rows of the second ring, and L are the nodes for these and the rows' chains
 --   Due t k b e had         interval k is one of the table's, from slot b up to slot e, and totals `had` keep step at b
 --   Advanced t k had now was out
 --                           interval k is done: `now` are the totals after it, and `out`, which held `was`, has its words at the front
@@ -21,13 +22,21 @@ use Rattle.rules.specs.Loads as loads
 use Rattle.table.specs.Columns.{ByRow}
 use Rattle.lags.specs.Lags.{Admissible, Steady}
 use Rattle.loads.specs.declared.Size.{Size}
-use Rattle.fold.specs.Folded.{FoldedSets}
+use Rattle.interval.specs.Folded.{FoldedSets}
+use Rattle.chains.specs.Chained.{Chained}
 use Rattle.placing.specs.Filled.{Kept}
-use Rattle.places.specs.PlacesOf.{PlacesOf}
-use Rattle.places.specs.declared.Places.{Places}
+use Rattle.nodes.specs.NodesOf.{NodesOf}
 use Rattle.interval.specs.Interval.{Moved}
 
-pub record Ready (t : Table) (size : Size) (top : ℕ) (first second rate : List ℕ) (upper : ℕ) (words : List ℕ) (L : Places) : Type 0 where
+pub record Laid : Type 0 where
+  pub tail : List ℕ
+  pub head : List ℕ
+  pub out : List ℕ
+  pub into : List ℕ
+  pub heads : List ℕ
+  pub next : List ℕ
+
+pub record Ready (t : Table) (size : Size) (top : ℕ) (first second rate : List ℕ) (upper : ℕ) (words : List ℕ) (L : Laid) : Type 0 where
   pub admissible : Admissible t
   pub row-count : size .rows ≡ t .rows
   pub top-end : top ≡ lineTop t
@@ -39,7 +48,8 @@ pub record Ready (t : Table) (size : Size) (top : ℕ) (first second rate : List
   pub listed : List ℕ
   pub list : Sets t (take count listed)
   pub folded : FoldedSets (t .rows) (t .elements) count (at first) listed (record { upper = upper; sets = size .sets }) words
-  pub laid : PlacesOf (t .rows) (size .sets) words first L
+  pub laid : NodesOf (t .rows) (size .sets) words (L .tail) (L .head) (L .out) (L .into)
+  pub chained : Chained (t .rows) (at first) (L .heads) (L .next)
 
 pub record Due (t : Table) (k b e : ℕ) (had : List ℕ) : Type 0 where
   pub in-range : k < intervals t

@@ -1,7 +1,11 @@
 // One planning interval of an admitted table, in pieces: from totals that keep step at its first slot to its loads and the totals after it
 // (document 01, "Loads of one interval, and its slots"). Who plans intervals calls them in turn, and then fills the slots; that they make
 // an interval is a law (proofs/Course, `advanced-of`).
-use flow::PLACES;
+mod choice;
+mod fold;
+
+pub use fold::fold_sets;
+use loads::NODES;
 use loads::Size;
 use table::Table;
 ghost use mathlib.Core.Path.{_≡_};
@@ -15,8 +19,8 @@ ghost use Rattle.rules.specs.Bounds.{max-rows, max-rings, max-slots};
 ghost use Rattle.rules.specs.Interval.{Greatest};
 ghost use Rattle.loads.specs.Loads.{share-most, digit, last, Parts};
 ghost use Rattle.loads.specs.State.{Ends};
-ghost use Rattle.choice.specs.Taken.{Uneven};
-ghost use Rattle.fold.specs.Rings.{OnEach, ringCount};
+ghost use Rattle.interval.specs.Taken.{Uneven};
+ghost use Rattle.interval.specs.Rings.{OnEach, ringCount};
 ghost use Rattle.interval.specs.Interval.{Inverse, Given};
 
 // ---- shares
@@ -44,11 +48,11 @@ pub fn part_shares(
     slots: u64,
     size: Size,
     inverse: u64,
-    whole: &mut [u64; Table::ROWS],
+    whole: &mut [u16; Table::ROWS],
     part: &mut [u32; Table::ROWS],
 ) -> u64
     requires { ⌜ (size .rows ≤ max-rows) × (0 < size .hyper) × (size .hyper ≤ max-slots) × Inverse (size .hyper) inverse
-        × ((i : ℕ) → i < size .rows → at (now rate) i * slots ≤ share-most)
+        × ((i : ℕ) → i < size .rows → (at (now rate) i * slots ≤ share-most) × (at (now rate) i * slots / size .hyper ≤ max-slots))
         × (length (now whole) ≡ max-rows) × (length (now part) ≡ max-rows) ⌝ }
     ensures { λ r. ⌜ (length (now (whole .exit)) ≡ max-rows) × (length (now (part .exit)) ≡ max-rows)
         × ((i : ℕ) → i < size .rows → (at (now (whole .exit)) i ≡ at (now (rate .entry)) i * slots / size .hyper)
@@ -62,79 +66,12 @@ pub fn part_shares(
         let share = table::slots_at(rate, i) * slots;
         let w = whole_of(share, inverse);
         let rest = share - w * h;
-        whole[i] = w;
+        whole[i] = w as u16;
         part[i] = rest as u32;
         parted = loads::mark(parted, i, 0 < rest);
         i += 1;
     }
     parted
-}
-
-// The whole slots that two parts come to: 1, or none.
-fn carried(parts: u32, h: u32) -> u32
-    requires { ⌜ (0 < h) × (parts < h + h) ⌝ }
-    ensures { λ r. ⌜ r ≡ parts / h ⌝ }
-{
-    if parts < h {
-        return 0;
-    }
-    1
-}
-
-// Adds to each row's share another, as they stand where they are parted: of intervals of one length after the other it is the same, and a
-// sum takes less time than products. Gives the rows that have a part.
-pub fn add_shares<'a>(
-    more: &'a [u64; Table::ROWS],
-    over: &'a [u32; Table::ROWS],
-    size: Size,
-    whole: &mut [u64; Table::ROWS],
-    part: &mut [u32; Table::ROWS],
-) -> u64
-    requires { ⌜ (size .rows ≤ max-rows) × (0 < size .hyper) × (size .hyper ≤ max-slots)
-        × ((i : ℕ) → i < size .rows → (at (now whole) i ≤ share-most) × (at (now more) i ≤ share-most)
-        × (at (now part) i < size .hyper) × (at (now over) i < size .hyper))
-        × (length (now whole) ≡ max-rows) × (length (now part) ≡ max-rows) ⌝ }
-    ensures { λ r. ⌜ (length (now (whole .exit)) ≡ max-rows) × (length (now (part .exit)) ≡ max-rows)
-        × ((i : ℕ) → i < size .rows → (at (now (whole .exit)) i ≡ at (now (whole .entry)) i + at (now (more .entry)) i
-        + (at (now (part .entry)) i + at (now (over .entry)) i) / size .hyper)
-        × (at (now (part .exit)) i ≡ (at (now (part .entry)) i + at (now (over .entry)) i) % size .hyper))
-        × Uneven (size .rows) (at (now (part .exit))) r ⌝ }
-{
-    let h = size.hyper as u32;
-    let mut parted: u64 = 0;
-    let mut i: usize = 0;
-    while i < size.rows {
-        let parts = part[i] + over[i];
-        let carry = carried(parts, h);
-        let above = parts - carry * h;
-        whole[i] = whole[i] + more[i] + carry as u64;
-        part[i] = above;
-        parted = loads::mark(parted, i, 0 < above);
-        i += 1;
-    }
-    parted
-}
-
-// Parts the shares of so many slots, where that is asked for: `on` says so.
-pub fn first_shares(
-    rate: &[u16; Table::ROWS],
-    slots: u64,
-    on: bool,
-    size: Size,
-    inverse: u64,
-    whole: &mut [u64; Table::ROWS],
-    part: &mut [u32; Table::ROWS],
-)
-    requires { ⌜ (size .rows ≤ max-rows) × (0 < size .hyper) × (size .hyper ≤ max-slots) × Inverse (size .hyper) inverse
-        × (on ≡ true → (i : ℕ) → i < size .rows → at (now rate) i * slots ≤ share-most)
-        × (length (now whole) ≡ max-rows) × (length (now part) ≡ max-rows) ⌝ }
-    ensures { λ _. ⌜ (length (now (whole .exit)) ≡ max-rows) × (length (now (part .exit)) ≡ max-rows)
-        × (on ≡ true → (i : ℕ) → i < size .rows → (at (now (whole .exit)) i ≡ at (now (rate .entry)) i * slots / size .hyper)
-        × (at (now (part .exit)) i ≡ at (now (rate .entry)) i * slots % size .hyper)) ⌝ }
-{
-    if on {
-        part_shares(rate, slots, size, inverse, whole, part);
-    }
 }
 
 // ---- the rings
@@ -167,8 +104,8 @@ pub fn round_rows<'a>(
     upper: u64,
     tail: &'a [u8; Table::ROWS],
     head: &'a [u8; Table::ROWS],
-    out: &'a [u64; PLACES],
-    into: &'a [u64; PLACES],
+    out: &'a [u64; NODES],
+    into: &'a [u64; NODES],
     size: Size,
     part: &'a [u32; Table::ROWS],
     parted: u64,
@@ -195,8 +132,8 @@ pub fn round_rows<'a>(
 pub fn give(
     top: u64,
     rows: usize,
-    whole: &[u64; Table::ROWS],
-    load: &mut [u64; Table::ROWS],
+    whole: &[u16; Table::ROWS],
+    load: &mut [u16; Table::ROWS],
     totals: &mut [u64; Table::ROWS],
 )
     requires { ⌜ (rows ≤ max-rows) × ((i : ℕ) → i < rows → (at (now totals) i ≤ at (now whole) i) × (at (now whole) i ≤ max-slots))
@@ -206,8 +143,8 @@ pub fn give(
 {
     let mut i: usize = 0;
     while i < rows {
-        let all = whole[i] + (top >> i) % 2;
-        load[i] = all - totals[i];
+        let all = table::slots_at(whole, i) + (top >> i) % 2;
+        load[i] = (all - totals[i]) as u16;
         totals[i] = all;
         i += 1;
     }

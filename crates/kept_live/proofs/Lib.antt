@@ -1,2 +1,3 @@
 pub mod Only
 pub mod Small
+pub mod Walks

@@ -7,7 +7,7 @@ use Rattle.live.specs.declared.Live.{Live}
 use Rattle.live.specs.declared.Changed.{Changed}
 use Rattle.live.specs.State.{liveOf}
 use Rattle.live.proofs.Only.{new-only, addition-only, removal-only}
-use Rattle.live_file.proofs.Only.{file-only}
+use Rattle.live.proofs.FileOnly.{file-only}
 use Rattle.kept_live.specs.InPlace.{Said, NewInPlace, AddInPlace, RemoveInPlace, FileToC}
 
 said-only : {x y : Changed} {q r : Live} {c d : ℕ} → x ≡ y → Said x q c → Said y r d → (q ≡ r) × (c ≡ d)

@@ -28,8 +28,7 @@ fn told(after: Changed) -> Kept
     }
 }
 
-// What was there is not looked at.
-fn made(was: Live, elements: usize) -> Kept
+fn made(elements: usize) -> Kept
     ensures { λ r. ⌜ NewInPlace elements (r .live) (r .code) ⌝ }
 {
     told(Live::new(elements))
@@ -54,12 +53,12 @@ fn removed(was: Live, place: usize) -> Kept
     told(Live::remove(was, place))
 }
 
-// A new live table of a ring of `elements`; nothing but zeros where it is refused.
+// A new live table of a ring of `elements`; nothing but zeros where it is refused. What was there is not looked at.
 #[no_mangle]
 pub extern "C" fn ring_live_new(live: &mut Live, elements: usize) -> u32
     ensures { λ r. ⌜ NewInPlace elements (now (live .exit)) r ⌝ }
 {
-    let after = made(*live, elements);
+    let after = made(elements);
     *live = after.live;
     after.code
 }
@@ -94,7 +93,7 @@ pub extern "C" fn ring_live_remove(live: &mut Live, place: usize) -> u32
 fn written(was: Live, version: u64, out: &mut [u8]) -> u32
     ensures { λ r. ⌜ FileToC was version (now (out .entry)) (now (out .exit)) r ⌝ }
 {
-    let answer = live_file::write_file(was, version, out);
+    let answer = live::write_file(was, version, out);
     256 * answer.number + answer.place
 }
 

@@ -15,13 +15,11 @@ use Rattle.rules.specs.Parties.{max-limit}
 use Rattle.rules.specs.Refusals.{Check, Answers, wrong-limit, given-checks, one-ring-checks, line-checks, limit-checks, bound-checks}
 use Rattle.rules.specs.Refusals.{limited-checks, verdict-checks}
 use Rattle.rules.proofs.Answers.{None, Numbered, applied, passed, stopped, none-of, none-join, none-left, none-right, numbered-join}
-use Rattle.table.specs.Columns.{columnTable, tableOf}
 use Rattle.table.specs.declared.Answer.{Answer}
-use Rattle.table.specs.declared.columns.Columns.{Columns}
 use Rattle.outline.specs.declared.Outline.{Outline}
 use Rattle.outline.specs.Outlined.{Outlined}
-use Rattle.limits.specs.Limits.{labelled}
-use Rattle.limits.proofs.Within.{limit-numbered}
+use Rattle.limited.specs.Limits.{labelled}
+use Rattle.limited.proofs.Within.{limit-numbered}
 use Rattle.outline.proofs.Outlined.{line-numbered}
 use Rattle.lags.specs.Lags.{Admissible}
 use Rattle.verdict.proofs.Bound.{bound-numbered, verdict-split, admissible-of}
@@ -62,13 +60,7 @@ module _ (t : Table) (label : List ℕ) (our their : ℕ) where
         (analysed-after (limit-checks l our their) (bound-checks t)
         (none-of (limit-checks l our their) (k .place) (limit-numbered l our their) (rw z at K)) A)
 
--- columns of a table with one ring
-pub one-ring-columns : (c : Columns) {t : Table} → c .rings ≡ 1 → tableOf c ≡ t
-    → columnTable (c .elements) (c .rows) 1 (c .cost) (c .period) (c .first) (c .second) (c .way) ≡ t
-one-ring-columns c e h =
-    ap (λ (r : ℕ). columnTable (c .elements) (c .rows) r (c .cost) (c .period) (c .first) (c .second) (c .way)) (sym e) ∙ h
-
--- the same of a table with labels that columns hold
+-- a table with labels that columns hold
 pub within-held : (t : Table) (label : List ℕ) (u : Labelled) (our their : ℕ) → t ≡ u .table → at label ≡ u .label → {a : Analysis}
     → Analysed (within-checks (labelled t label) our their) t a → Analysed (within-checks u our their) (u .table) a
 within-held t label u our their e g {a} A =

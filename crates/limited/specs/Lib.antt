@@ -1,2 +1,3 @@
 pub mod Limited
 pub mod Promises
+pub mod Limits

@@ -1,9 +1,12 @@
 // The verdict, a step and the whole plan with a limit for each of two parties (#108): 23 before all else, and 21 and 22 between the
 // outline's refusals and those of the bound. One ring alone is taken. Limits refuse, and choose nothing: the words are those without.
-use limits::Limits;
+mod limits;
+
+pub use limits::Limits;
 use planner::MovedOn;
 use planner::Planner;
 use table::Answer;
+use table::Columns;
 use table::Table;
 use verdict::Analysis;
 use verdict::Verdict;
@@ -16,8 +19,8 @@ ghost use Rattle.rules.specs.TableFile.{fileTable};
 ghost use Rattle.rules.specs.Refusals.{limited-checks};
 ghost use Rattle.rules.specs.Calls.{limitedAsk, Judged};
 ghost use Rattle.table.specs.Sound.{Sound};
-ghost use Rattle.table.specs.Columns.{columnTable};
-ghost use Rattle.limits.specs.Limits.{labelled};
+ghost use Rattle.table.specs.Columns.{tableOf};
+ghost use Rattle.limited.specs.Limits.{labelled};
 ghost use Rattle.verdict.specs.Analysed.{blank, Analysed};
 ghost use Rattle.verdict.specs.Verdict.{numberOf, placeOf, cutOf, otherOf, intervalOf, hyperOf, loadOf, setsOf};
 ghost use Rattle.planner.specs.Answers.{StepAnswer, PlanAnswer};
@@ -26,38 +29,36 @@ ghost use Rattle.limited.specs.Limited.{within-checks};
 // ---- the analysis and the verdict
 
 // The analysis of a table with labels and one ring: 10 and 11, then 21 and 22, then 13 and 14.
-fn analysis_within<'a>(
-    elements: usize,
-    rows: usize,
-    cost: &'a [u16; Table::ROWS],
-    period: &'a [u16; Table::ROWS],
-    first: &'a [u8; Table::ROWS],
-    second: &'a [u8; Table::ROWS],
-    way: &'a [u8; Table::ROWS],
-    label: &'a [u16; Table::ROWS],
-    limits: Limits,
-) -> Analysis
-    requires { ⌜ Sound (columnTable elements rows 1 (now cost) (now period) (now first) (now second) (now way))
-        × (limits .ours ≤ max-limit) × (limits .theirs ≤ max-limit) ⌝ }
-    ensures { λ r. ⌜ Analysed
-        (within-checks
-        (labelled
-        (columnTable elements rows 1 (now (cost .entry)) (now (period .entry)) (now (first .entry)) (now (second .entry))
-        (now (way .entry)))
-        (now (label .entry)))
-        (limits .ours) (limits .theirs))
-        (columnTable elements rows 1 (now (cost .entry)) (now (period .entry)) (now (first .entry)) (now (second .entry))
-        (now (way .entry))) r ⌝ }
+fn analysis_within(columns: Columns, label: &[u16; Table::ROWS], limits: Limits) -> Analysis
+    requires { ⌜ Sound (tableOf columns) × (columns .rings ≡ 1) × (limits .ours ≤ max-limit) × (limits .theirs ≤ max-limit) ⌝ }
+    ensures { λ r. ⌜ Analysed (within-checks (labelled (tableOf columns) (now (label .entry))) (limits .ours) (limits .theirs))
+        (tableOf columns) r ⌝ }
 {
-    let outline = outline::outline_of(elements, rows, 1, period, first, second, way);
+    let elements = columns.elements;
+    let rows = columns.rows;
+    let outline = outline::outline_of(
+        elements,
+        rows,
+        columns.rings,
+        &columns.period,
+        &columns.first,
+        &columns.second,
+        &columns.way,
+    );
     let answer = outline.answer;
     if answer.number != Answer::DONE {
         return Analysis::refused(answer);
     }
     let hyper = outline.time.hyper;
     let mut rate = [0u16; Table::ROWS];
-    weights::put_rates(rows, hyper, cost, period, &mut rate);
-    let segments = ring::lay_segments(elements, rows, first, second, way);
+    verdict::put_rates(rows, hyper, &columns.cost, &columns.period, &mut rate);
+    let segments = ring::lay_segments(
+        elements,
+        rows,
+        &columns.first,
+        &columns.second,
+        &columns.way,
+    );
     let kept = limits::kept_within(elements, rows, hyper, &rate, &segments, label, limits);
     if kept.number != Answer::DONE {
         return Analysis::refused(kept);
@@ -66,8 +67,8 @@ fn analysis_within<'a>(
         rows,
         outline.top,
         outline.time,
-        cost,
-        period,
+        &columns.cost,
+        &columns.period,
         &outline.first,
         &outline.second,
         &rate,
@@ -102,17 +103,8 @@ pub fn analyse(file: &[u8], limits: Limits) -> Analysis
     if answer.number != Answer::DONE {
         return Analysis::refused(answer);
     }
-    analysis_within(
-        found.columns.elements,
-        found.columns.rows,
-        &found.columns.cost,
-        &found.columns.period,
-        &found.columns.first,
-        &found.columns.second,
-        &found.columns.way,
-        &found.labels,
-        limits,
-    )
+    let columns = found.columns;
+    analysis_within(columns, &found.labels, limits)
 }
 
 // Whether the bus can carry the table of a file within limits.

@@ -2,7 +2,7 @@
 --
 --   Checked l k least  the first k entries of list l pass check 31, and leave ranks from `least` on to those after them
 use mathlib.Core.Path.{_≡_, refl}
-use mathlib.Core.Logic.{inl, inr, ⊎-elim, _⊎_}
+use mathlib.Core.Logic.{inl, inr, ⊎-elim, _⊎_, _≢_}
 use mathlib.Core.List.{[], _∷_}
 use Prim.Native.Nat.{ℕ, zero, suc, _+_, _-_, _*_, _≤_, _<_}
 use native.Mathlib.Omega.{arith}
@@ -11,7 +11,7 @@ use Rattle.numbers.proofs.Truth.{le-or-lt}
 use Rattle.rules.specs.ElementList.{Entry, ElementList, Rises}
 use Rattle.rules.specs.Refusals.{Answers, wrong-entry}
 use Rattle.rules.proofs.Answers.{single-none, single-stopped, answered}
-use Rattle.lists.specs.Entries.{rank, Wrong, IsEntry, entryOf}
+use Rattle.lists.specs.Entries.{rank, Wrong, Leaves, FirstWrong, IsEntry, entryOf}
 use Rattle.lists.specs.declared.Entry.{Entry as Place}
 
 pub record Checked (l : ElementList) (k least : ℕ) : Type 0 where
@@ -93,21 +93,32 @@ checked-all l n h (suc k) m =
 pub entries-few : (l : ElementList) (n : ℕ) → ((k : ℕ) → k < n → wrong-entry l k .applies → ⊥) → n ≤ 2 * l .hyper
 entries-few l n h = let C = checked-all l n h n (omega arith) .1 in omega (arith, C .few, C .within)
 
--- ---- the answer, from what the code reads of entry k
+-- ---- the first wrong one, from what the code reads of entry k and what this leaves
 
-module _ {l : ElementList} {k least : ℕ} {r : Place} (q : IsEntry (l .entry k) r) (C : Checked l k least) where
-  pub read-next : (Wrong (l .hyper) least (entryOf r) → ⊥) → Checked l (k + 1) (rank (entryOf r) + 1)
-  read-next f = rw (q .slot, q .way) (checked-next C (rw (q .slot, q .row, q .way) at f))
+module _ {l : ElementList} {k least m : ℕ} {x : Place} (q : IsEntry (l .entry k) x) (L : Leaves (l .hyper) least (entryOf x) m)
+    (C : Checked l k least) where
+  same : Wrong (l .hyper) least (entryOf x) → Wrong (l .hyper) least (l .entry k)
+  same w = rw (q .slot, q .row, q .way) at w
 
-  -- it refuses
-  pub read-stop : (n m p : ℕ) → k < n → Wrong (l .hyper) least (entryOf r) → (m ≡ 31) × (p ≡ k)
-      → Answers (each n (λ k. wrong-entry l k ∷ [])) m p
-  read-stop n m p h w e =
-      rw (e .0, e .1) (single-stopped (wrong-entry l) n k h (λ z. let y : ⊥ = omega arith in y) (C .clean)
-      (is-wrong C (rw (q .slot, q .row, q .way) at w)))
+  pub read-next : m ≢ 0 → Checked l (k + 1) m
+  read-next n = rw (L .next n, q .slot, q .way) (checked-next C (rw (q .slot, q .row, q .way) at (L .right n)))
 
--- none refuses
-pub checked-end : {l : ElementList} {k least : ℕ} (n m p : ℕ) → Checked l k least → k ≡ n → (m ≡ 0) × (p ≡ 0)
-    → Answers (each n (λ k. wrong-entry l k ∷ [])) m p
-checked-end {l} n m p C q e =
-    rw (e .0, e .1, ← q) (answered (each _ (λ k. wrong-entry l k ∷ [])) (single-none (wrong-entry l) _ (C .clean)))
+  pub read-stop : (n : ℕ) → k < n → m ≡ 0 → FirstWrong l n k
+  read-stop n h z = record { most = omega arith; clean = C .clean; wrong = λ y. is-wrong C (same (L .wrong z)) }
+
+pub checked-end : {l : ElementList} {k least : ℕ} (n : ℕ) → Checked l k least → k ≡ n → FirstWrong l n k
+checked-end n C q = record { most = omega arith; clean = C .clean; wrong = λ y. absurd (let z : ⊥ = omega arith in z) }
+
+-- ---- check 31, by the first wrong one
+
+module _ {l : ElementList} {n k : ℕ} (F : FirstWrong l n k) where
+  pub first-few : k ≤ 2 * l .hyper
+  first-few = entries-few l k (F .clean)
+
+  pub first-stops : k < n → Answers (each n (λ k. wrong-entry l k ∷ [])) 31 k
+  first-stops h = single-stopped (wrong-entry l) n k h (λ z. let y : ⊥ = omega arith in y) (F .clean) (F .wrong h)
+
+  pub first-none : n ≤ k → Answers (each n (λ k. wrong-entry l k ∷ [])) 0 0
+  first-none h =
+      let none : (j : ℕ) → j < n → wrong-entry l j .applies → ⊥ = λ j i. F .clean j (omega arith) in
+      answered (each n (λ k. wrong-entry l k ∷ [])) (single-none (wrong-entry l) n none)

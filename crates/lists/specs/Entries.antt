@@ -5,6 +5,8 @@
 --   entryOf r          the entry that r is
 --   rank x             twice the slot and the way: entries in order have ascending ranks
 --   Wrong h least x    entry x can't stand in a list of h slots where the entries before it leave ranks from `least` on
+--   Leaves h least x r r is 0 where x is wrong so; else the ranks from r on are left to the entries after x
+--   FirstWrong l n r   r is the first of n entries of list l to which check 31 applies, and n where there is none
 --   Fit n g            rows and ways of n entries fit a byte
 --   head-checks f      1, 2, 3, 6 and 30 of a list file: all before its entries
 --   told e h g         a list of which the element, the hyperperiod and the entries are told
@@ -16,7 +18,7 @@ use lib.ListN.{length}
 use Rattle.rules.specs.Bounds.{max-rows}
 use Rattle.rules.specs.TableFile.{mark, version}
 use Rattle.rules.specs.ElementList.{Entry, ElementList, move, list-mark, list-version, listHeader, entrySize, fileList}
-use Rattle.rules.specs.Refusals.{Check, refuse, wrong-list}
+use Rattle.rules.specs.Refusals.{Check, refuse, wrong-list, wrong-entry}
 use Rattle.lists.specs.declared.Head.{Head}
 use Rattle.lists.specs.declared.Entry.{Entry as Place}
 
@@ -41,6 +43,16 @@ Wrong h least x = (h ≤ x .slot) ⊎ (max-rows ≤ x .row) ⊎ (1 < x .way) ⊎
 
 abbrev pub told : (element hyper : ℕ) → (ℕ → Entry) → ElementList
 told element hyper g = record { element = element; hyper = hyper; entries = 0; entry = g }
+
+pub record Leaves (h least : ℕ) (x : Entry) (r : ℕ) : Type 0 where
+  pub wrong : r ≡ 0 → Wrong h least x
+  pub right : r ≢ 0 → Wrong h least x → ⊥
+  pub next : r ≢ 0 → r ≡ rank x + 1
+
+pub record FirstWrong (l : ElementList) (n r : ℕ) : Type 0 where
+  pub most : r ≤ n
+  pub clean : (k : ℕ) → k < r → wrong-entry l k .applies → ⊥
+  pub wrong : r < n → wrong-entry l r .applies
 
 pub record Fit (n : ℕ) (g : ℕ → Entry) : Type 0 where
   pub row : (k : ℕ) → k < n → g k .row < 256

@@ -1,6 +1,7 @@
 // Lists of the moves of one element (#101): their reader, from a list file to numbers in memory, and their writer.
 use table::Answer;
 use table::Table;
+use table::put16;
 use table::read16;
 ghost use mathlib.Core.Path.{_≡_};
 ghost use mathlib.Core.List.{[], _∷_, _++_};
@@ -12,6 +13,7 @@ ghost use Rattle.numbers.specs.Lists.{each};
 ghost use Rattle.rules.specs.Bounds.{max-slots};
 ghost use Rattle.rules.specs.TableFile.{mark};
 ghost use Rattle.rules.specs.ElementList.{
+  ElementList,
   move,
   list-mark,
   listHeader,
@@ -26,7 +28,7 @@ ghost use Rattle.rules.specs.ElementList.{
 };
 ghost use Rattle.rules.specs.Refusals.{Answers, wrong-list, wrong-entry, list-file-checks, list-memory-checks};
 ghost use Rattle.rules.specs.Calls.{lent, ListRead, ListWritten};
-ghost use Rattle.lists.specs.Entries.{IsHead, IsEntry, entryOf, Wrong, Fit, told, head-checks};
+ghost use Rattle.lists.specs.Entries.{IsHead, IsEntry, entryOf, Leaves, FirstWrong, Fit, told, head-checks};
 
 // What stands before the entries: the element, the hyperperiod, and how many entries follow.
 pub struct Head {
@@ -44,8 +46,8 @@ impl Head {
     pub const ENTRY_NUMBERS: usize = 3;
     // a list has at most two entries a slot
     pub const ENTRIES: usize = 2 * Table::SLOTS;
-    // the mark, and where the version, the element and the hyperperiod stand
-    pub const MARK: [u8; 3] = [b'R', b'B', b'E'];
+    // the mark's last byte, and where the version, the element and the hyperperiod stand
+    pub const MARK: u8 = b'E';
 
     pub const VERSION: u16 = 1;
 
@@ -136,8 +138,7 @@ pub fn put_bytes(entry: Entry, at: usize, out: &mut [u8])
     requires { ⌜ (at + entrySize ≤ length (now out)) × (entry .row < 256) × (entry .way < 256) ⌝ }
     ensures { λ _. ⌜ now (out .exit) ≡ sets (now (out .entry)) at (inFile (entryOf entry)) ⌝ }
 {
-    out[at] = (entry.slot % 256) as u8;
-    out[at + 1] = (entry.slot / 256) as u8;
+    put16(entry.slot, at, out);
     out[at + 2] = entry.row as u8;
     out[at + 3] = entry.way as u8;
 }
@@ -147,14 +148,9 @@ pub fn put_head(element: u8, hyper: u16, out: &mut [u8])
     requires { ⌜ listHeader ≤ length (now out) ⌝ }
     ensures { λ _. ⌜ now (out .exit) ≡ sets (now (out .entry)) 0 (fileHead element hyper) ⌝ }
 {
-    out[0] = Head::MARK[0];
-    out[1] = Head::MARK[1];
-    out[2] = Head::MARK[2];
-    out[Head::VERSION_AT] = (Head::VERSION % 256) as u8;
-    out[Head::VERSION_AT + 1] = (Head::VERSION / 256) as u8;
+    table::put_start(Head::MARK, Head::VERSION, out);
     out[Head::ELEMENT_AT] = element;
-    out[Head::HYPER_AT] = (hyper % 256) as u8;
-    out[Head::HYPER_AT + 1] = (hyper / 256) as u8;
+    put16(hyper, Head::HYPER_AT, out);
 }
 
 // ---- checks
@@ -181,69 +177,74 @@ fn bounds_fault(element: u64, hyper: u64) -> u32
     Answer::DONE
 }
 
-// Whether check 31 applies to an entry, where those before it leave twice the slot and the way from `least` on.
-fn is_wrong(hyper: u64, least: u64, entry: Entry) -> bool
-    ensures { λ r. ⌜ Decides (Wrong hyper least (entryOf entry)) r ⌝ }
+// What an entry leaves to those after it: twice its slot and its way, and 1, from which on theirs stand. 0 where check 31 applies to the
+// entry itself, to which those before it leave what stands from `least` on.
+fn least_after(hyper: u64, least: u64, entry: Entry) -> u64
+    ensures { λ r. ⌜ Leaves hyper least (entryOf entry) r ⌝ }
 {
     if wide(entry.slot) >= hyper {
-        return true;
+        return 0;
     }
     if entry.row as usize >= Table::ROWS {
-        return true;
+        return 0;
     }
     if entry.way > Entry::SEND {
-        return true;
+        return 0;
     }
-    2 * wide(entry.slot) + wide(entry.way) < least
+    let rank = 2 * wide(entry.slot) + wide(entry.way);
+    if rank < least {
+        return 0;
+    }
+    rank + 1
 }
 
-// Check 31 of the entries of a list file that holds them.
-fn check_entries_in(file: &[u8], hyper: u64, entries: usize) -> Answer
-    requires { ⌜ (listHeader + entrySize * entries ≤ length (now file)) × (hyper ≤ max-slots) ⌝ }
-    ensures { λ r. ⌜ Answers (each entries (λ k. wrong-entry (told 0 hyper (fileEntry (now (file .entry)))) k ∷ []))
-        (r .number) (r .place) ⌝ }
+// The first entry of a list file to which check 31 applies, of `entries` that it holds; `entries` where there is none.
+fn first_wrong_in(file: &[u8], hyper: u64, entries: usize) -> usize
+    requires { ⌜ listHeader + entrySize * entries ≤ length (now file) ⌝ }
+    ensures { λ r. ⌜ FirstWrong (told 0 hyper (fileEntry (now (file .entry)))) entries r ⌝ }
 {
     let mut least: u64 = 0;
     let mut k: usize = 0;
     while k < entries {
-        let entry = entry_in(file, k);
-        if is_wrong(hyper, least, entry) {
-            return wrong_entry(k);
+        least = least_after(hyper, least, entry_in(file, k));
+        if least == 0 {
+            return k;
         }
-        least = 2 * wide(entry.slot) + wide(entry.way) + 1;
         k += 1;
     }
-    Answer::done()
+    k
 }
 
 // The same of a slice of numbers.
-fn check_entries_of(numbers: &[u16], hyper: u64, entries: usize) -> Answer
-    requires { ⌜ (entryNumbers * entries ≤ length (now numbers)) × (hyper ≤ max-slots) ⌝ }
-    ensures { λ r. ⌜ Answers (each entries (λ k. wrong-entry (told 0 hyper (memoryEntry (now (numbers .entry)))) k ∷ []))
-        (r .number) (r .place) ⌝ }
+fn first_wrong_of(numbers: &[u16], hyper: u64, entries: usize) -> usize
+    requires { ⌜ entryNumbers * entries ≤ length (now numbers) ⌝ }
+    ensures { λ r. ⌜ FirstWrong (told 0 hyper (memoryEntry (now (numbers .entry)))) entries r ⌝ }
 {
     let mut least: u64 = 0;
     let mut k: usize = 0;
     while k < entries {
-        let entry = entry_of(numbers, k);
-        if is_wrong(hyper, least, entry) {
-            return wrong_entry(k);
+        least = least_after(hyper, least, entry_of(numbers, k));
+        if least == 0 {
+            return k;
         }
-        least = 2 * wide(entry.slot) + wide(entry.way) + 1;
         k += 1;
     }
-    Answer::done()
+    k
 }
 
-// A refusal for entry `k`. The first wrong one can stand past all that a list has room for.
-fn wrong_entry(k: usize) -> Answer
-    requires { ⌜ k ≤ 2 * max-slots ⌝ }
-    ensures { λ r. ⌜ (r .number ≡ 31) × (r .place ≡ k) ⌝ }
+// Check 31, from the first entry of `entries` to which it applies. That one can stand past all that a list has room for.
+fn check_entries(first: usize, entries: usize) -> Answer
+    requires { ⌜ first ≤ 2 * max-slots ⌝ }
+    ensures { λ r. ⌜ ((l : ElementList) → FirstWrong l entries first
+        → Answers (each entries (λ k. wrong-entry l k ∷ [])) (r .number) (r .place)) ⌝ }
 {
-    Answer {
-        number: Answer::WRONG_ENTRY,
-        place: k as u32,
+    if first < entries {
+        return Answer {
+            number: Answer::WRONG_ENTRY,
+            place: first as u32,
+        };
     }
+    Answer::done()
 }
 
 // Checks 1, 2, 3, 6 and 30 of a list file.
@@ -253,7 +254,7 @@ fn head_fault(file: &[u8]) -> u32
     if file.len() < Head::BYTES {
         return Answer::SHORT_FILE;
     }
-    if !table::begins(file, Head::MARK[2]) {
+    if !table::begins(file, Head::MARK) {
         return Answer::WRONG_MARK;
     }
     if read16(file, Head::VERSION_AT) != Head::VERSION {
@@ -275,7 +276,10 @@ fn check_file(file: &[u8]) -> Answer
         return Answer::at(number, 0);
     }
     let head = Head::of(file);
-    check_entries_in(file, head.hyper as u64, head.entries)
+    check_entries(
+        first_wrong_in(file, head.hyper as u64, head.entries),
+        head.entries,
+    )
 }
 
 // Checks 6, 30 and 31 of a slice of numbers.
@@ -289,7 +293,8 @@ fn check_numbers(element: u64, hyper: u64, numbers: &[u16]) -> Answer
     if number != Answer::DONE {
         return Answer::at(number, 0);
     }
-    check_entries_of(numbers, hyper, numbers.len() / Head::ENTRY_NUMBERS)
+    let entries = numbers.len() / Head::ENTRY_NUMBERS;
+    check_entries(first_wrong_of(numbers, hyper, entries), entries)
 }
 
 // ---- the reader

@@ -22,7 +22,7 @@ use Rattle.rules.proofs.Answers.{None, Numbered, none-of, answered}
 use Rattle.rules.proofs.Calls.{call-none}
 use Rattle.table.specs.Sound.{SoundRow}
 use Rattle.table.proofs.Faults.{faults-numbered, row-sound, row-none}
-use Rattle.tally.proofs.Tally.{one-positive}
+use Rattle.live.proofs.Sums.{one-positive}
 use Rattle.live.specs.Promises.{Stays-in-order, Sums-afresh}
 
 -- ---- one number of a column changed

@@ -3,3 +3,8 @@ pub mod Kept
 pub mod Order
 pub mod Answering
 pub mod Only
+pub mod Sums
+pub mod Seated
+pub mod Present
+pub mod FileOnly
+pub mod Given

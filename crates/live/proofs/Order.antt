@@ -13,8 +13,8 @@ use Rattle.rules.specs.Live as rules
 use Rattle.rules.specs.Live.{Blank, Seated, InOrder, common, commonOf, sumOver}
 use Rattle.time.specs.Time.{Capped}
 use Rattle.time.proofs.Periods.{capped-some, capped-none}
-use Rattle.tally.specs.Tally.{columnLive}
-use Rattle.tally.proofs.Tally.{one-positive}
+use Rattle.live.specs.Tally.{columnLive}
+use Rattle.live.proofs.Sums.{one-positive}
 use Rattle.live.specs.declared.Live.{Live}
 use Rattle.live.specs.State.{liveOf}
 

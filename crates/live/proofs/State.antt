@@ -16,10 +16,10 @@ use Rattle.rules.specs.Bus.{Table, clockwise}
 use Rattle.rules.specs.Refusals.{Answers, faults}
 use Rattle.rules.specs.Live.{Blank, Seated, places, vacant, but, common, commonOf, sumOver, placed, put}
 use Rattle.time.specs.Time.{Capped}
-use Rattle.tally.specs.Tally.{columnPlaces, Passing}
+use Rattle.live.specs.Tally.{columnPlaces, Passing}
 use Rattle.live.specs.declared.Live.{Live}
 use Rattle.live.specs.declared.Entry.{Entry}
-use Rattle.seats.specs.Seats.{Zeros}
+use Rattle.live.specs.Seats.{Zeros}
 use Rattle.live.specs.State.{liveOf, entryOf, rowOf, blank, NewSeat, PutIn}
 use Rattle.live.specs.Answers.{Sized}
 use Rattle.live.proofs.Kept.{but-same, but-other, passed, put-place}

@@ -19,7 +19,7 @@ use Rattle.table.specs.declared.Row.{Row}
 use Rattle.table.specs.Rows.{single}
 use Rattle.table.specs.Sound.{SoundRow}
 use Rattle.time.specs.Time.{Capped}
-use Rattle.seats.specs.Seats.{Zeros}
+use Rattle.live.specs.Seats.{Zeros}
 use Rattle.live.specs.declared.Live.{Live}
 use Rattle.live.specs.declared.Entry.{Entry}
 use Rattle.live.specs.declared.Changed.{Changed}

@@ -3,6 +3,11 @@
 //
 // Every call first looks whether the live table that it is handed keeps the rules, which works denominator and sums out afresh. So a change
 // works them out afresh too, by the same functions, and nothing is carried along that could drift.
+mod files;
+mod seats;
+mod tally;
+
+pub use files::write_file;
 use table::Answer;
 use table::Row;
 use table::Table;

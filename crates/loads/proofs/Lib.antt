@@ -5,3 +5,8 @@ pub mod Comparing
 pub mod Over
 pub mod Turning
 pub mod States
+pub mod Network
+pub mod Closed
+pub mod Raising
+pub mod Words
+pub mod Ways

@@ -9,7 +9,7 @@ use lib.Dec.{leb}
 use borrow.Author.Tests.{le-leb, lt-leb}
 use Rattle.numbers.specs.Finite.{sum, sumIn, only}
 use Rattle.numbers.proofs.Finite.{only-true, only-false, only-zero, only-comm, sum-eq, sum-add, sum-split, sum-but, eq-additive, sumIn-add}
-use Rattle.flow.specs.Network.{Net, Circulation}
+use Rattle.loads.specs.Network.{Net, Circulation}
 use Rattle.loads.specs.Loads.{covers, inSet}
 use Rattle.loads.specs.Line.{Lines}
 
@@ -153,7 +153,7 @@ module _ (n K : ℕ) (a b : ℕ → ℕ) (G : Net) (x : ℕ → ℕ) (e : G .arc
         sum-eq K (λ k. only (r k) (x (n + k))) (λ k. only (r k) (S k)) (λ k l. ap (only (r k)) (h k l)),
       )
 
-  -- by the places up to k
+  -- by the nodes up to k
   pub sums-of-circ : Circulation G x → (k : ℕ) → k < K → x (n + k) ≡ sumIn n (inSet a b k) x
   sums-of-circ c k l =
       let r : ℕ → Bool = λ v. leb v k in

@@ -1,8 +1,8 @@
--- The rows over a set, as an exclusive or of those that start and end at the places before it has them.
+-- The rows over a set, as an exclusive or of those that start and end at the nodes before it has them.
 --
---   over-next    one place more
---   over-is      the rows that start before a place and don't end before it
---   over-set     past the place of a set they are the set's rows
+--   over-next    one node more
+--   over-is      the rows that start before a node and don't end before it
+--   over-set     past the node of a set they are the set's rows
 use mathlib.Core.Path.{_≡_, refl, sym, ap, ap₂, _∙_}
 use mathlib.Core.Bool.{Bool, true, false, not, _&&_, cond}
 use mathlib.Core.List.{List}
@@ -15,16 +15,16 @@ use borrow.Author.Tests.{eq-eqb, ne-eqb, lt-ltb, le-ltb, le-leb, lt-leb}
 use Rattle.numbers.specs.Lists.{at}
 use Rattle.numbers.specs.Word.{bit}
 use Rattle.numbers.proofs.Word.{bit-zero}
-use Rattle.flow.proofs.Words.{bit-xor}
+use Rattle.loads.proofs.Words.{bit-xor}
 use Rattle.loads.specs.Loads.{inSet, last}
 use Rattle.loads.specs.State.{over, Ends}
 
--- one place more
+-- one node more
 pub over-next : (out into : ℕ → ℕ) (k w : ℕ) → w ≡ over out into k → bitXor (bitXor w (out k)) (into k) ≡ over out into (suc k)
 unfolding over
 over-next out into k w e = ap (λ (v : ℕ). bitXor (bitXor v (out k)) (into k)) e
 
--- a row from place a to place h, seen from place k
+-- a row from node a to node h, seen from node k
 abbrev lies : (a h k : ℕ) → Bool
 lies a h k = ltb a k && leb k h
 
@@ -32,7 +32,7 @@ abbrev toggled : Bool → Bool → Bool
 toggled on p = cond on (not p) p
 
 module _ (a h k : ℕ) (l : a < h) where
-  -- what the next place sees
+  -- what the next node sees
   abbrev Next : Type 0
   Next = toggled (eqb h k) (toggled (eqb a k) (lies a h k)) ≡ lies a h (suc k)
 

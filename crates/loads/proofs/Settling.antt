@@ -13,10 +13,10 @@ use Rattle.numbers.specs.Rounding.{down}
 use Rattle.numbers.specs.Word.{bit}
 use Rattle.numbers.proofs.Finite.{sumIn-eq, only-true, only-false}
 use Rattle.numbers.proofs.Rounding.{down-under, down-greatest, up-over, up-least, rounded-between, between-rounded}
-use Rattle.flow.specs.Network.{Circulation, Within}
-use Rattle.flow.specs.Raised.{Settled}
-use Rattle.flow.specs.Way.{Toggled, Takes}
-use Rattle.flow.proofs.Words.{bit-xor}
+use Rattle.loads.specs.Network.{Circulation, Within}
+use Rattle.loads.specs.Raised.{Settled}
+use Rattle.loads.specs.Way.{Toggled, Takes}
+use Rattle.loads.proofs.Words.{bit-xor}
 use Rattle.rules.specs.Interval.{Greatest}
 use Rattle.loads.specs.Loads.{inSet, digit, none, Spans, Parts, Qualified}
 use Rattle.loads.specs.Line.{carried, line, Lines}

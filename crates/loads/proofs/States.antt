@@ -15,8 +15,8 @@ use Rattle.numbers.specs.Word.{bit}
 use Rattle.numbers.proofs.Finite.{sum-eq, sumIn-most}
 use Rattle.numbers.proofs.Word.{bit-zero}
 use Rattle.rules.specs.Bounds.{max-slots}
-use Rattle.flow.specs.Raised.{Raised, Settled}
-use Rattle.flow.proofs.Raising.{settle-next}
+use Rattle.loads.specs.Raised.{Raised, Settled}
+use Rattle.loads.proofs.Raising.{settle-next}
 use Rattle.loads.specs.Loads.{inSet, last, digit, part-most}
 use Rattle.loads.specs.Line.{carried, line}
 use Rattle.loads.specs.State.{Compared, over, Ends, Asked, State, Mended}
@@ -27,7 +27,7 @@ use Rattle.loads.proofs.Comparing.{ones-sum, compared-eq}
 use Rattle.loads.proofs.Over.{over-set}
 use Rattle.loads.proofs.Turning.{low-no}
 
--- a row ends at the place after its last set
+-- a row ends at the node after its last set
 pub heads-are : {n K : ℕ} {tail head out into : List ℕ} → Ends n K tail head out into → (i : ℕ) → i < n → at head i ≡ suc (last head i)
 heads-are E i l = let z = E .heads i l in omega arith
 
@@ -50,7 +50,8 @@ module _ {n K h : ℕ} {tail head out into sums : List ℕ} {f : ℕ → ℕ} (A
   pub state-of : (s : Sides) (parted top : ℕ) → ((i : ℕ) → i < n → bit parted i ≡ ltb 0 (f i))
       → ((e : ℕ) → e < n + K → carried n (at tail) (last head) (digit top) e ≤ line n K (at tail) (last head) h f .high e)
       → s .parted ≡ parted → s .top ≡ top
-      → Compared K h (λ k. ones (bitAnd top (over (at out) (at into) (suc k)))) (at sums) (s .more) (s .less) (s .low) → State n K h tail head f s
+      → Compared K h (λ k. ones (bitAnd top (over (at out) (at into) (suc k)))) (at sums) (s .more) (s .less) (s .low)
+      → State n K h tail head f s
   state-of s parted top p u e d c = record {
     parted-is = rw e p;
     upper = rw d u;

@@ -14,14 +14,14 @@ use Rattle.numbers.specs.Word.{bit}
 use Rattle.numbers.proofs.Finite.{sum-one}
 use Rattle.numbers.proofs.Rounding.{down-up}
 use Rattle.numbers.proofs.Word.{bit-and}
-use Rattle.flow.specs.declared.Arcs.{Arcs}
-use Rattle.flow.specs.Network.{Net, Circulation, Within, Put}
-use Rattle.flow.specs.Raised.{Raised}
-use Rattle.flow.specs.Way.{Way, Toggled, With, Narrow, Takes, Shown, Sought}
-use Rattle.flow.proofs.Network.{put, put-is}
-use Rattle.flow.proofs.Raising.{best-full}
-use Rattle.flow.proofs.Words.{and-both, bit-xor, bit-first}
-use Rattle.flow.proofs.Ways.{way-kept, way-within, way-circ, way-pushed, shut-best, shut-enough, toggled-next}
+use Rattle.loads.specs.declared.flow.Arcs.{Arcs}
+use Rattle.loads.specs.Network.{Net, Circulation, Within, Put}
+use Rattle.loads.specs.Raised.{Raised}
+use Rattle.loads.specs.Way.{Way, Toggled, With, Narrow, Takes, Shown, Sought}
+use Rattle.loads.proofs.Network.{put, put-is}
+use Rattle.loads.proofs.Raising.{best-full}
+use Rattle.loads.proofs.Words.{and-both, bit-xor, bit-first}
+use Rattle.loads.proofs.Ways.{way-kept, way-within, way-circ, way-pushed, shut-best, shut-enough, toggled-next}
 use Rattle.loads.specs.Loads.{inSet, digit, Spans, Parts}
 use Rattle.loads.specs.Line.{carried, line}
 use Rattle.loads.specs.State.{Compared}
@@ -59,15 +59,15 @@ module _ {K h : ℕ} {C F : ℕ → ℕ} {more less low : ℕ} (S : Compared K h
       let z : F k < h * C k + h = leb-false _ _ (second-false _ _ (lt-ltb k K l) (sym (S .low-is k) ∙ e)) in
       omega arith
 
-  more-place : (v : ℕ) → bit more v ≡ true → (0 < v) × (v ≤ K)
-  more-place v e = go v e
+  more-node : (v : ℕ) → bit more v ≡ true → (0 < v) × (v ≤ K)
+  more-node v e = go v e
     where
       go : (v : ℕ) → bit more v ≡ true → (0 < v) × (v ≤ K)
       go zero e = absurd (true≢false (sym e ∙ S .first))
       go (suc k) e = (omega arith, omega (arith, more-yes k e .0))
 
   pub narrow-of : (up down : ℕ) → Narrow K (record { up = up; down = down; more = more; less = less })
-  narrow-of up down = record { more = more-place; less = λ v e. less-yes v e .0 }
+  narrow-of up down = record { more = more-node; less = λ v e. less-yes v e .0 }
 
 -- ---- the network, shown by words
 
@@ -148,7 +148,7 @@ module _ (n K h : ℕ) (a b hd f : ℕ → ℕ) (heads : (i : ℕ) → i < n →
         where
           go : (v : ℕ) → bit (mending .more) v ≡ true → Dec (v ≡ q + 1) → (0 < v) × (v ≤ K)
           go v e (yes z) = absurd (true≢false (sym e ∙ ap (bit (mending .more)) z ∙ more-own))
-          go v e (no z) = more-place cmp v (sym (more-other v z) ∙ e)
+          go v e (no z) = more-node cmp v (sym (more-other v z) ∙ e)
 
       other-on : (e : ℕ) → e ≢ n + q → others e ≡ true
       other-on e ne = ap not (ne-eqb e (n + q) ne)

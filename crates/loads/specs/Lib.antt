@@ -1,3 +1,6 @@
 pub mod Loads
 pub mod Line
 pub mod State
+pub mod Network
+pub mod Raised
+pub mod Way

@@ -1,5 +1,5 @@
--- Rows and sets as a network. The places are those between the sets: row i is an arc from place a i to the place after b i, and set k an
--- arc back from place k + 1 to place k, which carries the set's sum.
+-- Rows and sets as a network. The nodes are those between the sets: row i is an arc from node a i to the node after b i, and set k an
+-- arc back from node k + 1 to node k, which carries the set's sum.
 --
 --   join n f g          f below n, and g from n on
 --   carried n a b g     rows carry g, and the sets their sums
@@ -11,7 +11,7 @@ use Prim.Native.Nat.{ℕ, suc, _+_, _-_, _<_}
 use lib.Dec.{ltb}
 use Rattle.numbers.specs.Finite.{sumIn}
 use Rattle.numbers.specs.Rounding.{down, up}
-use Rattle.flow.specs.Network.{Net}
+use Rattle.loads.specs.Network.{Net}
 use Rattle.loads.specs.Loads.{inSet}
 
 unfoldable pub join : ℕ → (f g : ℕ → ℕ) → ℕ → ℕ

@@ -2,7 +2,7 @@
 --
 --   covers a b k            a row of the sets a, .., b belongs to set k
 --   inSet a b k             the rows of set k
---   last head i             the last set of a row that ends at place head i, which is after it
+--   last head i             the last set of a row that ends at node head i, which is after it
 --   digit w i               1 where row i is in the word w, else 0
 --   among w f               f of the rows in the word w, 0 of the others
 --   none                    no slots were had

@@ -1,9 +1,9 @@
 -- Loads that are being settled.
 --
 --   Compared K h C F more less low   of K sets, with C rows rounded up and parts that sum to F: those that can take one more (by the
---                                    place after them), those that can do with one less, and those that are too low, as words
---   over out into k                  the rows that start before place k and don't end before it: at place k + 1 those of set k
---   Ends n K tail head out into      the rows' ends, and the rows that start and end at each place
+--                                    node after them), those that can do with one less, and those that are too low, as words
+--   over out into k                  the rows that start before node k and don't end before it: at node k + 1 those of set k
+--   Ends n K tail head out into      the rows' ends, and the rows that start and end at each node
 --   Asked                            all that is given: the rows' ends, the parts f, and the sets' sums of them
 --   State n K h tail head f s        no row and no set is above its part rounded up, and s says how they stand
 --   Mended                           no row and no set is below its part rounded down either
@@ -17,8 +17,8 @@ use lib.Dec.{ltb, leb}
 use Rattle.numbers.specs.Finite.{sumIn}
 use Rattle.numbers.specs.Lists.{at}
 use Rattle.numbers.specs.Word.{bit}
-use Rattle.flow.specs.Network.{Within}
-use Rattle.flow.specs.Way.{Wired}
+use Rattle.loads.specs.Network.{Within}
+use Rattle.loads.specs.Way.{Wired}
 use Rattle.loads.specs.Loads.{inSet, last, digit, Spans, Parts, Summed}
 use Rattle.loads.specs.Line.{carried, line}
 use Rattle.loads.specs.declared.Sides.{Sides}

@@ -4,12 +4,15 @@
 // total at an interval's end is its share there rounded down or up, and so is the sum of every set. Changed against it:
 // - The shares' whole slots are given in any case. What is chosen is which rows are rounded up, one word; it depends on the interval's end
 //   alone, by the parts of the shares above whole slots, in units of 1/h.
-// - Places lie between the sets; a row is an arc over the consecutive sets it belongs to, a set an arc back.
-// - Sets that are too low are mended by ways (crate flow). There is one as long as some set is too low, since the parts themselves are a
+// - Nodes lie between the sets; a row is an arc over the consecutive sets it belongs to, a set an arc back.
+// - Sets that are too low are mended by ways (`flow`). There is one as long as some set is too low, since the parts themselves are a
 //   circulation within the bounds, only not a whole one.
 // - Then each row in turn is rounded up where there is a way by the rows after it. So the loads are the greatest in the order of rows.
+mod flow;
+
 use flow::Arcs;
-use flow::PLACES;
+pub use flow::NODES;
+pub use flow::pick;
 use table::Table;
 ghost use mathlib.Core.Path.{_≡_};
 ghost use mathlib.Core.Bool.{_&&_, not};
@@ -22,7 +25,7 @@ ghost use Rattle.numbers.specs.Lists.{at};
 ghost use Rattle.numbers.specs.Word.{bit};
 ghost use Rattle.rules.specs.Bounds.{max-elements, max-slots};
 ghost use Rattle.rules.specs.Interval.{Greatest};
-ghost use Rattle.flow.specs.Raised.{Raised};
+ghost use Rattle.loads.specs.Raised.{Raised};
 ghost use Rattle.loads.specs.Loads.{part-most, digit, last, none, Qualified};
 ghost use Rattle.loads.specs.Line.{line, carried};
 ghost use Rattle.loads.specs.State.{Compared, over, Asked, State, Mended, Turn};
@@ -51,7 +54,7 @@ pub fn mark(w: u64, q: usize, on: bool) -> u64
     w
 }
 
-// The rows that are not whole and those that are rounded up; and of the sets, those that can take one more (by the place after them), those
+// The rows that are not whole and those that are rounded up; and of the sets, those that can take one more (by the node after them), those
 // that can do with one less, and those that are too low.
 pub struct Sides {
     pub parted: u64,
@@ -63,8 +66,8 @@ pub struct Sides {
 
 // Compares the sets' sums with the rows that are rounded up. From set to set rows start and end: an exclusive or of both has the set's.
 pub fn compare(
-    out: &[u64; PLACES],
-    into: &[u64; PLACES],
+    out: &[u64; NODES],
+    into: &[u64; NODES],
     sum: &[u32; SETS],
     size: Size,
     parted: u64,
@@ -103,8 +106,8 @@ pub fn compare(
 pub fn mend(
     tail: &[u8; ROWS],
     head: &[u8; ROWS],
-    out: &[u64; PLACES],
-    into: &[u64; PLACES],
+    out: &[u64; NODES],
+    into: &[u64; NODES],
     sum: &[u32; SETS],
     size: Size,
     start: Sides,
@@ -153,8 +156,8 @@ fn without(w: u64, i: usize) -> u64
 fn seek(
     tail: &[u8; ROWS],
     head: &[u8; ROWS],
-    out: &[u64; PLACES],
-    into: &[u64; PLACES],
+    out: &[u64; NODES],
+    into: &[u64; NODES],
     s: Sides,
     later: u64,
     i: usize,
@@ -189,8 +192,8 @@ fn seek(
 pub fn raise_rows(
     tail: &[u8; ROWS],
     head: &[u8; ROWS],
-    out: &[u64; PLACES],
-    into: &[u64; PLACES],
+    out: &[u64; NODES],
+    into: &[u64; NODES],
     sum: &[u32; SETS],
     size: Size,
     start: Sides,

@@ -2,7 +2,7 @@
 use mathlib.Core.Path.{_≡_, refl, sym, ap, _∙_}
 use mathlib.Core.Logic.{inl, inr, ⊎-elim, _≢_, _⊎_}
 use mathlib.Core.List.{List, [], _∷_, _++_}
-use Prim.Native.Nat.{ℕ, suc, _+_, _<_}
+use Prim.Native.Nat.{ℕ, suc, _+_, _≤_, _<_}
 use native.Mathlib.Omega.{arith}
 use lib.ListN.{length, getD}
 use Rattle.numbers.specs.Lists.{each}
@@ -28,8 +28,11 @@ use Rattle.rules.proofs.Answers.{
   answers-split,
 }
 use Rattle.rules.proofs.Calls.{call-only}
-use Rattle.moves.specs.Words.{flat}
-use Rattle.maker.specs.Finding.{word-checks, early-checks}
+use Rattle.table.specs.declared.Answer.{Answer}
+use Rattle.maker.specs.Words.{flat}
+use Rattle.maker.specs.declared.Source.{Source}
+use Rattle.maker.specs.declared.Making.{Making}
+use Rattle.maker.specs.Finding.{word-checks, early-checks, Finds, Fits, IsNothing, IsMade}
 use Rattle.maker.proofs.Finding.{early-numbered}
 
 -- ---- the list's numbers and bytes, entry by entry
@@ -58,12 +61,9 @@ module _ (t : Table) (e : ℕ) (plan : List ℕ) where
 
 -- ---- the answer
 
-module _ (a : Ask) (N : Numbered (a .checks)) (plan : List ℕ) (e : ℕ) (form : ElementList → List ℕ) (was : List ℕ) where
+module _ (a : Ask) (N : Numbered (a .checks)) (plan : List ℕ) (e room wants : ℕ) where
   abbrev t : Table
   t = a .table
-
-  abbrev made : ElementList
-  made = movesList t e plan
 
   abbrev words : List Check
   words = word-checks (a .checks) t plan e
@@ -75,16 +75,13 @@ module _ (a : Ask) (N : Numbered (a .checks)) (plan : List ℕ) (e : ℕ) (form 
   brief = length plan < hyperperiod t
 
   abbrev cramped : Type 0
-  cramped = length was < length (form made)
+  cramped = room < wants
 
   abbrev last : List Check
   last = short-output (brief ⊎ cramped) ∷ []
 
-  abbrev Answer : (now : List ℕ) (n p h k : ℕ) → Type 0
-  Answer now n p h k = ListMade a plan e form was now n p h k
-
   -- the maker's checks, with that of its output last
-  split : maker-checks (a .checks) t plan e (length was) (length (form made)) ≡ words ++ last
+  split : maker-checks (a .checks) t plan e room wants ≡ words ++ last
   unfolding maker-checks
   split = refl
 
@@ -95,40 +92,71 @@ module _ (a : Ask) (N : Numbered (a .checks)) (plan : List ℕ) (e : ℕ) (form 
   unfolding Answers
   late n p z q = ⊎-elim (λ w. inl (inl (w .0), w .1, w .2)) (λ w. absurd (z (w .1 .0))) q
 
-  -- a check before that of the output refuses
-  pub made-refused : (n p : ℕ) → Answers early n p → n ≢ 0 → Answer was n p 0 0
-  made-refused n p q z = record {
-    answers = rw split (⊎-elim
-        (λ w. stopped words last n p z w)
-        (λ w. joined words last n p (w .0) (late n p z (w .1)))
-        (answers-split words (short-output brief ∷ []) n p q));
-    done = λ k. absurd (z k);
-    refused = λ k. (refl, refl, refl);
-  }
+  module _ {s : Source} (F : Finds (a .checks) t plan e s) where
+    -- a check before that of the output refuses
+    pub fits-refused : (r : Source) → s .answer .number ≢ 0 → IsNothing (s .answer) r → Fits a plan e room wants r
+    fits-refused r z q =
+        let n = s .answer .number in
+        let p = s .answer .place in
+        record {
+          answers = rw (q .answer, split) (⊎-elim
+              (λ w. stopped words last n p z w)
+              (λ w. joined words last n p (w .0) (late n p z (w .1)))
+              (answers-split words (short-output brief ∷ []) n p (F .answers)));
+          ready = λ k. absurd (z (sym (ap (λ (b : Answer). b .number) (q .answer)) ∙ k));
+          enough = λ k. absurd (z (sym (ap (λ (b : Answer). b .number) (q .answer)) ∙ k));
+          none = λ k. (q .hyper, q .entries);
+        }
 
-  -- the output is too short
-  pub made-short : (n p : ℕ) → Answers early n p → n ≡ 0 → cramped → Answer was 17 0 0 0
-  made-short n p q z l = record {
-    answers = rw split (joined words last 17 0 (none-left words (short-output brief ∷ []) (early-none p (rw z at q)))
-        (applied (short-output (brief ⊎ cramped)) [] 17 0 (inr l) refl refl));
-    done = λ k. absurd (let z : ⊥ = omega arith in z);
-    refused = λ k. (refl, refl, refl);
-  }
+    module _ (z : s .answer .number ≡ 0) where
+      none : None early
+      none = early-none (s .answer .place) (rw z at (F .answers))
 
-  -- nothing refuses
-  pub made-done : (now : List ℕ) (n p h k : ℕ) → Answers early n p → n ≡ 0 → (cramped → ⊥)
-      → (h ≡ made .hyper) × (k ≡ made .entries) × (now ≡ lent (form made) was) → Answer now n p h k
-  unfolding None
-  made-done now n p h k q z l d =
-      let none : None early = early-none p (rw z at q) in
-      let same = answers-only early n 0 p 0 q (answered early none) in
-      let long : brief → ⊥ = none-right words (short-output brief ∷ []) none .0 in
-      record {
-        answers = rw (same .0, same .1, split) (joined words last 0 0 (none-left words (short-output brief ∷ []) none)
-            (passed (short-output (brief ⊎ cramped)) [] 0 0 (⊎-elim long l) done));
-        done = λ y. d;
-        refused = λ y. absurd (y z);
+      -- the output is too short
+      pub fits-short : (x : Answer) (r : Source) → cramped → (x .number ≡ 17) × (x .place ≡ 0) → IsNothing x r → Fits a plan e room wants r
+      fits-short x r l y q = record {
+        answers = rw (q .answer, y .0, y .1, split) (joined words last 17 0 (none-left words (short-output brief ∷ []) none)
+            (applied (short-output (brief ⊎ cramped)) [] 17 0 (inr l) refl refl));
+        ready = λ k. absurd (let w : ⊥ = omega (arith, k, y .0, ap (λ (b : Answer). b .number) (q .answer)) in w);
+        enough = λ k. absurd (let w : ⊥ = omega (arith, k, y .0, ap (λ (b : Answer). b .number) (q .answer)) in w);
+        none = λ k. (q .hyper, q .entries);
       }
+
+      -- nothing refuses
+      pub fits-all : wants ≤ room → Fits a plan e room wants s
+      unfolding None
+      fits-all l =
+          let same = answers-only early (s .answer .number) 0 (s .answer .place) 0 (F .answers) (answered early none) in
+          let long : brief → ⊥ = none-right words (short-output brief ∷ []) none .0 in
+          let wide : cramped → ⊥ = λ k. omega arith in
+          record {
+            answers = rw (same .0, same .1, split) (joined words last 0 0 (none-left words (short-output brief ∷ []) none)
+                (passed (short-output (brief ⊎ cramped)) [] 0 0 (⊎-elim long wide) done));
+            ready = F .ready;
+            enough = λ k. l;
+            none = λ k. absurd (k z);
+          }
+
+-- ---- what is told of it
+
+module _ (a : Ask) (plan : List ℕ) (e : ℕ) (form : ElementList → List ℕ) (was : List ℕ) {s : Source} {r : Making} {k : ℕ}
+    (size : length (form (movesList (a .table) e plan)) ≡ k) (F : Fits a plan e (length was) k s) (q : IsMade s r) where
+  abbrev Told : List ℕ → Type 0
+  Told now = ListMade a plan e form was now (r .answer .number) (r .answer .place) (r .hyper) (r .entries)
+
+  pub made-refused : s .answer .number ≢ 0 → Told was
+  made-refused z = rw (q .answer, q .hyper, q .entries, size) record {
+    answers = F .answers;
+    done = λ y. absurd (z y);
+    refused = λ y. (F .none z .0, F .none z .1, refl);
+  }
+
+  pub made-done : s .answer .number ≡ 0 → (now : List ℕ) → now ≡ lent (form (movesList (a .table) e plan)) was → Told now
+  made-done z now w = rw (q .answer, q .hyper, q .entries, size) record {
+    answers = F .answers;
+    done = λ y. (F .ready z .hyper, F .ready z .entries, w);
+    refused = λ y. absurd (y z);
+  }
 
 -- ---- only one answer fits
 

@@ -44,8 +44,8 @@ use Rattle.decoding.proofs.OneRing.{OtherMark, other-mark, own-mark, one-number
 use Rattle.ring.specs.Route.{rowSegments}
 use Rattle.verdict.specs.Analysed.{table-checks}
 use Rattle.verdict.proofs.Bound.{verdict-numbered, verdict-split, admissible-of}
-use Rattle.moves.specs.Words.{Segmented, LowestBad, endingAt, planMoves, Clear}
-use Rattle.moves.proofs.Made.{plan-moves, clean-clear}
+use Rattle.maker.specs.Words.{Segmented, LowestBad, endingAt, planMoves, Clear}
+use Rattle.maker.proofs.Made.{plan-moves, clean-clear}
 use Rattle.maker.specs.declared.Source.{Source}
 use Rattle.maker.specs.Finding.{word-checks, early-checks, Finds}
 

@@ -21,8 +21,8 @@ use Rattle.rules.specs.Loads.{hyperperiod}
 use Rattle.rules.specs.ElementList.{Entry, move, wayMoves, slotMoves, elementMoves, IsMove, BadWord}
 use Rattle.lists.specs.Entries.{rank}
 use Rattle.table.specs.Sound.{Sound}
-use Rattle.moves.proofs.Words.{picks-none, picks-one}
-use Rattle.moves.proofs.Bad.{first-overlap, second-overlap}
+use Rattle.maker.proofs.Words.{picks-none, picks-one}
+use Rattle.maker.proofs.Bad.{first-overlap, second-overlap}
 
 abbrev none : Entry
 none = move 0 0 0

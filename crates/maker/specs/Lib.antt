@@ -1,2 +1,3 @@
 pub mod Finding
 pub mod Promises
+pub mod Words

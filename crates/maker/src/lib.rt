@@ -1,23 +1,25 @@
 // The list of one element's moves, made from a table file and a plan (#101): in memory, or as the bytes of a list file.
+mod moves;
+
 use lists::Head;
 use table::Answer;
 use table::Columns;
 use verdict::Verdict;
 ghost use mathlib.Core.Path.{_≡_};
 ghost use mathlib.Core.List.{List, []};
-ghost use Prim.Native.Nat.{ℕ, _≤_};
+ghost use Prim.Native.Nat.{ℕ, _+_, _*_, _≤_};
 ghost use lib.ListN.{length};
 ghost use Rattle.rules.specs.Bounds.{max-slots};
 ghost use Rattle.rules.specs.Bus as bus;
 ghost use Rattle.rules.specs.TableFile.{fileTable};
 ghost use Rattle.rules.specs.Loads.{hyperperiod};
-ghost use Rattle.rules.specs.ElementList.{listNumbers, listBytes};
+ghost use Rattle.rules.specs.ElementList.{listHeader, entrySize, listNumbers, listBytes, movesList};
 ghost use Rattle.rules.specs.Refusals.{Answers};
 ghost use Rattle.rules.specs.Calls.{oneRingAsk, ListMade};
 ghost use Rattle.table.specs.Sound.{Sound};
 ghost use Rattle.table.specs.Columns.{tableOf};
-ghost use Rattle.moves.specs.Words.{LowestBad};
-ghost use Rattle.maker.specs.Finding.{early-checks, Finds};
+ghost use Rattle.maker.specs.Words.{LowestBad};
+ghost use Rattle.maker.specs.Finding.{early-checks, IsNothing, IsMade, Finds, Fits};
 
 // What a list is written from: the first refusal, or how many slots and entries there are, and the words of the rows that come to the
 // element and of those that leave it.
@@ -30,7 +32,7 @@ struct Source {
 }
 
 fn nothing(answer: Answer) -> Source
-    ensures { λ r. ⌜ r .answer ≡ answer ⌝ }
+    ensures { λ r. ⌜ IsNothing answer r ⌝ }
 {
     Source {
         answer: answer,
@@ -116,6 +118,30 @@ fn find_in(file: &[u8], plan: &[u64], element: u64) -> Source
     find_on(found.columns, hyper as usize, plan, element)
 }
 
+// The same, then 17 where an output of `room` places is too short for `head` and, for each entry, `size`.
+fn find_for(
+    file: &[u8],
+    plan: &[u64],
+    element: u64,
+    room: usize,
+    head: usize,
+    size: usize,
+) -> Source
+    requires { ⌜ (head ≤ listHeader) × (size ≤ entrySize) ⌝ }
+    ensures { λ r. ⌜ Fits (oneRingAsk (now (file .entry))) (now (plan .entry)) element room
+        (head + size * movesList (fileTable (now (file .entry))) element (now (plan .entry)) .entries) r ⌝ }
+{
+    let found = find_in(file, plan, element);
+    let answer = found.answer;
+    if answer.number != Answer::DONE {
+        return nothing(answer);
+    }
+    if room < head + size * found.entries {
+        return nothing(Answer::at(Answer::SHORT_OUTPUT, 0));
+    }
+    found
+}
+
 // What is made: how many slots the plan has, and how many entries the list; 0 beside a refusal.
 pub struct Making {
     pub answer: Answer,
@@ -123,13 +149,14 @@ pub struct Making {
     pub entries: usize,
 }
 
-fn refused(answer: Answer) -> Making
-    ensures { λ r. ⌜ (r .answer ≡ answer) × (r .hyper ≡ 0) × (r .entries ≡ 0) ⌝ }
+fn made_of(found: Source) -> Making
+    ensures { λ r. ⌜ IsMade found r ⌝ }
 {
+    let answer = found.answer;
     Making {
         answer: answer,
-        hyper: 0,
-        entries: 0,
+        hyper: found.hyper,
+        entries: found.entries,
     }
 }
 
@@ -139,20 +166,13 @@ pub fn make(file: &[u8], plan: &[u64], element: u64, out: &mut [u16]) -> Making
     ensures { λ r. ⌜ ListMade (oneRingAsk (now (file .entry))) (now (plan .entry)) element listNumbers (now (out .entry)) (now (out .exit))
         (r .answer .number) (r .answer .place) (r .hyper) (r .entries) ⌝ }
 {
-    let found = find_in(file, plan, element);
+    let found = find_for(file, plan, element, out.len(), 0, Head::ENTRY_NUMBERS);
     let answer = found.answer;
     if answer.number != Answer::DONE {
-        return refused(answer);
-    }
-    if out.len() < Head::ENTRY_NUMBERS * found.entries {
-        return refused(Answer::at(Answer::SHORT_OUTPUT, 0));
+        return made_of(found);
     }
     moves::put_numbers(plan, found.hyper, found.into, found.from, out);
-    Making {
-        answer: answer,
-        hyper: found.hyper,
-        entries: found.entries,
-    }
+    made_of(found)
 }
 
 // The list's file, at the front of `out`, likewise.
@@ -160,19 +180,19 @@ pub fn make_file(file: &[u8], plan: &[u64], element: u64, out: &mut [u8]) -> Mak
     ensures { λ r. ⌜ ListMade (oneRingAsk (now (file .entry))) (now (plan .entry)) element listBytes (now (out .entry)) (now (out .exit))
         (r .answer .number) (r .answer .place) (r .hyper) (r .entries) ⌝ }
 {
-    let found = find_in(file, plan, element);
+    let found = find_for(
+        file,
+        plan,
+        element,
+        out.len(),
+        Head::BYTES,
+        Head::ENTRY_BYTES,
+    );
     let answer = found.answer;
     if answer.number != Answer::DONE {
-        return refused(answer);
-    }
-    if out.len() < Head::BYTES + Head::ENTRY_BYTES * found.entries {
-        return refused(Answer::at(Answer::SHORT_OUTPUT, 0));
+        return made_of(found);
     }
     lists::put_head(element as u8, found.hyper as u16, out);
     moves::put_bytes(plan, found.hyper, found.into, found.from, out);
-    Making {
-        answer: answer,
-        hyper: found.hyper,
-        entries: found.entries,
-    }
+    made_of(found)
 }

@@ -1,4 +1,8 @@
 // Where two rows of a table meet: the segments of the ring that both routes use (#102).
+mod crowd;
+
+pub use crowd::Crowd;
+pub use crowd::of_set;
 use table::Answer;
 ghost use Rattle.rules.specs.Calls.{Met};
 
@@ -37,7 +41,6 @@ pub fn meet(file: &[u8], i: usize, j: usize) -> Meeting
         answer: Answer::done(),
         word: ring::shared(
             found.columns.elements,
-            rows,
             &found.columns.first,
             &found.columns.second,
             &found.columns.way,

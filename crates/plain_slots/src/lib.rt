@@ -2,7 +2,7 @@
 // gathered to stretches. Each row, in document 01's order, goes through the slots, and of every row that is there already it is asked
 // whether the two overlap. The test is the line's (document 01, "From ring to line"): on the line two rows share a segment just when the
 // first end of each is below the second end of the other.
-use chains::Chains;
+use chains::HEADS;
 use table::Table;
 ghost use mathlib.Core.Path.{_≡_};
 ghost use Prim.Native.Nat.{ℕ, _≤_, _<_};
@@ -42,7 +42,7 @@ fn is_free<'a>(
 {
     let mut asked: u64 = 0;
     while asked != word {
-        let j = flow::pick(word, asked);
+        let j = loads::pick(word, asked);
         if do_overlap(first, second, j, i) {
             return false;
         }
@@ -96,16 +96,16 @@ fn clear(slots: usize, words: &mut [u64])
 pub fn fill_plain<'a>(
     first: &'a [u8; Table::ROWS],
     second: &'a [u8; Table::ROWS],
-    head: &'a [u8; Chains::HEADS],
+    head: &'a [u8; HEADS],
     next: &'a [u8; Table::ROWS],
-    load: &'a [u64; Table::ROWS],
+    load: &'a [u16; Table::ROWS],
     top: usize,
     slots: usize,
     words: &mut [u64],
 )
     requires { ⌜ ((n : ℕ) × ChainedRows n (at (now first)) (at (now second)) top (now head) (now next)) × (slots ≤ length (now words)) ⌝ }
-    ensures { λ _. ⌜ ((n : ℕ) → ChainedRows n (at (now (first .entry))) (at (now (second .entry))) top (now (head .entry)) (now (next .entry))
-        → FilledSlots n (at (now (first .entry))) (at (now (second .entry))) (at (now (load .entry))) slots
+    ensures { λ _. ⌜ ((n : ℕ) → ChainedRows n (at (now (first .entry))) (at (now (second .entry))) top (now (head .entry))
+        (now (next .entry)) → FilledSlots n (at (now (first .entry))) (at (now (second .entry))) (at (now (load .entry))) slots
         (now (words .entry)) (now (words .exit))) ⌝ }
 {
     clear(slots, words);
@@ -114,7 +114,7 @@ pub fn fill_plain<'a>(
         let mut r = head[element];
         while r != 0 {
             let i = (r - 1) as usize;
-            place_row(first, second, i, load[i], slots, words);
+            place_row(first, second, i, table::slots_at(load, i), slots, words);
             r = next[i];
         }
         element += 1;

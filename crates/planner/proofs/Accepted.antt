@@ -13,7 +13,7 @@ use Rattle.lags.proofs.States.{next-due, next-finished}
 use Rattle.table.specs.Sound.{Sound}
 use Rattle.verdict.specs.declared.Analysis.{Analysis}
 use Rattle.verdict.specs.Analysed.{Accepted}
-use Rattle.course.proofs.Accepted.{hyper-is, few-sets}
+use Rattle.planner.proofs.CourseNumbers.{hyper-is, few-sets}
 use Rattle.steady.proofs.Steady.{Shown}
 use Rattle.planner.specs.declared.Stage.{Stage}
 use Rattle.planner.specs.declared.Stage.the-variants.{Due, Finished}

@@ -28,11 +28,11 @@ use Rattle.steady.proofs.Steady.{standings-are}
 use Rattle.planner.specs.declared.Stage.the-variants.{Due}
 use Rattle.planner.specs.declared.Planner.{Planner}
 use Rattle.planner.specs.State.{stageOf, plannerOf, stageAfter, unmovedOf, noStandings}
-use Rattle.course.specs.Course.{Course, Coursed}
+use Rattle.planner.specs.Course.{Course, Coursed}
 use Rattle.planner.specs.Answers.{StepAnswer, StandingsAnswer, PlanAnswer}
-use Rattle.course.proofs.Accepted.{hyper-is}
+use Rattle.planner.proofs.CourseNumbers.{hyper-is}
 use Rattle.planner.proofs.Accepted.{shown, next-is}
-use Rattle.course.proofs.Course.{course-one, course-run}
+use Rattle.planner.proofs.Walked.{course-one, course-run}
 
 nothing : (m i : ℕ) → getD (replicate m (pos 0)) i (pos 0) ≡ pos 0
 nothing zero i = refl

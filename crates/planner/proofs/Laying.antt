@@ -16,8 +16,8 @@ use Rattle.lags.proofs.States.{not-off}
 use Rattle.time.specs.Time.{Begins}
 use Rattle.verdict.specs.declared.Analysis.{Analysis}
 use Rattle.verdict.specs.Analysed.{Accepted}
-use Rattle.course.specs.Plannable.{Plannable}
-use Rattle.course.proofs.Accepted.{hyper-is}
+use Rattle.planner.specs.Plannable.{Plannable}
+use Rattle.planner.proofs.CourseNumbers.{hyper-is}
 use Rattle.planner.specs.declared.Stage.the-variants.{Due}
 use Rattle.planner.specs.declared.Planner.{Planner}
 use Rattle.planner.specs.State.{stageOf, plannerOf, slotOf}

@@ -7,3 +7,7 @@ pub mod Answering
 pub mod Only
 pub mod Asks
 pub mod Promises
+pub mod CourseNumbers
+pub mod Walked
+pub mod Shared
+pub mod MovedOnly

@@ -22,7 +22,7 @@ use Rattle.planner.specs.declared.Stage.{Stage}
 use Rattle.planner.specs.declared.Stage.the-variants.{Due, Finished}
 use Rattle.planner.specs.declared.Planner.{Planner}
 use Rattle.planner.specs.State.{stageOf, plannerOf, slotOf, lateAt}
-use Rattle.course.proofs.Accepted.{hyper-is}
+use Rattle.planner.proofs.CourseNumbers.{hyper-is}
 use Rattle.planner.proofs.Accepted.{shown, slot-is}
 
 module _ {t : Table} {a : Analysis} (A : Accepted t a) (p : Planner) {s : ℕ} (here : s ≡ slotOf t (p .stage)) where

@@ -5,6 +5,10 @@
 //
 // A planner is kept by the caller and any state may be handed in. So the slot that it has reached is held to the hyperperiod first, then
 // its spare totals, and then its totals row by row, before any product is taken.
+mod course;
+mod kept;
+
+pub use kept::move_on;
 use table::Answer;
 use table::Table;
 use time::Time;

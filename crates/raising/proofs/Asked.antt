@@ -29,8 +29,8 @@ use Rattle.outline.specs.declared.Layout.{Layout}
 use Rattle.outline.specs.Layout.{LaidOut}
 use Rattle.outline.proofs.Outlined.{line-numbered}
 use Rattle.lags.proofs.Intervals.{shortest-positive, shortest-le}
-use Rattle.weights.specs.Weights.{Times}
-use Rattle.weights.proofs.Weighing.{times-of}
+use Rattle.verdict.specs.Weights.{Times}
+use Rattle.verdict.proofs.Weighing.{times-of}
 use Rattle.raising.specs.declared.Raising.{Raising}
 use Rattle.raising.specs.Raises.{unraised, RaisedBeside}
 use Rattle.raising.proofs.Costs.{raised-is}

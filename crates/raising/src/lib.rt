@@ -10,7 +10,7 @@ ghost use Rattle.numbers.specs.Rounding.{up};
 ghost use Rattle.rules.specs.Bounds.{max-slots};
 ghost use Rattle.rules.specs.Raising.{Raised};
 ghost use Rattle.table.specs.Columns.{ByRow};
-ghost use Rattle.weights.specs.Weights.{Times};
+ghost use Rattle.verdict.specs.Weights.{Times};
 ghost use Rattle.raising.specs.Raises.{unraised, RaisedBeside};
 
 // A row's cost, or period / L rounded up where that is more. Where all periods are equal, L is as long as they are, and 1 is never more.

@@ -1,5 +1,5 @@
-// The verdict, the list of sets and the planner's calls with a relay (#113): those on the table split at it. The split table is looked at as
-// any other, and has a cut. Totals, standings and bits are those of split rows.
+// The verdict, the list of sets and the planner's calls with a relay (#113): those on the table split at it. The split table is looked at
+// as any other, and has a cut. Totals, standings and bits are those of split rows.
 use outline::Listing;
 use outline::Outline;
 use planner::MovedOn;

@@ -1,2 +1,4 @@
 pub mod Rendered
 pub mod Plain
+pub mod RaisedLines
+pub mod MeetLines

@@ -4,7 +4,8 @@
 --   max-size              no report is longer
 --   PlainRendered         what `render_plain` writes and returns
 --
--- `was` and `now` are what the lent slice holds before and after. Only one answer of `render_plain` fits (proofs/Plain, `plain-rendered-only`).
+-- `was` and `now` are what the lent slice holds before and after. Only one answer of `render_plain` fits
+-- (proofs/Plain, `plain-rendered-only`).
 use mathlib.Core.Logic.{_≢_}
 use mathlib.Core.List.{List, [], _∷_, _++_}
 use Prim.Native.Nat.{ℕ, _*_, _≤_}

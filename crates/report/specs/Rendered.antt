@@ -1,6 +1,7 @@
 -- What stands in a lent slice after a call that writes lines to it.
 --
 --   cuts c o           the lines of the cuts c and o, of which o is 0 where there is one ring
+--   word-line b k w    the line of slot k, whose word is w, or where b is false that of a set whose word is w
 --   max-size           no report is longer
 --   RenderedFor a      the lines of the ask a, as they are written
 --   Rendered input, RelayRendered input r    what `render` and `render_relayed` write and return
@@ -9,7 +10,7 @@
 -- `was` and `now` are what the lent slice holds before and after. Only one answer fits (proofs/Only).
 use mathlib.Core.Path.{_≡_}
 use mathlib.Core.Logic.{_≢_}
-use mathlib.Core.Bool.{cond}
+use mathlib.Core.Bool.{Bool, true, false, cond}
 use mathlib.Core.List.{List, [], _∷_}
 use Prim.Native.Nat.{ℕ, _+_, _*_, _≤_}
 use lib.Dec.{eqb}
@@ -18,13 +19,17 @@ use Rattle.rules.specs.Bounds.{max-rows, max-slots}
 use Rattle.rules.specs.Bus.{Table}
 use Rattle.rules.specs.Calls.{Ask, fileAsk, relayedAsk, admitted}
 use Rattle.rules.specs.Text.{Line, text}
-use Rattle.rules.specs.Program.{verdict, cut, max-input, PrintedFor}
+use Rattle.rules.specs.Program.{verdict, cut, set, slot, max-input, PrintedFor}
 use Rattle.decimal.specs.Puts.{Puts, PutsLine, max-line}
 use Rattle.verdict.specs.declared.Analysis.{Analysis}
 use Rattle.verdict.specs.Analysed.{Accepted}
 
 abbrev pub cuts : ℕ → ℕ → List Line
 cuts c o = cut c ∷ cond (eqb o 0) [] (cut o ∷ [])
+
+abbrev pub word-line : Bool → ℕ → ℕ → Line
+word-line true k w = slot k w
+word-line false k w = set w
 
 -- the verdict, two cuts, the three values, the sets and the slots
 abbrev pub max-size : ℕ

@@ -1,6 +1,9 @@
 // What the program prints, written to lent bytes (document 01, "The program and one whole output").
 //
 // Each `put_` function writes lines from place `at` on, as far as there is room, and returns the place after them.
+pub mod meetings;
+pub mod raised;
+
 use decimal::put_line;
 use table::Table;
 use verdict::Analysis;
@@ -9,6 +12,7 @@ ghost use mathlib.Core.Path.{_≡_};
 ghost use mathlib.Core.List.{List, [], _∷_};
 ghost use Prim.Native.Nat.{ℕ, _+_, _*_, _≤_, min};
 ghost use lib.ListN.{length};
+ghost use Rattle.numbers.specs.Lists.{at as item, each};
 ghost use Rattle.rules.specs.Bounds.{max-rows, max-slots};
 ghost use Rattle.rules.specs.Bus as bus;
 ghost use Rattle.rules.specs.Line.{Sets};
@@ -17,7 +21,7 @@ ghost use Rattle.verdict.specs.Analysed.{Accepted};
 ghost use Rattle.planner.specs.Analysed.{Usable};
 ghost use Rattle.decimal.specs.Puts.{limit, lineOf, max-line, PutsLine, PutsLines};
 ghost use Rattle.rules.specs.Program.{verdict, values, set, slot, set-lines, slot-lines};
-ghost use Rattle.report.specs.Rendered.{cuts, Rendered, RelayRendered, RenderedOn};
+ghost use Rattle.report.specs.Rendered.{cuts, word-line, Rendered, RelayRendered, RenderedOn};
 ghost use Rattle.report.specs.Plain.{PlainRendered};
 
 // The program's input: one byte more than the longest table file has, so that a longer one is refused for its length.
@@ -80,28 +84,27 @@ fn put_slot(number: u64, word: u64, out: &mut [u8], at: usize) -> usize
     put_line(b"slot", &[number, word], out, at)
 }
 
-fn put_sets(words: &[u64], out: &mut [u8], at: usize) -> usize
+// A slot's line, which has its number `k`, or a set's.
+fn put_word(slots: bool, k: u64, word: u64, out: &mut [u8], at: usize) -> usize
+    requires { ⌜ at + max-line ≤ limit ⌝ }
+    ensures { λ r. ⌜ PutsLine (word-line slots k word) (now (out .entry)) at (now (out .exit)) r ⌝ }
+{
+    if slots {
+        return put_slot(k, word, out, at);
+    }
+    put_set(word, out, at)
+}
+
+fn put_words(slots: bool, words: &[u64], out: &mut [u8], at: usize) -> usize
     requires { ⌜ at + max-line * length (now words) ≤ limit ⌝ }
-    ensures { λ r. ⌜ PutsLines (set-lines (now (words .entry))) (length (now (words .entry))) (now (out .entry)) at (now (out .exit)) r ⌝ }
+    ensures { λ r. ⌜ PutsLines (each (length (now (words .entry))) (λ k. word-line slots k (item (now (words .entry)) k) ∷ []))
+        (length (now (words .entry))) (now (out .entry)) at (now (out .exit)) r ⌝ }
 {
     let mut next = at;
     let mut k: usize = 0;
     while k < words.len() {
-        next = put_set(words[k], out, next);
+        next = put_word(slots, k as u64, words[k], out, next);
         k += 1;
-    }
-    next
-}
-
-fn put_slots(words: &[u64], out: &mut [u8], at: usize) -> usize
-    requires { ⌜ at + max-line * length (now words) ≤ limit ⌝ }
-    ensures { λ r. ⌜ PutsLines (slot-lines (now (words .entry))) (length (now (words .entry))) (now (out .entry)) at (now (out .exit)) r ⌝ }
-{
-    let mut next = at;
-    let mut s: usize = 0;
-    while s < words.len() {
-        next = put_slot(s as u64, words[s], out, next);
-        s += 1;
     }
     next
 }
@@ -115,7 +118,7 @@ fn put_list(table: Analysis, out: &mut [u8], at: usize) -> usize
 {
     let words = table.outline.words;
     let sets = table.outline.sets;
-    put_sets(&words[..sets], out, at)
+    put_words(false, &words[..sets], out, at)
 }
 
 // The slots of its whole plan, by the plain planner (#114) or by the other: they are the same.
@@ -127,7 +130,7 @@ fn put_plan(table: Analysis, plain: bool, out: &mut [u8], at: usize) -> usize
     let slots = table.outline.time.hyper as usize;
     let mut plan = [0u64; Table::SLOTS];
     planner::plan_on(table, plain, &mut plan);
-    put_slots(&plan[..slots], out, at)
+    put_words(true, &plan[..slots], out, at)
 }
 
 // ---- the report

@@ -202,16 +202,15 @@ pub fn lay_segments<'a>(
 // The word of the segments that rows `i` and `j` share: those that are in both words, where both run on one ring.
 pub fn shared<'a>(
     elements: usize,
-    rows: usize,
     first: &'a [u8; Table::ROWS],
     second: &'a [u8; Table::ROWS],
     way: &'a [u8; Table::ROWS],
     i: usize,
     j: usize,
 ) -> u32
-    requires { ⌜ Routes elements rows (at (now first)) (at (now second)) (at (now way)) × (i < rows) × (j < rows) ⌝ }
-    ensures { λ r. ⌜ r
-        ≡ bus.shared (onRing elements rows (at (now (first .entry))) (at (now (second .entry))) (at (now (way .entry)))) i j ⌝ }
+    requires { ⌜ ((n : ℕ) × Routes elements n (at (now first)) (at (now second)) (at (now way)) × (i < n) × (j < n)) ⌝ }
+    ensures { λ r. ⌜ ((n : ℕ)
+        → r ≡ bus.shared (onRing elements n (at (now (first .entry))) (at (now (second .entry))) (at (now (way .entry)))) i j) ⌝ }
 {
     let d = table::end_at(way, i);
     let e = table::end_at(way, j);

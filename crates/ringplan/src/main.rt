@@ -6,13 +6,13 @@
 // makes a table file of a text. It writes nothing for any other word. The crates of reports say which bytes all these are. An argument
 // that is no number counts as 0.
 use check::same;
-use limits::Limits;
+use limited::Limits;
 use table::Answer;
 
 // No input that passes is longer than the longest text, and nothing that is written longer than the longest list in lines.
-const INPUT: usize = text_report::INPUT;
+const INPUT: usize = file_report::texts::INPUT;
 
-const SIZE: usize = list_report::SIZE;
+const SIZE: usize = file_report::listing::SIZE;
 
 // ---- arguments
 
@@ -58,29 +58,29 @@ fn raised(file: &[u8], out: &mut [u8]) -> usize {
 
 fn of_files(word: &[u8], input: &[u8], out: &mut [u8]) -> usize {
     if same(word, b"element") {
-        return list_report::make(input, number(2) as u64, out);
+        return file_report::listing::make(input, number(2) as u64, out);
     }
     if same(word, b"list") {
-        return list_report::show(input, out);
+        return file_report::listing::show(input, out);
     }
     if same(word, b"text") {
-        return text_report::show(input, out);
+        return file_report::texts::show(input, out);
     }
     if same(word, b"table") {
-        return text_report::make(input, out);
+        return file_report::texts::make(input, out);
     }
     0
 }
 
 fn of_rows(word: &[u8], file: &[u8], out: &mut [u8]) -> usize {
     if same(word, b"meet") {
-        return meet_report::rows(file, number(2), number(3), out);
+        return report::meetings::rows(file, number(2), number(3), out);
     }
     if same(word, b"set") {
-        return meet_report::set(file, number(2), out);
+        return report::meetings::set(file, number(2), out);
     }
     if same(word, b"raise") {
-        return raise_report::render(file, out);
+        return report::raised::render(file, out);
     }
     if same(word, b"raised") {
         return raised(file, out);

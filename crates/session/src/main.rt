@@ -148,7 +148,7 @@ fn judge(bytes: &[u8], rows: usize) {
 
 fn verdict(live: Live) {
     let mut bytes = [0u8; Table::FILE_BYTES];
-    let answer = live_file::write_file(live, Table::VERSION_2, &mut bytes);
+    let answer = live::write_file(live, Table::VERSION_2, &mut bytes);
     if answer.number != Answer::DONE {
         print_line(b"verdict", &[answer.number as u64, answer.place as u64]);
         return;

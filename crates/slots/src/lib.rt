@@ -8,7 +8,9 @@
 // Slots are scanned by stretches: neighbouring slots that hold the same rows. A row takes a stretch whole, or parts it where its load is
 // used up inside, so there is at most one stretch more than rows, however long the interval is. Of the rows that start at one element each
 // scans on from where the row before it stopped: every slot up to there has a last end past the element.
-use chains::Chains;
+mod parting;
+
+use chains::HEADS;
 use parting::STRETCHES;
 use table::Table;
 ghost use mathlib.Core.Path.{_≡_};
@@ -49,9 +51,9 @@ fn clear(slots: usize, words: &mut [u64])
 // its word stands at its first slot. The scan has come to stretch k, which begins at slot s. Row i leaves stretch i + 1 of one it parts.
 pub fn fill<'a>(
     second: &'a [u8; Table::ROWS],
-    head: &'a [u8; Chains::HEADS],
+    head: &'a [u8; HEADS],
     next: &'a [u8; Table::ROWS],
-    load: &'a [u64; Table::ROWS],
+    load: &'a [u16; Table::ROWS],
     top: usize,
     slots: usize,
     words: &mut [u64],
@@ -75,7 +77,7 @@ pub fn fill<'a>(
         while r != 0 {
             let i = (r - 1) as usize;
             let row = 1u64 << i;
-            let mut left = load[i] as usize;
+            let mut left = table::slots_at(load, i) as usize;
             'slots: while s < slots {
                 if left == 0 {
                     break 'slots;

@@ -10,8 +10,8 @@
 --   spreading-start, spreading-more, spreading-end
 --                            none is; one more is; all are
 --   Fitted k s most new size .. ..
---                            stretch k, which begins at slot s, has `size` slots, at most `most`: where it had more, those past them are now
---                            stretch `new`
+--                            stretch k, which begins at slot s, has `size` slots, at most `most`: where it had more, those past them are
+--                            now stretch `new`
 --   fitted-whole, fitted-parted
 --                            it had no more; it had, and is parted
 --   fitted-end               where the stretch then ends

@@ -1,7 +1,7 @@
 // The functions for the supervisor, a C program: verdict, its values, shared segments, list of sets, whole plan and raised file, and
 // verdict and whole plan with limits and with a relay, each answering 256 × number + place; and the list of one element
 // (include/ringplan.h).
-use limits::Limits;
+use limited::Limits;
 use lists::Head;
 use table::Answer;
 use verdict::Verdict;

@@ -17,6 +17,7 @@ pub use marks::is_no_mark;
 pub use marks::is_plain;
 pub use marks::is_strange;
 pub use marks::mark_byte;
+pub use marks::put_start;
 pub use marks::rings_of;
 pub use versions::is_unknown;
 pub use versions::label_in;
@@ -28,8 +29,9 @@ pub use versions::way_in;
 ghost use mathlib.Core.Path.{_≡_};
 ghost use Prim.Native.Nat.{_+_, _*_, _<_, _≤_};
 ghost use lib.ListN.{length};
+ghost use lib.Seq.{sets};
 ghost use Rattle.rules.specs.Bounds.{max-elements, max-rows, max-rings, max-slots};
-ghost use Rattle.rules.specs.TableFile.{headerSize, rowNumbers};
+ghost use Rattle.rules.specs.TableFile.{headerSize, rowNumbers, write16};
 ghost use Rattle.table.specs.Rows.{IsHead};
 
 // A table: how many elements the ring has, and how many rows.
@@ -242,4 +244,13 @@ pub fn read16(file: &[u8], at: usize) -> u16
     ensures { λ r. ⌜ r ≡ Rattle.rules.specs.TableFile.read16 (now (file .entry)) at ⌝ }
 {
     wide(file[at]) + 256 * wide(file[at + 1])
+}
+
+// 16 bits to byte `at`, low byte first.
+pub fn put16(x: u16, at: usize, out: &mut [u8])
+    requires { ⌜ at + 1 < length (now out) ⌝ }
+    ensures { λ _. ⌜ now (out .exit) ≡ sets (now (out .entry)) at (write16 x) ⌝ }
+{
+    out[at] = (x % 256) as u8;
+    out[at + 1] = (x / 256) as u8;
 }

@@ -1,11 +1,13 @@
 // The two marks of a file: that of a table with one ring, and that of a board with two.
 use crate::Table;
+use crate::put16;
 ghost use mathlib.Core.Path.{_≡_};
 ghost use mathlib.Core.List.{[], _∷_};
 ghost use Prim.Native.Nat.{_≤_};
 ghost use lib.ListN.{length};
+ghost use lib.Seq.{sets};
 ghost use Rattle.numbers.specs.Decides.{Decides};
-ghost use Rattle.rules.specs.TableFile.{table-mark, mark, ringsOf, markOf};
+ghost use Rattle.rules.specs.TableFile.{table-mark, mark, ringsOf, markOf, write16};
 ghost use Rattle.rules.specs.Refusals.{unknown-mark};
 
 // Whether bytes begin with a mark that has this last byte. All marks, also that of an element's list, begin alike.
@@ -20,6 +22,17 @@ pub fn begins(bytes: &[u8], last: u8) -> bool
         return false;
     }
     bytes[2] == last
+}
+
+// The first bytes of a file: its mark, which has this last byte, and its version.
+pub fn put_start(last: u8, version: u16, out: &mut [u8])
+    requires { ⌜ 5 ≤ length (now out) ⌝ }
+    ensures { λ _. ⌜ now (out .exit) ≡ sets (now (out .entry)) 0 (0x52 ∷ 0x42 ∷ last ∷ write16 version) ⌝ }
+{
+    out[0] = Table::MARK[0];
+    out[1] = Table::MARK[1];
+    out[2] = last;
+    put16(version, Table::VERSION_AT, out);
 }
 
 // Whether a file has the mark of a table with one ring.

@@ -4,14 +4,14 @@
 use decimal::put_bytes;
 use decimal::put_decimal;
 use decimal::put_line;
-use memory::check_version;
-use memory::row_of;
 use table::Answer;
 use table::Row;
 use table::Table;
 use table::is_no_mark;
 use table::rings_of;
 use table::row_bytes;
+use writer::check_version;
+use writer::row_of;
 ghost use mathlib.Core.Path.{_≡_};
 ghost use mathlib.Core.List.{[], _∷_};
 ghost use Prim.Native.Nat.{_+_, _*_, _≤_};

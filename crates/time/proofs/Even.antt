@@ -1,4 +1,5 @@
--- Intervals that are all as long as L: so they are where L is one of the leading periods, as it then divides every period.
+-- Where intervals end. All are as long as L where that is one of the leading periods, as it then divides every period; in any case one ends
+-- at the first multiple of a leading period past its begin.
 use mathlib.Core.Path.{_≡_, sym, ap, _∙_, subst}
 use Prim.Native.Nat.{ℕ, _+_, _<_, _≤_, _∣_}
 use native.Mathlib.Nat.{le-of-dvd}
@@ -6,15 +7,16 @@ use native.Mathlib.Omega.{arith}
 use lib.Dec.{T, eqb, eqb→eq}
 use Rattle.numbers.specs.Finite.{any}
 use Rattle.numbers.specs.Lists.{at}
-use Rattle.numbers.specs.Divisors.{Leads}
+use Rattle.numbers.specs.Divisors.{Leads, Past}
 use Rattle.numbers.proofs.Finite.{least}
 use Rattle.numbers.proofs.Pairs.{pair-gcd}
 use Rattle.rules.specs.Bus.{Table}
 use Rattle.rules.specs.Loads.{end, shortest}
-use Rattle.lags.proofs.Intervals.{shortest-gcd, shortest-positive, even-end}
+use Rattle.rules.specs.Bounds.{max-slots}
+use Rattle.lags.proofs.Intervals.{shortest-gcd, shortest-positive, even-end, end-is, end-le, end-far}
 use Rattle.time.specs.declared.Time.{Time}
-use Rattle.time.specs.Time.{Timed, Begins}
-use Rattle.time.proofs.Periods.{leading-is}
+use Rattle.time.specs.Time.{Periods, Timed, Begins}
+use Rattle.time.proofs.Periods.{periods-of, leading-is, leading-periods}
 
 module _ {t : Table} {c : Time} (M : Timed t c) (h : T (any (c .count) (λ k. eqb (at (c .period) k) (c .interval)))) where
   leads : Leads (t .rows) (t .period) (c .count) (at (c .period))
@@ -41,3 +43,14 @@ module _ {t : Table} {c : Time} (M : Timed t c) (h : T (any (c .count) (λ k. eq
 
   pub even-is : {k s : ℕ} → Begins t k s → s + c .interval ≡ end t k
   even-is {k} B = omega (arith, B .here, M .interval, even-end (M .sound) (λ k. shortest t) alone k)
+
+-- ---- whether or not L leads
+
+module _ {t : Table} {c : Time} {k s : ℕ} (M : Timed t c) (B : Begins t k s) where
+  pub past-fits : Periods (c .count) (at (c .period)) × (s ≤ max-slots)
+  past-fits =
+      let S = M .sound in
+      (leading-periods (M .leads) (periods-of S), omega (arith, M .short, B .here, end-far S k (B .in-range), end-le S k (B .in-range)))
+
+  pub past-is : {r : ℕ} → Past (c .count) (at (c .period)) s r → r ≡ end t k
+  past-is P = end-is (M .sound) (leading-is (M .leads)) k _ (rw (B .here) at P)

@@ -8,6 +8,7 @@
 --   Clocked h n p c    c holds h, and of n periods the least greatest common divisor of any two and the leading ones
 --   Clocks n p c       c holds so of n periods their own h, or is noTime where that is above 4096
 --   noTime             the time of no table: 0 throughout
+--   timeOf h l n ps    the time that is h, l and the first n of ps
 --   Timed t c          c are h, L and the leading periods of the sound table t, which has a short hyperperiod
 --   Begins t k s       interval k of table t begins at slot s
 use mathlib.Core.Path.{_≡_}
@@ -50,6 +51,9 @@ pub record Clocked (h n : ℕ) (p : ℕ → ℕ) (c : Time) : Type 0 where
 
 abbrev pub noTime : Time
 noTime = record { hyper = 0; interval = 0; count = 0; period = replicate max-rows 0 }
+
+abbrev pub timeOf : (h l n : ℕ) → List ℕ → Time
+timeOf h l n ps = record { hyper = h; interval = l; count = n; period = ps }
 
 pub record Clocks (n : ℕ) (p : ℕ → ℕ) (c : Time) : Type 0 where
   pub short : lcm n p ≤ max-slots → Clocked (lcm n p) n p c

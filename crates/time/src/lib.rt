@@ -11,7 +11,7 @@ ghost use Rattle.numbers.specs.Pairs.{IsLcm, LeastGcd};
 ghost use Rattle.rules.specs.Bounds.{max-rows, max-slots};
 ghost use Rattle.rules.specs.Bus as bus;
 ghost use Rattle.rules.specs.Loads.{start, end, intervals};
-ghost use Rattle.time.specs.Time.{Periods, Capped, Nearing, Clocks, noTime, Timed, Begins};
+ghost use Rattle.time.specs.Time.{Periods, Capped, Nearing, Clocks, noTime, timeOf, Timed, Begins};
 
 // ---- h
 
@@ -237,16 +237,24 @@ pub fn has_shortest(period: &[u16; Table::ROWS], count: usize, interval: u64) ->
     false
 }
 
-// The end of the interval that begins at `slot`, with no quotient where all intervals are as long as L.
-pub fn end_of(time: Time, even: bool, slot: u64) -> u64
-    requires { ⌜ ((t : bus.Table) × (k : ℕ) × Timed t time × Begins t k slot)
-        × (even ≡ any (time .count) (λ k. eqb (at (time .period) k) (time .interval))) ⌝ }
-    ensures { λ r. ⌜ ((t : bus.Table) (k : ℕ) → Timed t time → Begins t k slot → r ≡ end t k) ⌝ }
+// The end of the interval that begins at `slot`, with no quotient where all intervals are as long as L. It is asked for in every interval,
+// and is handed of the time only what it needs.
+pub fn end_of(
+    period: &[u16; Table::ROWS],
+    count: usize,
+    interval: u64,
+    even: bool,
+    slot: u64,
+) -> u64
+    requires { ⌜ ((t : bus.Table) × (k : ℕ) × (h : ℕ) × Timed t (timeOf h interval count (now period)) × Begins t k slot)
+        × (even ≡ any count (λ k. eqb (at (now period) k) interval)) ⌝ }
+    ensures { λ r. ⌜ ((t : bus.Table) (k h : ℕ) → Timed t (timeOf h interval count (now (period .entry))) → Begins t k slot
+        → r ≡ end t k) ⌝ }
 {
     if even {
-        return slot + time.interval;
+        return slot + interval;
     }
-    time.next_end(slot)
+    multiple_past(count, period, slot)
 }
 
 // h, the least common multiple of the periods, or 0 where it is above 4096.

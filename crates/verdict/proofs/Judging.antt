@@ -30,7 +30,7 @@ use Rattle.verdict.specs.Analysed.{table-checks, Accepted, Analysed}
 use Rattle.verdict.specs.Verdict.{numberOf, placeOf, JudgedBy, IsVerdict, VerdictOn}
 use Rattle.verdict.specs.Demand.{Unrefused, Demand-2}
 use Rattle.verdict.proofs.Bound.{verdict-numbered, sets-exist, table-none, table-admissible, given-passes, admissible-of}
-use Rattle.verdict.proofs.Weighing.{reported-small}
+use Rattle.verdict.proofs.Weighed.{reported-small}
 
 -- ---- the verdict of each outcome
 

@@ -1,4 +1,6 @@
 pub mod Bound
-pub mod Weighing
+pub mod Weighed
 pub mod Analysing
 pub mod Judging
+pub mod Weighing
+pub mod Line

@@ -1,146 +1,182 @@
--- Rows and sets weighed: 13, 14, or the reported load of document 01 and how many sets there are.
-use mathlib.Core.Path.{_≡_, sym, ap, _∙_}
-use mathlib.Core.Bool.{Bool}
+-- The weights of a sound table's rows and sets, found row by row and set by set: what one turn of each loop does, and that the code's
+-- weights are document 01's loads and bound.
+use mathlib.Core.Path.{_≡_, refl, sym, ap, _∙_}
+use mathlib.Core.Logic.{⊎-elim}
+use mathlib.Core.Bool.{Bool, true, false, not, _&&_}
 use mathlib.Core.List.{List}
-use Prim.Native.Nat.{ℕ, _*_, _≤_, _<_}
+use Prim.Native.Nat.{ℕ, _+_, _-_, _*_, _/_, _≤_, _<_, max}
+use native.Mathlib.Nat.{le-of-dvd, eq-or-lt-of-le, mul-le-mul, mul-le-mul-right, le-of-mul-le-mul-right}
 use native.Mathlib.Omega.{arith}
-use lib.Dec.{T, eqb}
-use lib.ListN.{length, take, length-take}
-use lib.Seq.{getD-take}
-use Rattle.numbers.specs.Finite.{lowest}
-use Rattle.numbers.specs.Finite as finite
+use lib.Dec.{T, ltb, eqb, eqb→eq, lt→ltb}
+use borrow.Author.Count.{below-more}
+use Rattle.numbers.specs.Finite.{every, lowest, largest}
 use Rattle.numbers.specs.Word.{bit}
 use Rattle.numbers.specs.Lists.{at}
-use Rattle.numbers.specs.Rounding.{up}
-use Rattle.numbers.proofs.Finite.{lowest-has, lowest-below, lowest-eq, largest-eq, largest-under}
-use Rattle.numbers.proofs.Rounding.{up-least}
+use Rattle.numbers.proofs.Truth.{both, fst, snd, decide, is-true, is-false, of-true, eqb-of, le-or-lt, refutes}
+use Rattle.numbers.proofs.Finite.{every-of, lowest-is, lowest-none, lowest-le, lowest-has, lowest-below, lowest-eq}
+use Rattle.numbers.proofs.Finite.{sumIn-eq, sumIn-most, largest-next, largest-eq}
+use Rattle.rules.specs.Bounds.{max-rows, max-slots}
 use Rattle.rules.specs.Bus.{Table}
-use Rattle.rules.specs.Line.{Sets}
-use Rattle.rules.specs.Loads.{hyperperiod, shortest, rate, load, equalPeriods, light, past, over, reported}
-use Rattle.rules.specs.Refusals.{light-row, over-bound, bound-checks}
-use Rattle.rules.proofs.Answers.{answered}
+use Rattle.rules.specs.Loads.{hyperperiod, shortest, rate, load, equalPeriods, light, past, over}
 use Rattle.table.specs.Sound.{Sound}
-use Rattle.sets.specs.Sets.{OnLine, SetWords}
-use Rattle.lags.specs.Lags.{Admissible}
-use Rattle.lags.proofs.Intervals.{hyperperiod-positive}
-use Rattle.time.specs.declared.Time.{Time}
-use Rattle.outline.proofs.Sets.{Ends, ends-on-line, ring-list}
-use Rattle.outline.proofs.Outlined.{answers-at}
-use Rattle.weights.specs.Weights.{lightBy, weight, Weighed}
-use Rattle.weights.proofs.Weighing.{weight-load, past-over, within-one, equal-is, light-is}
-use Rattle.verdict.specs.declared.Loaded.{Loaded}
-use Rattle.verdict.specs.Weighing.{Weighable, Weighs}
-use Rattle.verdict.proofs.Bound.{NoneLight, light-refused, over-refused, bound-none}
+use Rattle.table.specs.Columns.{ByRow}
+use Rattle.sets.proofs.Sums.{sum-none}
+use Rattle.lags.proofs.Intervals.{period-divides, hyperperiod-positive, shortest-positive, shortest-low, rate-period, rate-le}
+use Rattle.lags.proofs.Intervals.{equal-shortest, equal-hyperperiod}
+use Rattle.verdict.specs.Weights.{Times, lightBy, Rates, weight, nextLowest, Weighed}
 
--- ---- the weights of a table's sets
+-- ---- equal periods
 
-module _ (t : Table) (xs ws : List ℕ) (k a b : ℕ) (r : (i : ℕ) → i < t .rows → at xs i ≡ rate t i)
-    (W : Weighed (t .rows) xs k ws (equalPeriods t) (hyperperiod t) (shortest t) a b) where
-  loads-are : (j : ℕ) → j < k → weight (t .rows) xs (at ws j) ≡ load t (bit (at (take k ws) j))
-  loads-are j l = weight-load t xs r (at ws j) ∙ ap (λ (w : ℕ). load t (bit w)) (sym (getD-take k ws j 0 l))
+-- L divides every period and every period divides h, so all are equal exactly if L is h
+module _ {t : Table} (s : Sound t) where
+  all-equal : shortest t ≡ hyperperiod t → T (equalPeriods t)
+  unfolding equalPeriods
+  all-equal e =
+      let same : (i : ℕ) → i < t .rows → t .period i ≡ hyperperiod t =
+      λ i l. omega (arith, shortest-low s i l, le-of-dvd (hyperperiod-positive s) (period-divides s i l), e) in
+      every-of (t .rows) (λ j. eqb (t .period j) (t .period 0))
+      (λ j m. eqb-of (t .period j) (t .period 0) (same j m ∙ sym (same 0 (s .rows-low))))
 
-  over-lowest : a ≡ lowest k (λ j. over t (bit (at (take k ws) j)))
-  over-lowest =
-      W .over-is
-      ∙ lowest-eq k (λ j. past (equalPeriods t) (hyperperiod t) (shortest t) (weight (t .rows) xs (at ws j)))
-      (λ j. over t (bit (at (take k ws) j)))
-      (λ j l. ap (past (equalPeriods t) (hyperperiod t) (shortest t)) (loads-are j l) ∙ past-over t (bit (at (take k ws) j)))
+  pub equal-is : eqb (shortest t) (hyperperiod t) ≡ equalPeriods t
+  equal-is =
+      let p : Bool = eqb (shortest t) (hyperperiod t) in
+      ⊎-elim (λ h. is-true p h ∙ sym (is-true (equalPeriods t) (all-equal (eqb→eq (shortest t) (hyperperiod t) h))))
+      (λ f. is-false p f
+      ∙ sym (is-false (equalPeriods t)
+      (λ e. f (eqb-of (shortest t) (hyperperiod t) (equal-shortest s e ∙ sym (equal-hyperperiod s e))))))
+      (decide p)
 
-  largest-load : b ≡ finite.largest k (λ j. load t (bit (at (take k ws) j)))
-  largest-load = W .largest-is ∙ largest-eq k (λ j. weight (t .rows) xs (at ws j)) (λ j. load t (bit (at (take k ws) j))) loads-are
+-- ---- light rows
 
-  -- the first set over its bound
-  over-stop : a < k → T (over t (bit (at (take k ws) a))) × ((j : ℕ) → j < a → T (over t (bit (at (take k ws) j))) → ⊥)
-  over-stop l =
-      let p : ℕ → Bool = λ j. over t (bit (at (take k ws) j)) in
-      (rw over-lowest (lowest-has k p (rw over-lowest at l)), λ j m. lowest-below k p j (rw over-lowest at m))
+pub times-of : {t : Table} → Sound t → Times (t .rows) (t .cost) (t .period)
+times-of s = record {
+  few = s .rows-high;
+  period-low = λ i l. s .row i l .period-low;
+  period-high = λ i l. s .row i l .period-high;
+  cost-high = λ i l. s .row i l .cost-high;
+}
 
-  -- or none
-  over-none : k ≤ a → (j : ℕ) → j < k → T (over t (bit (at (take k ws) j))) → ⊥
-  over-none l j m = lowest-below k (λ j. over t (bit (at (take k ws) j))) j (omega (arith, over-lowest))
+module _ {e : Bool} (l : ℕ) (cost period : ℕ → ℕ) (i : ℕ) where
+  pub light-equal : e ≡ true → T (lightBy e l cost period i) → ⊥
+  unfolding lightBy
+  light-equal q h = refutes e (fst (not e) (ltb (cost i * l) (period i)) h) (of-true q)
 
-  reported-is : length (take k ws) ≡ k → up (1000 * b) (hyperperiod t) ≡ reported t (take k ws)
-  unfolding reported
-  reported-is e = rw (e, largest-load)
+  pub light-differ : {a b : ℕ} → e ≡ false → a ≡ cost i → b ≡ period i → lightBy e l cost period i ≡ ltb (a * l) b
+  unfolding lightBy
+  light-differ q u v = rw (q, u, v)
 
--- ---- the table that is weighed
+pub light-is : (t : Table) {e : Bool} {l : ℕ} → e ≡ equalPeriods t → l ≡ shortest t → lightBy e l (t .cost) (t .period) ≡ light t
+unfolding lightBy light
+light-is t p q = rw (p, q)
 
-module _ {t : Table} {c : Time} {top : ℕ} {first second xs : List ℕ} (A : Weighable t c top first second xs) where
-  sound : Sound t
-  sound = A .timed .sound
+-- ---- the rates
 
-  equal : eqb (c .interval) (c .hyper) ≡ equalPeriods t
-  equal = rw (A .timed .interval, A .timed .hyper) (equal-is sound)
+pub rates-are : (t : Table) {h : ℕ} {xs : List ℕ} → h ≡ hyperperiod t → ByRow (t .rows) (λ i. h / t .period i * t .cost i) xs
+    → ByRow (t .rows) (rate t) xs
+unfolding rate
+rates-are t e B = rw e at B
 
-  pub weighable-light : lightBy (eqb (c .interval) (c .hyper)) (c .interval) (t .cost) (t .period) ≡ light t
-  weighable-light = light-is t equal (A .timed .interval)
+-- ---- the load of a set
 
-  ends : Ends t (at first) (at second)
-  ends i l = (A .first .row i l, A .second .row i l)
+pub weight-none : (n : ℕ) (xs : List ℕ) → 0 ≡ weight n xs 0
+unfolding weight
+weight-none n xs = sym (sum-none n 0 (at xs) refl)
 
-  pub weighable-on-line : OnLine (t .rows) (at first) (at second) top
-  weighable-on-line = rw (A .top-is) (ends-on-line t sound (A .clear) (at first) (at second) ends)
+pub weight-small : {n : ℕ} {xs : List ℕ} → Rates xs n → (w : ℕ) → weight n xs w ≤ n * max-slots
+unfolding weight
+weight-small {n} {xs} S w = sumIn-most n (bit w) (at xs) max-slots (S .small)
 
-  -- ---- each outcome
+-- ---- the lowest set over its bound
 
-  module _ (i : ℕ) (low : i ≡ lowest (t .rows) (light t)) where
-    pub weighs-light : i < t .rows → (w : Loaded) → (w .answer .number ≡ light-row t i .number) × (w .answer .place ≡ i) → Weighs t w
-    weighs-light l w e = record {
-      answers =
-          answers-at (bound-checks t) (w .answer) (light-row t i .number) i e
-          (light-refused t i l
-          (rw low (lowest-has (t .rows) (light t) (rw low at l)))
-          (λ j m. lowest-below (t .rows) (light t) j (rw low at m)));
-      done = λ z. absurd (omega (arith, e .0, z));
-    }
+pub lowest-next : (n : ℕ) (p : ℕ → Bool) → lowest (n + 1) p ≡ nextLowest (lowest n p) n (p n)
+unfolding nextLowest
+lowest-next n p =
+    ⊎-elim
+    (λ (e : lowest n p ≡ n).
+    ⊎-elim
+    (λ t. lowest-is (n + 1) p n (omega arith) t (λ j l. lowest-below n p j (omega arith))
+    ∙ rw (is-true (p n) t, is-false (eqb (lowest n p) n && false) (λ h. snd (eqb (lowest n p) n) false h)) (sym e))
+    (λ f. lowest-none (n + 1) p (below-more _ _ (λ j l. lowest-below n p j (omega arith)) f)
+    ∙ rw (is-false (p n) f, is-true (eqb (lowest n p) n && true) (both (eqb (lowest n p) n) true (eqb-of (lowest n p) n e) tt)))
+    (decide (p n)))
+    (λ (l : lowest n p < n).
+    lowest-is (n + 1) p (lowest n p) (omega arith) (lowest-has n p l) (lowest-below n p)
+    ∙ rw (is-false (eqb (lowest n p) n && not (p n)) (λ h. omega (arith, eqb→eq (lowest n p) n (fst (eqb (lowest n p) n) (not (p n)) h)))))
+    (eq-or-lt-of-le (lowest-le n p))
 
-    module _ (heavy : t .rows ≤ i) {k a b : ℕ} {ws : List ℕ} (L : SetWords (t .rows) (at first) (at second) k ws)
-        (W : Weighed (t .rows) xs k ws (eqb (c .interval) (c .hyper)) (c .hyper) (c .interval) a b) where
-      none-light : NoneLight t
-      none-light j l = lowest-below (t .rows) (light t) j (omega (arith, low))
+-- ---- the pass over the sets
 
-      weighed : Weighed (t .rows) xs k ws (equalPeriods t) (hyperperiod t) (shortest t) a b
-      weighed = rw (equal, A .timed .hyper, A .timed .interval) at W
+module _ {n : ℕ} {xs ws : List ℕ} {e : Bool} {h l : ℕ} where
+  pub weighed-start : Weighed n xs 0 ws e h l 0 0
+  unfolding lowest largest
+  weighed-start = record { over-is = refl; largest-is = refl; small = omega arith }
 
-      list : Sets t (take k ws)
-      list = ring-list t sound (A .clear) (at first) (at second) ends (take k ws) (L .sets)
+  pub weighed-next : {k a b x : ℕ} → Weighed n xs k ws e h l a b → x ≡ weight n xs (at ws k) → x ≤ max-rows * max-slots
+      → Weighed n xs (k + 1) ws e h l (nextLowest a k (past e h l x)) (max b x)
+  weighed-next {k} {a} {b} {x} w i s = record {
+    over-is =
+        ap (λ (j : ℕ). nextLowest j k (past e h l x)) (w .over-is)
+        ∙ ap (λ (j : ℕ). nextLowest (lowest k (λ j. past e h l (weight n xs (at ws j)))) k (past e h l j)) i
+        ∙ sym (lowest-next k (λ j. past e h l (weight n xs (at ws j))));
+    largest-is =
+        ap (λ (j : ℕ). max j x) (w .largest-is) ∙ ap (λ (j : ℕ). max (largest k (λ j. weight n xs (at ws j))) j) i
+        ∙ sym (largest-next (λ j. weight n xs (at ws j)) k);
+    small = omega (arith, w .small);
+  }
 
-      count : length (take k ws) ≡ k
-      count = let s = sound in omega (arith, length-take k ws, L .size, L .few)
+  -- another list that is the same so far
+  pub weighed-more : {vs : List ℕ} {k a b : ℕ} → ((j : ℕ) → j < k → at vs j ≡ at ws j) → Weighed n xs k ws e h l a b
+      → Weighed n xs k vs e h l a b
+  weighed-more {vs} {k} same w = record {
+    over-is =
+        w .over-is
+        ∙ lowest-eq k (λ j. past e h l (weight n xs (at ws j))) (λ j. past e h l (weight n xs (at vs j)))
+        (λ j m. ap (λ (v : ℕ). past e h l (weight n xs v)) (sym (same j m)));
+    largest-is =
+        w .largest-is
+        ∙ largest-eq k (λ j. weight n xs (at ws j)) (λ j. weight n xs (at vs j)) (λ j m. ap (weight n xs) (sym (same j m)));
+    small = w .small;
+  }
 
-      pub weighs-over : a < k → (w : Loaded) → (w .answer .number ≡ over-bound t a .number) × (w .answer .place ≡ a) → Weighs t w
-      weighs-over l w e =
-          let u = over-stop t xs ws k a b (A .rate .row) weighed l in
-          record {
-            answers =
-                answers-at (bound-checks t) (w .answer) (over-bound t a .number) a e
-                (over-refused t (sound .rows-low) (take k ws) list none-light a (omega (arith, count)) (omega (arith, count, L .few))
-                (u .0) (u .1));
-            done = λ z. absurd (omega (arith, e .0, z));
-          }
+-- ---- as document 01 has them
 
-      pub weighs-done : k ≤ a → (w : Loaded) → (w .answer .number ≡ 0) × (w .answer .place ≡ 0) → w .sets ≡ k
-          → w .load ≡ up (1000 * b) (c .hyper) → Weighs t w
-      weighs-done l w d s y =
-          let u = over-none t xs ws k a b (A .rate .row) weighed l in
-          record {
-            answers =
-                rw (d .0, d .1)
-                (answered (bound-checks t) (bound-none t (sound .rows-low) (take k ws) list none-light (λ j m. u j (rw count at m))));
-            done = λ z. (
-              take k ws,
-              list,
-              s ∙ sym count,
-              y ∙ ap (up (1000 * b)) (A .timed .hyper) ∙ reported-is t xs ws k a b (A .rate .row) weighed count,
-            );
-          }
+module _ (t : Table) (xs : List ℕ) (r : (i : ℕ) → i < t .rows → at xs i ≡ rate t i) where
+  pub weight-load : (w : ℕ) → weight (t .rows) xs w ≡ load t (bit w)
+  unfolding weight
+  weight-load w = sumIn-eq (t .rows) (bit w) (bit w) (at xs) (rate t) (λ i l. refl) (λ i l b. r i l)
 
--- the reported load of a table that is admitted is at most 1000
-pub reported-small : {t : Table} → Admissible t → (ws : List ℕ) → Sets t ws → reported t ws ≤ 1000
-unfolding reported
-reported-small {t} A ws S =
-    let s = A .sound in
-    let m : finite.largest (length ws) (λ k. load t (bit (at ws k))) ≤ hyperperiod t =
-    largest-under (λ k. load t (bit (at ws k))) (length ws) (hyperperiod t)
-    (λ k l. within-one s (bit (at ws k)) (A .bounded (bit (at ws k)) (S .each k l))) in
-    up-least (1000 * finite.largest (length ws) (λ k. load t (bit (at ws k)))) (hyperperiod t) (hyperperiod-positive s) 1000 (omega arith)
+-- every row has some load, as its cost is some, and none is above 1
+rate-some : {t : Table} → Sound t → (i : ℕ) → i < t .rows → 1 ≤ rate t i
+rate-some {t} s i l =
+    ⊎-elim (λ (z : rate t i ≤ 0).
+    let y : rate t i ≡ 0 = omega arith in
+    let none : 0 * t .period i ≡ t .cost i * hyperperiod t = sym (ap (λ (x : ℕ). x * t .period i) y) ∙ rate-period s i l in
+    absurd (let some = mul-le-mul (s .row i l .cost-low) (hyperperiod-positive s) in omega (arith, some, none)))
+    (λ m. m)
+    (le-or-lt (rate t i) 0)
+
+pub rates-small : {t : Table} → Sound t → hyperperiod t ≤ max-slots → {xs : List ℕ} → ByRow (t .rows) (rate t) xs → Rates xs (t .rows)
+rates-small s h B = record {
+  few = s .rows-high;
+  some = λ i l. omega (arith, B .row i l, rate-some s i l);
+  small = λ i l. omega (arith, B .row i l, rate-le s i l);
+}
+
+pub past-over : (t : Table) (D : ℕ → Bool) → past (equalPeriods t) (hyperperiod t) (shortest t) (load t D) ≡ over t D
+unfolding over
+past-over t D = refl
+
+-- a set that is not over its bound has a load of at most 1
+pub within-one : {t : Table} → Sound t → (D : ℕ → Bool) → (T (over t D) → ⊥) → load t D ≤ hyperperiod t
+unfolding past over
+within-one {t} s D u = go (equalPeriods t) refl
+  where
+    go : (b : Bool) → equalPeriods t ≡ b → load t D ≤ hyperperiod t
+    go true e =
+        let h : ¬ (hyperperiod t < load t D) = λ l. u (rw e (lt→ltb (hyperperiod t) (load t D) l)) in
+        omega arith
+    go false e =
+        let h : ¬ ((shortest t - 1) * hyperperiod t < load t D * shortest t) =
+        λ l. u (rw e (lt→ltb ((shortest t - 1) * hyperperiod t) (load t D * shortest t) l)) in
+        let m : (shortest t - 1) * hyperperiod t ≤ shortest t * hyperperiod t = mul-le-mul-right (hyperperiod t) (omega arith) in
+        le-of-mul-le-mul-right (omega arith) (shortest-positive s)

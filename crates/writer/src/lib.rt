@@ -1,11 +1,15 @@
 // The writer: from numbers in memory to a file.
-use memory::check_version;
-use memory::row_of;
+mod memory;
+
+pub use memory::check_version;
+pub use memory::row_of;
 use table::Answer;
 use table::Row;
 use table::Table;
 use table::is_no_mark;
 use table::mark_byte;
+use table::put_start;
+use table::put16;
 use table::rings_of;
 use table::row_place;
 ghost use mathlib.Core.Path.{_≡_};
@@ -26,21 +30,10 @@ fn put_bytes(row: Row, at: usize, out: &mut [u8])
     requires { ⌜ (at + rowWith 0 ≤ length (now out)) × (row .first < 256) × (row .second < 256) ⌝ }
     ensures { λ _. ⌜ now (out .exit) ≡ sets (now (out .entry)) at (inFile 1 0 row) ⌝ }
 {
-    out[at] = (row.cost % 256) as u8;
-    out[at + 1] = (row.cost / 256) as u8;
-    out[at + 2] = (row.period % 256) as u8;
-    out[at + 3] = (row.period / 256) as u8;
+    put16(row.cost, at, out);
+    put16(row.period, at + 2, out);
     out[at + 4] = row.first as u8;
     out[at + 5] = row.second as u8;
-}
-
-// The two bytes of a label, from `at` on.
-fn put_label(label: u16, at: usize, out: &mut [u8])
-    requires { ⌜ at + 2 ≤ length (now out) ⌝ }
-    ensures { λ _. ⌜ now (out .exit) ≡ sets (now (out .entry)) at (writeLow 2 label) ⌝ }
-{
-    out[at] = (label % 256) as u8;
-    out[at + 1] = (label / 256) as u8;
 }
 
 // The byte of a direction.
@@ -63,7 +56,7 @@ fn put_last(rings: usize, version: u64, way: usize, label: u16, at: usize, out: 
     if version != Table::VERSION_2 {
         return;
     }
-    put_label(label, at, out);
+    put16(label, at, out);
 }
 
 // The bytes of a row, from `at` on.
@@ -81,11 +74,7 @@ fn put_header(last: u8, version: u16, elements: u8, rows: u8, out: &mut [u8])
     requires { ⌜ headerSize ≤ length (now out) ⌝ }
     ensures { λ _. ⌜ now (out .exit) ≡ sets (now (out .entry)) 0 (fileHeader (0x52 ∷ 0x42 ∷ last ∷ []) version elements rows) ⌝ }
 {
-    out[0] = Table::MARK[0];
-    out[1] = Table::MARK[1];
-    out[2] = last;
-    out[Table::VERSION_AT] = (version % 256) as u8;
-    out[Table::VERSION_AT + 1] = (version / 256) as u8;
+    put_start(last, version, out);
     out[Table::ELEMENTS_AT] = elements;
     out[Table::ROWS_AT] = rows;
 }

@@ -15,7 +15,7 @@ abbrev μ-loop : tie.MeasureT-loop
 μ-loop first rows head₀ next₀ i₀ head next i = i
 
 loop-holds : tie.Need-loop-holds Inv-loop μ-loop
-loop-holds c = (omega arith, chain-start _ _)
+loop-holds c = (omega arith, rw (c .pre .2, c .pre .3) (chain-start _ _))
 
 sub-end-at : tie.Need-sub-end-at Inv-loop μ-loop
 sub-end-at c = omega arith
@@ -28,20 +28,20 @@ low : (c : tie.After-end-at Inv-loop μ-loop)
     → at (c .before .before .before .args .first .now) (c .before .before .loop .i - 1) < all-heads
 low c = c .before .before .before .pre .1 (c .before .before .loop .i - 1) (omega arith)
 
-array-read-next : tie.Need-array-read-next Inv-loop μ-loop
-array-read-next c = omega (arith, low c)
+element-copy-out-next : tie.Need-element-copy-out-next Inv-loop μ-loop
+element-copy-out-next c = omega (arith, low c)
 
 sub-next : tie.Need-sub-next Inv-loop μ-loop
 sub-next c = omega arith
 
-array-write-next : tie.Need-array-write-next Inv-loop μ-loop
-array-write-next c = omega arith
+element-write-next : tie.Need-element-write-next Inv-loop μ-loop
+element-write-next c = omega arith
 
 cast-head : tie.Need-cast-head Inv-loop μ-loop
 cast-head c = omega arith
 
-array-write-head : tie.Need-array-write-head Inv-loop μ-loop
-array-write-head c = omega (arith, low c)
+element-write-head : tie.Need-element-write-head Inv-loop μ-loop
+element-write-head c = omega (arith, low (c .before))
 
 sub-i : tie.Need-sub-i Inv-loop μ-loop
 sub-i c = omega arith
@@ -50,11 +50,12 @@ loop-less : tie.Need-loop-less Inv-loop μ-loop
 loop-less c = omega arith
 
 loop-again : tie.Need-loop-again Inv-loop μ-loop
-loop-again c = (
-  omega arith,
-  chain-more (c .before .before .loop .inv .1) (omega arith) (omega arith) (omega arith) (c .end-at .ensures)
-      (omega (arith, low c)),
-)
+loop-again c =
+    let d = c .before in (
+      omega arith,
+      chain-more (d .before .before .loop .inv .1) (omega arith) (omega arith) (omega arith) (d .end-at .ensures)
+          (omega (arith, low d)),
+    )
 
 returns : tie.Need-returns Inv-loop μ-loop
 returns c = chain-end (c .before .loop .inv .1) (omega arith)
@@ -68,11 +69,11 @@ chain-spec =
     loop-holds
     sub-end-at
     end-at-requires
-    array-read-next
+    element-copy-out-next
     sub-next
-    array-write-next
+    element-write-next
     cast-head
-    array-write-head
+    element-write-head
     sub-i
     loop-less
     loop-again

@@ -6,9 +6,9 @@ use native.Mathlib.Omega.{arith}
 use lib.ListN.{length, length-set}
 use Rattle.numbers.specs.Lists.{at}
 use Rattle.rules.specs.Bounds.{max-rows}
-use Rattle.flow.proofs.Network.{put-set-is}
+use Rattle.loads.proofs.Network.{put-set-is}
 use Rattle.loads.specs.Loads.{digit}
-use Rattle.fold.proofs.Product.{digit-is}
+use Rattle.interval.proofs.Product.{digit-is}
 use Rattle.interval.specs.Interval.{Given}
 use Rattle.interval.proofs.Fill.{giving-none, giving-next}
 use Rattle.interval.proofs.give.Statement.{statement}
@@ -29,17 +29,16 @@ as-is l = let u = l .before .loop in u .inv .3 .spare (u .i) (omega arith)
 loop-holds : tie.Need-loop-holds Inv-loop μ-loop
 loop-holds c = (omega arith, c .pre .2, c .pre .3, giving-none _ _ _ _)
 
-mul-all : tie.Need-mul-all Inv-loop μ-loop
-mul-all c = search needs
-
-element-copy-out-all : tie.Need-element-copy-out-all Inv-loop μ-loop
-element-copy-out-all c = search needs
+slots-at-requires : tie.Need-slots-at-requires Inv-loop μ-loop
+slots-at-requires c κs = omega (arith, c .before .before .pre .0)
 
 shr-all : tie.Need-shr-all Inv-loop μ-loop
 shr-all c = omega (arith, c .before .before .before .pre .0)
 
 add-all : tie.Need-add-all Inv-loop μ-loop
-add-all c = let l = c .before in omega (arith, as-is l, l .before .before .pre .1 (l .before .loop .i) (l .loop-test .taken))
+add-all c =
+    let l = c .before in
+    omega (arith, c .slots-at .ensures, as-is l, l .before .before .pre .1 (l .before .loop .i) (l .loop-test .taken))
 
 mul-load : tie.Need-mul-load Inv-loop μ-loop
 mul-load c = search needs
@@ -48,7 +47,14 @@ element-copy-out-load : tie.Need-element-copy-out-load Inv-loop μ-loop
 element-copy-out-load c = search needs
 
 sub-load : tie.Need-sub-load Inv-loop μ-loop
-sub-load c = let l = c .before .before in omega (arith, as-is l, l .before .before .pre .1 (l .before .loop .i) (l .loop-test .taken))
+sub-load c =
+    let l = c .before .before in
+    omega (arith, c .before .slots-at .ensures, as-is l, l .before .before .pre .1 (l .before .loop .i) (l .loop-test .taken))
+
+cast-load : tie.Need-cast-load Inv-loop μ-loop
+cast-load c =
+    let l = c .before .before in
+    omega (arith, c .before .slots-at .ensures, l .before .before .pre .1 (l .before .loop .i) (l .loop-test .taken))
 
 mul-load-2 : tie.Need-mul-load-2 Inv-loop μ-loop
 mul-load-2 c = search needs
@@ -76,13 +82,14 @@ loop-again c =
     let a = z .args in
     let d : ℕ = a .top / 2 ^ u .i % 2 in
     let e : d ≡ digit (a .top) (u .i) = sym (digit-is (a .top) (u .i)) in
-    let s = as-is l in (
+    let s = as-is l in
+    let w = c .before .slots-at .ensures in (
       omega (arith, l .loop-test .taken),
       simp length-set (u .inv .1),
       simp length-set (u .inv .2),
       giving-next (u .i) (a .top) _ _ _ _ _ _ (u .inv .3) (z .pre .1 (u .i) (l .loop-test .taken) .0)
-          (put-set-is (u .load) (u .i) _ _ (omega (arith, u .inv .1, z .pre .0, l .loop-test .taken)) (omega (arith, s, e)))
-          (put-set-is (u .totals) (u .i) _ _ (omega (arith, u .inv .2, z .pre .0, l .loop-test .taken)) (omega (arith, s, e))),
+          (put-set-is (u .load) (u .i) _ _ (omega (arith, u .inv .1, z .pre .0, l .loop-test .taken)) (omega (arith, s, e, w)))
+          (put-set-is (u .totals) (u .i) _ _ (omega (arith, u .inv .2, z .pre .0, l .loop-test .taken)) (omega (arith, s, e, w))),
     )
 
 returns : tie.Need-returns Inv-loop μ-loop
@@ -98,13 +105,13 @@ give-spec =
     Inv-loop
     μ-loop
     loop-holds
-    mul-all
-    element-copy-out-all
+    slots-at-requires
     shr-all
     add-all
     mul-load
     element-copy-out-load
     sub-load
+    cast-load
     mul-load-2
     element-write-load
     mul-totals

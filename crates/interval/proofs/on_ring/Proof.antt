@@ -7,7 +7,7 @@ use lib.Dec.{eqb}
 use Rattle.numbers.specs.Finite.{only}
 use Rattle.numbers.specs.Word.{bit}
 use Rattle.numbers.proofs.Word.{bit-and}
-use Rattle.flow.proofs.Words.{bit-xor}
+use Rattle.loads.proofs.Words.{bit-xor}
 use Rattle.interval.proofs.on_ring.Statement.{statement}
 use Rattle.interval.proofs.on_ring.Tie as tie
 

@@ -12,8 +12,8 @@ use Rattle.numbers.proofs.Word.{bit-word}
 use Rattle.rules.specs.Bounds.{max-rows}
 use Rattle.loads.specs.Loads.{share-most}
 use Rattle.loads.proofs.Comparing.{word-zero, word-more}
-use Rattle.flow.proofs.Network.{put-set}
-use Rattle.choice.proofs.Filling.{extend}
+use Rattle.loads.proofs.Network.{put-set}
+use Rattle.interval.proofs.Filling.{extend}
 use Rattle.interval.proofs.part_shares.Statement.{statement}
 use Rattle.interval.proofs.part_shares.Tie as tie
 
@@ -48,7 +48,7 @@ share-is s = ap (λ (r : ℕ). r * start (s .before) .args .slots) (s .slots-at 
 share-fits : (s : tie.After-slots-at Inv-loop μ-loop) → s .slots-at .result * start (s .before) .args .slots ≤ share-most
 share-fits s =
     let t = s .before in
-    omega (arith, share-is s, start t .pre .4 (t .before .before .loop .i) (t .if1 .taken))
+    omega (arith, share-is s, start t .pre .4 (t .before .before .loop .i) (t .if1 .taken) .0)
 
 mul-share : tie.Need-mul-share Inv-loop μ-loop
 mul-share c = omega (arith, share-fits c)
@@ -85,6 +85,11 @@ mul-rest c = omega (arith, parted c, share-is (c .before), share-fits (c .before
 
 sub-rest : tie.Need-sub-rest Inv-loop μ-loop
 sub-rest c = omega (arith, parted c, share-is (c .before))
+
+cast-whole : tie.Need-cast-whole Inv-loop μ-loop
+cast-whole c =
+    let t = row c in
+    omega (arith, whole-is c, start t .pre .4 (t .before .before .loop .i) (t .if1 .taken) .1)
 
 mul-whole : tie.Need-mul-whole Inv-loop μ-loop
 mul-whole c = omega (arith, few (row c))
@@ -158,6 +163,7 @@ part-shares-spec =
     whole-of-requires
     mul-rest
     sub-rest
+    cast-whole
     mul-whole
     element-write-whole
     cast-part

@@ -12,10 +12,10 @@ use Rattle.numbers.specs.Lists.{at}
 use Rattle.numbers.specs.Word.{bit}
 use Rattle.numbers.proofs.Finite.{only-zero}
 use Rattle.rules.specs.Bounds.{max-rings}
-use Rattle.flow.proofs.Words.{and-both}
+use Rattle.loads.proofs.Words.{and-both}
 use Rattle.loads.specs.Loads.{digit, among, last}
-use Rattle.fold.specs.Rings.{onRing, ringCount, Chosen}
-use Rattle.fold.proofs.Product.{greatest-parts, rings-few, chosen-start, chosen-next, chosen-end}
+use Rattle.interval.specs.Rings.{onRing, ringCount, Chosen}
+use Rattle.interval.proofs.Product.{greatest-parts, rings-few, chosen-start, chosen-next, chosen-end}
 use Rattle.interval.proofs.round_rows.Statement.{statement}
 use Rattle.interval.proofs.round_rows.Tie as tie
 

@@ -46,6 +46,7 @@ use Rattle.live.specs.declared.Live.{Live}
 use Rattle.live.proofs.Live as T
 use Rattle.live.proofs.Live.Laws as T′
 use Rattle.kept_live.specs.InPlace.{FileToC}
+use Rattle.kept_live.proofs.Walks.{mach}
 use Rattle.kept_live.proofs.written as callee
 use Rattle.kept_live.proofs.written.Symbol as callee-def
 use Rattle.kept_live.proofs.written.Symbol.{name as #callee}
@@ -64,10 +65,6 @@ stayed = (
 -- the contract that the proof cites
 abbrev Cited : {M : Type 1} (𝓤 : URA M) (H : Heap 𝓤) (A : Atoms 𝓤) (at-mem : Memory → SProp 𝓤) (run : Routine → Fun 𝓤) → Contract 𝓤
 Cited 𝓤 H A at-mem run = tripleOf 𝓤 H A callee.signature (callee.spec 𝓤 H A at-mem run)
-
--- a live table's machine value
-abbrev mach : Live → Val
-mach d = LL.val T.the-type T′.the-laws d
 
 -- ---- the walk, for any live table h, version and bytes ys; of each borrow κ is the lifetime, q the share, b and o the place, γ the name
 

@@ -7,11 +7,11 @@ use Rattle.rules.specs.Bus.{Table}
 use Rattle.rules.specs.TableFile.{fileTable, fileLabelled}
 use Rattle.rules.specs.Refusals.{Answers, given-checks, one-ring-checks}
 use Rattle.table.specs.Sound.{Sound}
-use Rattle.table.specs.Columns.{columnTable}
+use Rattle.table.specs.Columns.{tableOf}
 use Rattle.pasted.proofs.AsGiven.{given-passed}
 use Rattle.pasted.proofs.OneRing.{one-ring-none, one-ring}
 use Rattle.outline.proofs.Outlined.{answers-zero}
-use Rattle.limited.proofs.Checked.{one-ring-columns, within-held, limits-wrong, limits-low, limits-given, limits-past}
+use Rattle.limited.proofs.Checked.{within-held, limits-wrong, limits-low, limits-given, limits-past}
 use Rattle.limited.proofs.analyse.Statement.{statement}
 use Rattle.limited.proofs.analyse.Tie as tie
 
@@ -35,15 +35,10 @@ checked c =
 
 -- the table that is handed on
 abbrev table : tie.Else2 → Table
-table c =
-    let u = taken c .given-one-ring .result .columns in
-    columnTable (u .elements) (u .rows) 1 (u .cost) (u .period) (u .first) (u .second) (u .way)
+table c = tableOf (taken c .given-one-ring .result .columns)
 
 held : (c : tie.Else2) → table c ≡ fileTable (bytes c)
-held c =
-    let g = taken c .given-one-ring in
-    let h = g .ensures .passed (c .if2 .left) .table in
-    one-ring-columns (g .result .columns) (ap (λ (t : Table). t .rings) h ∙ one-ring (bytes c) _ (checked c)) h
+held c = taken c .given-one-ring .ensures .passed (c .if2 .left) .table
 
 sound : (c : tie.Else2) → Sound (table c)
 sound c = rw (held c) (given-passed (bytes c) (one-ring-none (bytes c) _ (checked c)) .sound)
@@ -83,15 +78,15 @@ returns-2 c =
 
 analysis-within-requires : tie.Need-analysis-within-requires
 analysis-within-requires c κs =
-    let d = c .before .before .before .before .before .before .before in
+    let d = c .before .before .before in
     let e = taken d .before in
     let a = start d .args in
     let low = limits-low (a .file .now) (a .limits .ours) (a .limits .theirs) (e .before .are-wrong .ensures) (e .if1 .left) in
-    (sound d, low .0, low .1)
+    (sound d, ap (λ (t : Table). t .rings) (held d) ∙ one-ring (bytes d) _ (checked d), low .0, low .1)
 
 returns-3 : tie.Need-returns-3
 returns-3 c =
-    let d = c .before .before .before .before .before .before .before .before in
+    let d = c .before .before .before .before in
     let g = taken d .given-one-ring in
     let e = taken d .before in
     let a = start d .args in

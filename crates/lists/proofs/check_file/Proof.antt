@@ -5,6 +5,7 @@ use native.Mathlib.Omega.{arith}
 use borrow.Author.Needs.{needs}
 use Rattle.rules.proofs.Answers.{None, none-of}
 use Rattle.lists.specs.Entries.{head-checks}
+use Rattle.lists.proofs.Entries.{first-few}
 use Rattle.lists.proofs.Heads.{head-numbered, head-passed, head-hyper, file-stopped, file-joined}
 use Rattle.lists.proofs.check_file.Statement.{statement}
 use Rattle.lists.proofs.check_file.Tie as tie
@@ -29,16 +30,21 @@ returns c =
 of-requires : tie.Need-of-requires
 of-requires c κs = head-passed (bytes c) (none c) .long
 
-check-entries-in-requires : tie.Need-check-entries-in-requires
-check-entries-in-requires c κs =
-    let o = c .of .ensures in
-    let z = c .before in
-    (omega (arith, o .entries, head-passed (bytes z) (none z) .size), omega (arith, o .hyper, head-hyper (bytes z) (none z)))
+first-wrong-in-requires : tie.Need-first-wrong-in-requires
+first-wrong-in-requires c κs = omega (arith, c .of .ensures .entries, head-passed (bytes (c .before)) (none (c .before)) .size)
+
+check-entries-requires : tie.Need-check-entries-requires
+check-entries-requires c κs =
+    let z = c .before .before in
+    omega (arith, first-few (c .first-wrong-in .ensures), c .before .of .ensures .hyper, head-hyper (bytes z) (none z))
 
 returns-2 : tie.Need-returns-2
 returns-2 c =
-    let o = c .before .of .ensures in
-    file-joined _ _ _ (none (c .before .before)) (rw (o .entries, o .hyper) at (c .check-entries-in .ensures))
+    let o = c .before .before .of .ensures in
+    let F = c .before .first-wrong-in .ensures in
+    file-joined _ _ _ (none (c .before .before .before)) (rw (o .entries, o .hyper) at (c .check-entries .ensures _ F))
 
 pub check-file-spec : {M : Type 1} → statement M
-check-file-spec = tie.close (tie.spec head-fault-requires at-requires returns of-requires check-entries-in-requires returns-2)
+check-file-spec =
+    tie.close
+    (tie.spec head-fault-requires at-requires returns of-requires first-wrong-in-requires check-entries-requires returns-2)

@@ -5,6 +5,7 @@ use borrow.Author.Needs.{needs}
 use Rattle.rules.specs.ElementList.{memoryList}
 use Rattle.rules.specs.Refusals.{wrong-list}
 use Rattle.rules.proofs.Answers.{None, none-of}
+use Rattle.lists.proofs.Entries.{first-few}
 use Rattle.lists.proofs.Heads.{bounds-numbered, bounds-hyper, memory-part, memory-bounds, memory-entries}
 use Rattle.lists.proofs.check_numbers.Statement.{statement}
 use Rattle.lists.proofs.check_numbers.Tie as tie
@@ -34,16 +35,21 @@ returns-2 c =
     rw (c .at2 .ensures .0, c .at2 .ensures .1)
     (memory-bounds _ _ _ (c .before .before .before .if1 .left) _ 0 (c .before .if2 .taken) (c .before .before .bounds-fault .ensures))
 
-check-entries-of-requires : tie.Need-check-entries-of-requires
-check-entries-of-requires c κs =
-    let a = c .before .before .before .before .args in
-    (omega arith, bounds-hyper (memoryList (a .element) (a .hyper) (a .numbers .now)) (none c))
+first-wrong-of-requires : tie.Need-first-wrong-of-requires
+first-wrong-of-requires c κs = omega arith
+
+check-entries-requires : tie.Need-check-entries-requires
+check-entries-requires c κs =
+    let z = c .before in
+    let a = z .before .before .before .before .args in
+    omega (arith, first-few (c .first-wrong-of .ensures), bounds-hyper (memoryList (a .element) (a .hyper) (a .numbers .now)) (none z))
 
 returns-3 : tie.Need-returns-3
 returns-3 c =
-    memory-entries _ _ _ (c .before .before .before .if1 .left) _ _ (none (c .before)) (c .check-entries-of .ensures)
+    let z = c .before .before in
+    memory-entries _ _ _ (z .before .before .if1 .left) _ _ (none z) (c .check-entries .ensures _ (c .before .first-wrong-of .ensures))
 
 pub check-numbers-spec : {M : Type 1} → statement M
 check-numbers-spec =
     tie.close
-    (tie.spec at-requires returns bounds-fault-requires at-requires-2 returns-2 check-entries-of-requires returns-3)
+    (tie.spec at-requires returns bounds-fault-requires at-requires-2 returns-2 first-wrong-of-requires check-entries-requires returns-3)

@@ -10,9 +10,6 @@ use Rattle.lists.proofs.head_fault.Tie as tie
 returns : tie.Need-returns
 returns c = applied _ _ 1 0 (c .if1 .taken) refl refl
 
-array-read-begins : tie.Need-array-read-begins
-array-read-begins c = search needs
-
 begins-requires : tie.Need-begins-requires
 begins-requires c κs = search needs
 
@@ -61,7 +58,6 @@ head-fault-spec =
     tie.close
     (tie.spec
     returns
-    array-read-begins
     begins-requires
     returns-2
     read16-requires

@@ -1,87 +1,42 @@
 -- `lists::put_head` meets its contract.
+use mathlib.Core.Path.{ap, _∙_}
+use mathlib.Core.List.{List}
+use Prim.Native.Nat.{ℕ}
 use native.Mathlib.Omega.{arith}
-use lib.ListN.{length-set}
+use lib.ListN.{length, set, length-set}
+use lib.Seq.{sets, length-sets}
+use Rattle.rules.specs.TableFile.{write16}
 use borrow.Author.Needs.{needs}
 use Rattle.lists.proofs.put_head.Statement.{statement}
 use Rattle.lists.proofs.put_head.Tie as tie
 
-array-read-out : tie.Need-array-read-out
-array-read-out c = search needs
+put-start-requires : tie.Need-put-start-requires
+put-start-requires c κs = search needs
 
 slice-write-out : tie.Need-slice-write-out
 slice-write-out c = search needs
 
-array-read-out-2 : tie.Need-array-read-out-2
-array-read-out-2 c = search needs
-
-slice-write-out-2 : tie.Need-slice-write-out-2
-slice-write-out-2 c = simp length-set (omega arith)
-
-array-read-out-3 : tie.Need-array-read-out-3
-array-read-out-3 c = search needs
-
-slice-write-out-3 : tie.Need-slice-write-out-3
-slice-write-out-3 c = simp length-set (omega arith)
-
-cast-out : tie.Need-cast-out
-cast-out c = search needs
-
-slice-write-out-4 : tie.Need-slice-write-out-4
-slice-write-out-4 c = simp length-set (omega arith)
-
-cast-out-2 : tie.Need-cast-out-2
-cast-out-2 c = search needs
-
-add-out : tie.Need-add-out
-add-out c = search needs
-
-slice-write-out-5 : tie.Need-slice-write-out-5
-slice-write-out-5 c = simp length-set (omega arith)
-
-slice-write-out-6 : tie.Need-slice-write-out-6
-slice-write-out-6 c = simp length-set (omega arith)
-
-cast-out-3 : tie.Need-cast-out-3
-cast-out-3 c = search needs
-
-slice-write-out-7 : tie.Need-slice-write-out-7
-slice-write-out-7 c = simp length-set (omega arith)
-
-cast-out-4 : tie.Need-cast-out-4
-cast-out-4 c = search needs
-
-add-out-2 : tie.Need-add-out-2
-add-out-2 c = search needs
-
-slice-write-out-8 : tie.Need-slice-write-out-8
-slice-write-out-8 c = simp length-set (omega arith)
+put16-requires : tie.Need-put16-requires
+put16-requires c κs = simp length-set (omega arith)
 
 same-length : tie.Need-same-length
-same-length c = simp length-set
+same-length c =
+    let s = c .before .before .before .before .before .before .put-start .ensures in
+    ap length (c .before .before .put16 .ensures) ∙ simp (length-sets, length-set) (ap length s ∙ simp length-sets)
 
 returns : tie.Need-returns
-returns c = search needs
+returns c =
+    let p = c .before .before .before .before .before .before in
+    let a = p .before .before .before .args in
+    c .before .before .put16 .ensures
+    ∙ ap (λ (l : List ℕ). sets (set l 5 (a .element)) 6 (write16 (a .hyper))) (p .put-start .ensures)
 
 pub put-head-spec : {M : Type 1} → statement M
 put-head-spec =
     tie.close
     (tie.spec
-    array-read-out
+    put-start-requires
     slice-write-out
-    array-read-out-2
-    slice-write-out-2
-    array-read-out-3
-    slice-write-out-3
-    cast-out
-    slice-write-out-4
-    cast-out-2
-    add-out
-    slice-write-out-5
-    slice-write-out-6
-    cast-out-3
-    slice-write-out-7
-    cast-out-4
-    add-out-2
-    slice-write-out-8
+    put16-requires
     same-length
     returns)

@@ -5,7 +5,7 @@ use native.Mathlib.Omega.{arith}
 use borrow.Author.Needs.{needs}
 use Rattle.numbers.specs.Lists.{at}
 use Rattle.rules.specs.Bounds.{max-elements}
-use Rattle.seats.proofs.Seats.{Upto, upto-start, upto-next, upto-end, upto-stop}
+use Rattle.live.proofs.Seated.{Upto, upto-start, upto-next, upto-end, upto-stop}
 use Rattle.live.proofs.are_same.Statement.{statement}
 use Rattle.live.proofs.are_same.Tie as tie
 

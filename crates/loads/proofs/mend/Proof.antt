@@ -9,8 +9,8 @@ use Rattle.numbers.specs.Finite.{sum}
 use Rattle.numbers.specs.Lists.{at}
 use Rattle.numbers.specs.Word.{bit}
 use Rattle.numbers.proofs.Word.{bit-zero}
-use Rattle.flow.specs.Way.{Narrow, Sought}
-use Rattle.flow.proofs.Words.{in-first}
+use Rattle.loads.specs.Way.{Narrow, Sought}
+use Rattle.loads.proofs.Words.{in-first}
 use Rattle.loads.specs.Loads.{last, digit}
 use Rattle.loads.specs.Line.{carried, line}
 use Rattle.loads.specs.State.{over, Asked, State}
@@ -168,8 +168,8 @@ loop-less c =
       t,
       need-is (q .1) (p .before .before .loop .s .top),
       need-is (q .1) top',
-      ap (λ (z : ℕ). sum (a .size .sets) (λ k. at (a .sum .now) k / a .size .hyper - ones (bitAnd z (over (at (a .out .now)) (at (a .into .now)) (suc k)))))
-          (c .compare .ensures .1),
+      ap (λ (z : ℕ). sum (a .size .sets) (λ k. at (a .sum .now) k / a .size .hyper
+          - ones (bitAnd z (over (at (a .out .now)) (at (a .into .now)) (suc k))))) (c .compare .ensures .1),
     )
 
 loop-again : tie.Need-loop-again Inv-loop μ-loop

@@ -8,8 +8,8 @@ use lib.Dec.{leb}
 use borrow.Author.Tests.{le-leb}
 use Rattle.numbers.specs.Lists.{at}
 use Rattle.numbers.specs.Word.{bit}
-use Rattle.flow.specs.Raised.{Settled}
-use Rattle.flow.proofs.Raising.{settle-start}
+use Rattle.loads.specs.Raised.{Settled}
+use Rattle.loads.proofs.Raising.{settle-start}
 use Rattle.loads.specs.Loads.{last, digit}
 use Rattle.loads.specs.Line.{carried, line}
 use Rattle.loads.specs.State.{Asked, State, Mended, Turn}

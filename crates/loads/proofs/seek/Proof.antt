@@ -5,7 +5,7 @@ use lib.Dec.{ltb}
 use borrow.Author.Tests.{not-true, not-false}
 use Rattle.numbers.specs.Lists.{at}
 use Rattle.rules.specs.Bounds.{max-elements}
-use Rattle.flow.proofs.Words.{bit-none, bit-some, bit-one-more}
+use Rattle.loads.proofs.Words.{bit-none, bit-some, bit-one-more}
 use Rattle.loads.specs.Loads.{digit}
 use Rattle.loads.proofs.Settling.{carried-circ}
 use Rattle.loads.proofs.States.{heads-are}
@@ -13,7 +13,7 @@ use Rattle.loads.proofs.Turning.{narrow-of, turn-still, turn-shown, tur
 use Rattle.loads.proofs.seek.Statement.{statement}
 use Rattle.loads.proofs.seek.Tie as tie
 
--- the row's ends are places
+-- the row's ends are nodes
 near : (z : tie.Start) → (at (z .args .head .now) (z .args .i) ≤ z .pre .1) × (at (z .args .tail .now) (z .args .i) ≤ z .pre .1)
 near z = let T = z .pre .4 in let e = T .ends .wired .ends (z .args .i) (T .row) in (e .1, e .0)
 

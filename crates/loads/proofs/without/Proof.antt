@@ -7,7 +7,7 @@ use Prim.Native.Nat.{ℕ, _*_, _%_, _^_}
 use lib.Dec.{eqb}
 use borrow.Author.Tests.{eq-eqb, ne-eqb}
 use Rattle.numbers.specs.Word.{bit}
-use Rattle.flow.proofs.Words.{bit-xor, bit-first, bit-odd, bit-even}
+use Rattle.loads.proofs.Words.{bit-xor, bit-first, bit-odd, bit-even}
 use Rattle.loads.proofs.without.Statement.{statement}
 use Rattle.loads.proofs.without.Tie as tie
 

@@ -33,7 +33,7 @@ returns : tie.Need-returns
 returns c =
     let m = c .before .before in
     let a = m .before .before .before .before .args in
-    mark-stops (a .file .now) (a .plan .now) (a .element) (c .before .at .result) (c .nothing .result) (c .nothing .ensures)
+    mark-stops (a .file .now) (a .plan .now) (a .element) (c .before .at .result) (c .nothing .result) (c .nothing .ensures .answer)
     (c .before .at .ensures) (m .before .has-other-mark .ensures .holds (m .if1 .taken))
 
 judge-requires : tie.Need-judge-requires
@@ -60,7 +60,7 @@ returns-2 c =
     let a = start j .args in
     judged-refused (bytes j) (a .plan .now) (a .element) (j .judge .result) _ (own j) (j .judge .ensures)
     (c .before .before .before .enum-told .given .1)
-    _ _ (c .before .before .number .ensures) (c .before .place .ensures) (c .nothing2 .result) (c .nothing2 .ensures)
+    _ _ (c .before .before .number .ensures) (c .before .place .ensures) (c .nothing2 .result) (c .nothing2 .ensures .answer)
 
 decode-requires : tie.Need-decode-requires
 decode-requires c κs = search needs

@@ -51,7 +51,7 @@ nothing-requires c κs = search needs
 returns : tie.Need-returns
 returns c =
     let f = c .before .before .before in
-    found-refused (f .fault .result) (c .nothing .result) (c .nothing .ensures) (c .before .if1 .taken) (checked f)
+    found-refused (f .fault .result) (c .nothing .result) (c .nothing .ensures .answer) (c .before .if1 .taken) (checked f)
 
 ending-at-requires : tie.Need-ending-at-requires
 ending-at-requires c κs = search needs

@@ -1,117 +1,86 @@
 -- `maker::make` meets its contract.
 use mathlib.Core.Path.{_≡_, ap, _∙_}
 use mathlib.Core.List.{List}
-use Prim.Native.Nat.{ℕ, _*_}
+use Prim.Native.Nat.{ℕ, _+_, _*_}
 use native.Mathlib.Omega.{arith}
 use lib.ListN.{length}
 use borrow.Author.Needs.{needs}
 use Rattle.rules.specs.TableFile.{fileTable}
-use Rattle.rules.specs.ElementList.{inMemory, listNumbers, movesList}
+use Rattle.rules.specs.ElementList.{entryNumbers, inMemory, listNumbers, movesList}
 use Rattle.rules.specs.Calls.{oneRingAsk, lent}
 use Rattle.lists.proofs.RoundTrip.{numbers-length}
-use Rattle.moves.specs.Words.{flat}
+use Rattle.maker.specs.Words.{flat}
 use Rattle.maker.specs.Finding.{Makeable}
-use Rattle.maker.proofs.Finding.{judged-numbered}
-use Rattle.maker.proofs.Answered.{numbers-are, made-refused, made-short, made-done}
+use Rattle.maker.proofs.Answered.{numbers-are, made-refused, made-done}
 use Rattle.maker.proofs.make.Statement.{statement}
 use Rattle.maker.proofs.make.Tie as tie
 
-abbrev start : tie.After-find-in → tie.Start
+abbrev start : tie.After-find-for → tie.Start
 start c = c .before .before .before .before
 
-abbrev bytes : tie.After-find-in → List ℕ
+abbrev bytes : tie.After-find-for → List ℕ
 bytes c = start c .args .file .now
 
-abbrev found : tie.Else1 → tie.After-find-in
+-- how many numbers are wanted
+wanted : (c : tie.After-find-for)
+    → let l = movesList (fileTable (bytes c)) (start c .args .element) (start c .args .plan .now) in
+    length (listNumbers l) ≡ 0 + entryNumbers * l .entries
+wanted c =
+    omega (arith, numbers-length (movesList (fileTable (bytes c)) (start c .args .element) (start c .args .plan .now)))
+
+abbrev found : tie.Else1 → tie.After-find-for
 found c = c .before .before .before
 
 ready : (c : tie.Else1)
     → let f = found c in
-    Makeable (fileTable (bytes f)) (start f .args .plan .now) (start f .args .element) (f .find-in .result)
-ready c = found c .find-in .ensures .ready (c .if1 .left)
+    Makeable (fileTable (bytes f)) (start f .args .plan .now) (start f .args .element) (f .find-for .result)
+ready c = found c .find-for .ensures .ready (c .if1 .left)
 
--- how many numbers are wanted
-wanted : (c : tie.Else1)
-    → let f = found c in
-    length (listNumbers (movesList (fileTable (bytes f)) (start f .args .element) (start f .args .plan .now)))
-    ≡ 3 * f .find-in .result .entries
-wanted c =
-    let f = found c in
-    let e = numbers-length (movesList (fileTable (bytes f)) (start f .args .element) (start f .args .plan .now)) in
-    omega (arith, e, ready c .entries)
+find-for-requires : tie.Need-find-for-requires
+find-for-requires c κs = search needs
 
-find-in-requires : tie.Need-find-in-requires
-find-in-requires c κs = search needs
-
-refused-requires : tie.Need-refused-requires
-refused-requires c κs = search needs
+made-of-requires : tie.Need-made-of-requires
+made-of-requires c κs = search needs
 
 returns : tie.Need-returns
 returns c =
     let f = c .before .before .before .before in
     let a = start f .args in
-    let r = c .refused .ensures in
-    rw (r .0, r .1, r .2)
-    (made-refused (oneRingAsk (bytes f)) (judged-numbered (bytes f)) (a .plan .now) (a .element) listNumbers (a .out .now) _ _
-    (f .find-in .ensures .answers) (c .before .if1 .taken))
-
-mul-if2 : tie.Need-mul-if2
-mul-if2 c = omega (arith, ready (c .before) .few)
-
-at-requires : tie.Need-at-requires
-at-requires c κs = search needs
-
-refused-requires-2 : tie.Need-refused-requires-2
-refused-requires-2 c κs = search needs
-
-returns-2 : tie.Need-returns-2
-returns-2 c =
-    let z = c .before .before .before .before in
-    let f = found z in
-    let a = start f .args in
-    let r = c .refused2 .ensures in
-    let o = c .before .at .ensures in
-    rw (r .0, r .1, r .2, o .0, o .1)
-    (made-short (oneRingAsk (bytes f)) (judged-numbered (bytes f)) (a .plan .now) (a .element) listNumbers (a .out .now) _ _
-    (f .find-in .ensures .answers) (z .if1 .left) (omega (arith, wanted z, c .before .before .if2 .taken)))
+    made-refused (oneRingAsk (bytes f)) (a .plan .now) (a .element) listNumbers (a .out .now) (wanted f) (f .find-for .ensures)
+    (c .made-of .ensures) (c .before .if1 .taken)
 
 put-numbers-requires : tie.Need-put-numbers-requires
 put-numbers-requires c κs =
-    let z = c .before .before .before in
+    let z = c .before in
     let R = ready z in
-    let e = ap length (R .moves) in
-    (R .long, R .short, R .clear, omega (arith, c .before .if2 .left, R .entries, e))
+    (R .long, R .short, R .clear, omega (arith, found z .find-for .ensures .enough (z .if1 .left), ap length (R .moves)))
+
+made-of-requires-2 : tie.Need-made-of-requires-2
+made-of-requires-2 c κs = search needs
 
 same-length : tie.Need-same-length
 same-length c = search needs
 
-returns-3 : tie.Need-returns-3
-returns-3 c =
-    let l = c .before .before .before .before in
-    let z = l .before .before in
+returns-2 : tie.Need-returns-2
+returns-2 c =
+    let p = c .before .before .before in
+    let z = p .before .before in
     let f = found z in
     let a = start f .args in
-    let R = ready z in
-    made-done (oneRingAsk (bytes f)) (judged-numbered (bytes f)) (a .plan .now) (a .element) listNumbers (a .out .now) _ _ _ _ _
-    (f .find-in .ensures .answers) (z .if1 .left) (λ m. omega (arith, wanted z, l .if2 .left)) (
-      R .hyper,
-      R .entries,
-      c .before .before .put-numbers .ensures
-          ∙ ap (λ (xs : List ℕ). lent xs (a .out .now))
-          (ap (flat inMemory) (R .moves) ∙ numbers-are (fileTable (bytes f)) (a .element) (a .plan .now)),
-    )
+    made-done (oneRingAsk (bytes f)) (a .plan .now) (a .element) listNumbers (a .out .now) (wanted f) (f .find-for .ensures)
+    (c .made-of2 .ensures) (z .if1 .left) _
+    (p .put-numbers .ensures
+    ∙ ap (λ (xs : List ℕ). lent xs (a .out .now))
+    (ap (flat inMemory) (ready z .moves) ∙ numbers-are (fileTable (bytes f)) (a .element) (a .plan .now)))
 
 pub make-spec : {M : Type 1} → statement M
 make-spec =
     tie.close
     (tie.spec
-    find-in-requires
-    refused-requires
+    find-for-requires
+    made-of-requires
     returns
-    mul-if2
-    at-requires
-    refused-requires-2
-    returns-2
     put-numbers-requires
+    made-of-requires-2
     same-length
-    returns-3)
+    returns-2)

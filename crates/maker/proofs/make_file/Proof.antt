@@ -1,143 +1,115 @@
 -- `maker::make_file` meets its contract.
 use mathlib.Core.Path.{_≡_, refl, ap, _∙_}
 use mathlib.Core.List.{List}
-use Prim.Native.Nat.{ℕ, _+_, _*_}
+use Prim.Native.Nat.{ℕ, _+_, _*_, _≤_}
 use native.Mathlib.Omega.{arith}
 use lib.ListN.{length}
 use lib.Seq.{length-sets}
 use borrow.Author.Needs.{needs}
 use Rattle.rules.specs.TableFile.{fileTable}
 use Rattle.rules.specs.Loads.{hyperperiod}
-use Rattle.rules.specs.ElementList.{listHeader, inFile, fileHead, elementMoves, listBytes, movesList}
+use Rattle.rules.specs.ElementList.{listHeader, entrySize, inFile, fileHead, elementMoves, listBytes, movesList}
 use Rattle.rules.specs.Calls.{oneRingAsk, lent}
 use Rattle.rules.proofs.Calls.{lent-headed}
 use Rattle.lists.proofs.RoundTrip.{bytes-length}
-use Rattle.moves.specs.Words.{flat}
+use Rattle.maker.specs.Words.{flat}
 use Rattle.maker.specs.Finding.{Makeable}
-use Rattle.maker.proofs.Finding.{judged-numbered}
-use Rattle.maker.proofs.Answered.{bytes-are, made-refused, made-short, made-done}
+use Rattle.maker.proofs.Answered.{bytes-are, made-refused, made-done}
 use Rattle.maker.proofs.make_file.Statement.{statement}
 use Rattle.maker.proofs.make_file.Tie as tie
 
-abbrev start : tie.After-find-in → tie.Start
+abbrev start : tie.After-find-for → tie.Start
 start c = c .before .before .before .before
 
-abbrev bytes : tie.After-find-in → List ℕ
+abbrev bytes : tie.After-find-for → List ℕ
 bytes c = start c .args .file .now
 
-abbrev found : tie.Else1 → tie.After-find-in
+-- how many bytes are wanted
+wanted : (c : tie.After-find-for)
+    → let l = movesList (fileTable (bytes c)) (start c .args .element) (start c .args .plan .now) in
+    length (listBytes l) ≡ listHeader + entrySize * l .entries
+wanted c =
+    omega (arith, bytes-length (movesList (fileTable (bytes c)) (start c .args .element) (start c .args .plan .now)))
+
+abbrev found : tie.Else1 → tie.After-find-for
 found c = c .before .before .before
 
 ready : (c : tie.Else1)
     → let f = found c in
-    Makeable (fileTable (bytes f)) (start f .args .plan .now) (start f .args .element) (f .find-in .result)
-ready c = found c .find-in .ensures .ready (c .if1 .left)
+    Makeable (fileTable (bytes f)) (start f .args .plan .now) (start f .args .element) (f .find-for .result)
+ready c = found c .find-for .ensures .ready (c .if1 .left)
 
--- how many bytes are wanted
-wanted : (c : tie.Else1)
-    → let f = found c in
-    length (listBytes (movesList (fileTable (bytes f)) (start f .args .element) (start f .args .plan .now)))
-    ≡ 8 + 4 * f .find-in .result .entries
-wanted c =
-    let f = found c in
-    let e = bytes-length (movesList (fileTable (bytes f)) (start f .args .element) (start f .args .plan .now)) in
-    omega (arith, e, ready c .entries)
+find-for-requires : tie.Need-find-for-requires
+find-for-requires c κs = search needs
 
-find-in-requires : tie.Need-find-in-requires
-find-in-requires c κs = search needs
-
-refused-requires : tie.Need-refused-requires
-refused-requires c κs = search needs
+made-of-requires : tie.Need-made-of-requires
+made-of-requires c κs = search needs
 
 returns : tie.Need-returns
 returns c =
     let f = c .before .before .before .before in
     let a = start f .args in
-    let r = c .refused .ensures in
-    rw (r .0, r .1, r .2)
-    (made-refused (oneRingAsk (bytes f)) (judged-numbered (bytes f)) (a .plan .now) (a .element) listBytes (a .out .now) _ _
-    (f .find-in .ensures .answers) (c .before .if1 .taken))
-
-mul-if2 : tie.Need-mul-if2
-mul-if2 c = omega (arith, ready (c .before) .few)
-
-add-if2 : tie.Need-add-if2
-add-if2 c = omega (arith, ready (c .before) .few)
-
-at-requires : tie.Need-at-requires
-at-requires c κs = search needs
-
-refused-requires-2 : tie.Need-refused-requires-2
-refused-requires-2 c κs = search needs
-
-returns-2 : tie.Need-returns-2
-returns-2 c =
-    let z = c .before .before .before .before in
-    let f = found z in
-    let a = start f .args in
-    let r = c .refused2 .ensures in
-    let o = c .before .at .ensures in
-    rw (r .0, r .1, r .2, o .0, o .1)
-    (made-short (oneRingAsk (bytes f)) (judged-numbered (bytes f)) (a .plan .now) (a .element) listBytes (a .out .now) _ _
-    (f .find-in .ensures .answers) (z .if1 .left) (omega (arith, wanted z, c .before .before .if2 .taken)))
+    made-refused (oneRingAsk (bytes f)) (a .plan .now) (a .element) listBytes (a .out .now) (wanted f) (f .find-for .ensures)
+    (c .made-of .ensures) (c .before .if1 .taken)
 
 cast-put-head : tie.Need-cast-put-head
-cast-put-head c = omega (arith, ready (c .before .before) .element-small)
+cast-put-head c = omega (arith, ready c .element-small)
 
 cast-put-head-2 : tie.Need-cast-put-head-2
-cast-put-head-2 c = omega (arith, ready (c .before .before .before) .short)
+cast-put-head-2 c = omega (arith, ready (c .before) .short)
+
+-- the head's room, and the entries'
+room : (c : tie.Else1)
+    → let f = found c in
+    listHeader + entrySize * movesList (fileTable (bytes f)) (start f .args .element) (start f .args .plan .now) .entries
+    ≤ length (start f .args .out .now)
+room c = found c .find-for .ensures .enough (c .if1 .left)
 
 put-head-requires : tie.Need-put-head-requires
-put-head-requires c κs = search needs
+put-head-requires c κs = omega (arith, room (c .before .before))
 
 put-bytes-requires : tie.Need-put-bytes-requires
 put-bytes-requires c κs =
-    let l = c .before .before .before .before .before .before in
-    let z = l .before .before in
-    let a = start (found z) .args in
+    let p = c .before .before .before in
+    let z = p .before .before .before in
+    let f = found z in
     let R = ready z in
-    let e = ap length (R .moves) in
-    let h = ap length (c .before .before .before .put-head .ensures)
-    ∙ length-sets (a .out .now) 0 (fileHead (a .element) (found z .find-in .result .hyper)) in
-    (R .long, R .short, R .clear, omega (arith, l .if2 .left, R .entries, e, h))
+    let h = ap length (p .put-head .ensures)
+    ∙ length-sets (start f .args .out .now) 0 (fileHead (start f .args .element) (f .find-for .result .hyper)) in
+    (R .long, R .short, R .clear, omega (arith, room z, ap length (R .moves), h))
+
+made-of-requires-2 : tie.Need-made-of-requires-2
+made-of-requires-2 c κs = search needs
 
 same-length : tie.Need-same-length
 same-length c = search needs
 
-returns-3 : tie.Need-returns-3
-returns-3 c =
-    let l = c .before .before .before .before .before .before .before .before .before in
-    let z = l .before .before in
+returns-2 : tie.Need-returns-2
+returns-2 c =
+    let b = c .before .before .before in
+    let p = b .before .before .before .before in
+    let z = p .before .before .before in
     let f = found z in
     let a = start f .args in
     let t = fileTable (bytes f) in
     let R = ready z in
-    let h = c .before .before .before .before .before .before .put-head .ensures in
-    let all = c .before .before .put-bytes .ensures in
-    made-done (oneRingAsk (bytes f)) (judged-numbered (bytes f)) (a .plan .now) (a .element) listBytes (a .out .now) _ _ _ _ _
-    (f .find-in .ensures .answers) (z .if1 .left) (λ m. omega (arith, wanted z, l .if2 .left)) (
-      R .hyper,
-      R .entries,
-      lent-headed (a .out .now) _ _ (fileHead (a .element) (hyperperiod t)) (flat inFile (elementMoves t (a .element) (a .plan .now)))
-          listHeader refl (omega (arith, l .if2 .left)) (rw (R .hyper) at h) (rw (R .moves) at all)
-          ∙ ap (λ (xs : List ℕ). lent xs (a .out .now)) (bytes-are t (a .element) (a .plan .now)),
-    )
+    made-done (oneRingAsk (bytes f)) (a .plan .now) (a .element) listBytes (a .out .now) (wanted f) (f .find-for .ensures)
+    (c .made-of2 .ensures) (z .if1 .left) _
+    (lent-headed (a .out .now) _ _ (fileHead (a .element) (hyperperiod t)) (flat inFile (elementMoves t (a .element) (a .plan .now)))
+    listHeader refl (omega (arith, room z)) (rw (R .hyper) at (p .put-head .ensures)) (rw (R .moves) at (b .put-bytes .ensures))
+    ∙ ap (λ (xs : List ℕ). lent xs (a .out .now)) (bytes-are t (a .element) (a .plan .now)))
 
 pub make-file-spec : {M : Type 1} → statement M
 make-file-spec =
     tie.close
     (tie.spec
-    find-in-requires
-    refused-requires
+    find-for-requires
+    made-of-requires
     returns
-    mul-if2
-    add-if2
-    at-requires
-    refused-requires-2
-    returns-2
     cast-put-head
     cast-put-head-2
     put-head-requires
     put-bytes-requires
+    made-of-requires-2
     same-length
-    returns-3)
+    returns-2)

@@ -52,6 +52,7 @@ shared-requires c κs =
     let k = c .before .before .before .before .before in
     let e = k .before .before in
     let d = decoded e in (
+      d .decode .result .columns .rows,
       met-routes (bytes d) (entry d .args .i) (entry d .args .j) (d .decode .result) (d .decode .ensures) (e .if1 .left),
       k .before .if2 .left,
       k .if3 .left,
@@ -65,7 +66,7 @@ returns-4 c =
     let e = l .before in
     let d = decoded e in
     met-done (bytes d) (entry d .args .i) (entry d .args .j) (d .decode .result) (d .decode .ensures) (e .if1 .left) (l .if2 .left) _ _ _
-    (k .if3 .left) (n .done .ensures) (c .shared .ensures)
+    (k .if3 .left) (n .done .ensures) (c .shared .ensures _)
 
 pub meet-spec : {M : Type 1} → statement M
 meet-spec =

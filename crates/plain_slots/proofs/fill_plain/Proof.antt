@@ -94,11 +94,8 @@ sub-i c = row-is c .0
 cast-i : tie.Need-cast-i Inv-loop2 μ-loop2 Inv-loop μ-loop
 cast-i c = record { fits = omega (arith, row-is c) }
 
-mul-place-row : tie.Need-mul-place-row Inv-loop2 μ-loop2 Inv-loop μ-loop
-mul-place-row c = record { fits = omega (arith, row-is c) }
-
-element-copy-out-place-row : tie.Need-element-copy-out-place-row Inv-loop2 μ-loop2 Inv-loop μ-loop
-element-copy-out-place-row c = omega (arith, row-is c)
+slots-at-requires : tie.Need-slots-at-requires Inv-loop2 μ-loop2 Inv-loop μ-loop
+slots-at-requires c κs = omega (arith, row-is c)
 
 place-row-requires : tie.Need-place-row-requires Inv-loop2 μ-loop2 Inv-loop μ-loop
 place-row-requires c κs =
@@ -122,7 +119,8 @@ loop2-again : tie.Need-loop2-again Inv-loop2 μ-loop2 Inv-loop μ-loop
 loop2-again c =
     let I = rows-of (c .before) in
     let l = I .before .loop2 in
-    let P = c .before .before .before .place-row .ensures in (
+    let d = c .before .before .before in
+    let P = rw (d .before .before .slots-at .ensures) at (d .place-row .ensures) in (
       kept-trans (l .inv .0) (P .kept),
       λ n O.
           let A = l .inv .1 n O in
@@ -171,8 +169,7 @@ fill-plain-spec =
     loop2-holds
     sub-i
     cast-i
-    mul-place-row
-    element-copy-out-place-row
+    slots-at-requires
     place-row-requires
     element-copy-out-r-2
     loop2-less

@@ -11,7 +11,7 @@ use Rattle.numbers.proofs.Word.{bit-zero}
 use Rattle.numbers.proofs.Finite.{any-of, any-none}
 use Rattle.rules.specs.Bounds.{max-rows}
 use Rattle.rules.specs.Line.{meet}
-use Rattle.flow.proofs.Words.{bit-one-more, in-first, fewer, one-of}
+use Rattle.loads.proofs.Words.{bit-one-more, in-first, fewer, one-of}
 use Rattle.plain_slots.proofs.is_free.Statement.{statement}
 use Rattle.plain_slots.proofs.is_free.Tie as tie
 

@@ -6,7 +6,7 @@ use lib.ListN.{length}
 use Rattle.rules.specs.Bus.{Table}
 use Rattle.rules.specs.Loads.{intervals}
 use Rattle.verdict.specs.Analysed.{Accepted}
-use Rattle.course.proofs.Accepted.{hyper-is}
+use Rattle.planner.proofs.CourseNumbers.{hyper-is}
 use Rattle.planner.proofs.Checks.{plan-short, plan-done}
 use Rattle.planner.proofs.Laying.{whole-plannable}
 use Rattle.planner.proofs.Answering.{plan-own, plan-answer}

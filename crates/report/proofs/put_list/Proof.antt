@@ -24,11 +24,11 @@ array-share-prefix-words c =
     let z = c .before .before in
     omega (arith, length-take (count z) (z .args .table .outline .words), found z .0)
 
-slice-aggregate-put-sets : tie.Need-slice-aggregate-put-sets
-slice-aggregate-put-sets c = sym (found (c .before .before .before) .0)
+slice-aggregate-put-words : tie.Need-slice-aggregate-put-words
+slice-aggregate-put-words c = sym (found (c .before .before .before) .0)
 
-put-sets-requires : tie.Need-put-sets-requires
-put-sets-requires c κs = let z = c .before .before .before .before in omega (arith, found z .0, found z .1, z .pre .2)
+put-words-requires : tie.Need-put-words-requires
+put-words-requires c κs = let z = c .before .before .before .before in omega (arith, found z .0, found z .1, z .pre .2)
 
 same-length : tie.Need-same-length
 same-length c = search needs
@@ -36,9 +36,9 @@ same-length c = search needs
 returns : tie.Need-returns
 returns c t A =
     let z = c .before .before .before .before .before .before .before in
-    let P = c .before .before .put-sets .ensures in
+    let P = c .before .before .put-words .ensures in
     (list z, A .outline .list, (P .0, omega (arith, P .1, found z .0, found z .1)))
 
 pub put-list-spec : {M : Type 1} → statement M
 put-list-spec =
-    tie.close (tie.spec array-share-prefix-words slice-aggregate-put-sets put-sets-requires same-length returns)
+    tie.close (tie.spec array-share-prefix-words slice-aggregate-put-words put-words-requires same-length returns)

@@ -36,11 +36,11 @@ plan-on-requires c κs = c .before .before .pre .0
 array-share-prefix-plan : tie.Need-array-share-prefix-plan
 array-share-prefix-plan c = let z = c .before in omega (arith, length-take (hyper z) (words z), found z .0)
 
-slice-aggregate-put-slots : tie.Need-slice-aggregate-put-slots
-slice-aggregate-put-slots c = sym (found (c .before .before) .0)
+slice-aggregate-put-words : tie.Need-slice-aggregate-put-words
+slice-aggregate-put-words c = sym (found (c .before .before) .0)
 
-put-slots-requires : tie.Need-put-slots-requires
-put-slots-requires c κs = let z = c .before .before .before in omega (arith, found z .0, found z .1, entry z .pre .2)
+put-words-requires : tie.Need-put-words-requires
+put-words-requires c κs = let z = c .before .before .before in omega (arith, found z .0, found z .1, entry z .pre .2)
 
 same-length : tie.Need-same-length
 same-length c = search needs
@@ -48,7 +48,7 @@ same-length c = search needs
 returns : tie.Need-returns
 returns c t A =
     let z = c .before .before .before .before .before .before in
-    let P = c .before .before .put-slots .ensures in
+    let P = c .before .before .put-words .ensures in
     (take (hyper z) (words z), found z .2 t A, (P .0, omega (arith, P .1, found z .0, found z .1)))
 
 pub put-plan-spec : {M : Type 1} → statement M
@@ -58,7 +58,7 @@ put-plan-spec =
     slice-aggregate-plan-on
     plan-on-requires
     array-share-prefix-plan
-    slice-aggregate-put-slots
-    put-slots-requires
+    slice-aggregate-put-words
+    put-words-requires
     same-length
     returns)

@@ -18,10 +18,10 @@ end-at-requires-2 : tie.Need-end-at-requires-2
 end-at-requires-2 c κs = search needs
 
 returns : tie.Need-returns
-returns c =
+returns c n =
     let b = c .before in
     let z = b .before .before .args in
-    let t = onRing (z .elements) (z .rows) (at (z .first .now)) (at (z .second .now)) (at (z .way .now)) in
+    let t = onRing (z .elements) n (at (z .first .now)) (at (z .second .now)) (at (z .way .now)) in
     no-segments t (z .i) (z .j) (λ e. c .if1 .taken (b .before .end-at .ensures ∙ e ∙ sym (b .end-at2 .ensures)))
 
 end-at-requires-3 : tie.Need-end-at-requires-3
@@ -33,7 +33,7 @@ end-at-requires-4 c κs = search needs
 row-segments-requires : tie.Need-row-segments-requires
 row-segments-requires c κs =
     let s = c .before .before .before .before .before in
-    omega (arith, s .pre .0 .starts (s .args .i) (s .pre .1), s .pre .0 .ends (s .args .i) (s .pre .1))
+    omega (arith, s .pre .1 .starts (s .args .i) (s .pre .2), s .pre .1 .ends (s .args .i) (s .pre .2))
 
 end-at-requires-5 : tie.Need-end-at-requires-5
 end-at-requires-5 c κs = search needs
@@ -44,17 +44,17 @@ end-at-requires-6 c κs = search needs
 row-segments-requires-2 : tie.Need-row-segments-requires-2
 row-segments-requires-2 c κs =
     let s = c .before .before .before .before .before .before .before .before in
-    omega (arith, s .pre .0 .starts (s .args .j) (s .pre .2), s .pre .0 .ends (s .args .j) (s .pre .2))
+    omega (arith, s .pre .1 .starts (s .args .j) (s .pre .3), s .pre .1 .ends (s .args .j) (s .pre .3))
 
 returns-2 : tie.Need-returns-2
-returns-2 c =
+returns-2 c n =
     let second = c .before in
     let first = second .before .before .before in
     let b = first .before .before .before in
     let z = b .before .before .args in
     let d = b .before .end-at .ensures in
     let e = b .end-at2 .ensures in
-    let t = onRing (z .elements) (z .rows) (at (z .first .now)) (at (z .second .now)) (at (z .way .now)) in
+    let t = onRing (z .elements) n (at (z .first .now)) (at (z .second .now)) (at (z .way .now)) in
     let one : second .before .before .row-segments .result
     ≡ rowSegments (z .elements) (at (z .way .now) (z .i)) (at (z .first .now) (z .i)) (at (z .second .now) (z .i)) =
     rw (d, first .before .end-at3 .ensures, first .end-at4 .ensures) at (second .before .before .row-segments .ensures) in

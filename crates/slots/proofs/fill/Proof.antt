@@ -178,11 +178,8 @@ cast-i c = record { fits = omega (arith, row-is c) }
 shl-row : tie.Need-shl-row Inv-slots μ-slots Inv-loop2 μ-loop2 Inv-loop μ-loop
 shl-row c = omega (arith, row-is c)
 
-mul-left : tie.Need-mul-left Inv-slots μ-slots Inv-loop2 μ-loop2 Inv-loop μ-loop
-mul-left c = record { fits = omega (arith, row-is c) }
-
-element-copy-out-left : tie.Need-element-copy-out-left Inv-slots μ-slots Inv-loop2 μ-loop2 Inv-loop μ-loop
-element-copy-out-left c = omega (arith, row-is c)
+slots-at-requires : tie.Need-slots-at-requires Inv-slots μ-slots Inv-loop2 μ-loop2 Inv-loop μ-loop
+slots-at-requires c κs = omega (arith, row-is c)
 
 slots-holds : tie.Need-slots-holds Inv-slots μ-slots Inv-loop2 μ-loop2 Inv-loop μ-loop
 slots-holds c =
@@ -191,7 +188,7 @@ slots-holds c =
       kept-none _ _,
       λ n f O.
           let A = l .inv .1 n f O in
-          turning-start A (r .0) refl (O .line (l .r - 1) (omega (arith, link-row (A .link))) .1),
+          rw (c .slots-at .ensures) (turning-start A (r .0) refl (O .line (l .r - 1) (omega (arith, link-row (A .link))) .1)),
     )
 
 -- ---- a stretch
@@ -277,7 +274,8 @@ longer : (c : TooLong) → slots-of (long-of c) .slots .s + slots-of (long-of c)
     < at (slots-of (long-of c) .slots .end) (slots-of (long-of c) .slots .k)
 longer c = omega (arith, c .if3 .taken, c .before .before .before .before .slot .ensures)
 
-middle : (c : TooLong) → (slots-of (long-of c) .slots .s + slots-of (long-of c) .slots .left < start-slots (slots-of (long-of c)) .args .slots)
+middle : (c : TooLong)
+    → (slots-of (long-of c) .slots .s + slots-of (long-of c) .slots .left < start-slots (slots-of (long-of c)) .args .slots)
     × (start-slots (slots-of (long-of c)) .args .slots ≤ max-slots)
     × (start-slots (slots-of (long-of c)) .args .slots ≤ length (slots-of (long-of c) .slots .words))
 middle c = let e = ends (long-of c) in (omega (arith, longer c), e .2, e .3)
@@ -356,7 +354,8 @@ slots-again-2 c =
           (ap (bitOr (at (l .words) (l .s))) (one-shl i (omega (arith, row-is (row-of L)))) ∙ ap (λ (v : ℕ). bitOr v (2 ^ i)) (sym away))
           (sym (fits .2))
           (sym (ap (λ (fs : List ℕ). at fs (l .k)) (P .afters)
-          ∙ getD-set-same (set (l .after) (i + 1) (at (l .after) (l .k))) (l .k) (i + 1) 0 (simp length-set (omega (arith, low L, sized L)))))
+          ∙ getD-set-same (set (l .after) (i + 1) (at (l .after) (l .k))) (l .k) (i + 1) 0
+          (simp length-set (omega (arith, low L, sized L)))))
           used .0,
     )
 
@@ -501,8 +500,7 @@ fill-spec =
     sub-i
     cast-i
     shl-row
-    mul-left
-    element-copy-out-left
+    slots-at-requires
     slots-holds
     mul-slot
     array-read-slot

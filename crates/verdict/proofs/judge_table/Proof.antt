@@ -9,7 +9,7 @@ use Rattle.table.specs.Columns.{columnTable}
 use Rattle.outline.specs.Layout.{Lies, LaidOut}
 use Rattle.outline.proofs.Cuts.{board-high}
 use Rattle.lags.proofs.Intervals.{shortest-le}
-use Rattle.weights.proofs.Weighing.{times-of, rates-are}
+use Rattle.verdict.proofs.Weighing.{times-of, rates-are}
 use Rattle.verdict.specs.Weighing.{Rest, Weighable, Weighs}
 use Rattle.verdict.proofs.Judging.{judged-first, judged-next, judged-admitted, values-small}
 use Rattle.verdict.proofs.judge_table.Statement.{statement}

@@ -7,9 +7,9 @@ use Rattle.rules.specs.Bus.{Table}
 use Rattle.rules.specs.Loads as loads
 use Rattle.table.specs.declared.Answer.{Answer}
 use Rattle.lags.proofs.Intervals.{hyperperiod-positive, shortest-positive, shortest-le}
-use Rattle.weights.proofs.Weighing.{times-of, rates-small}
+use Rattle.verdict.proofs.Weighing.{times-of, rates-small}
 use Rattle.verdict.specs.Weighing.{Rest, tableBy, Weighable}
-use Rattle.verdict.proofs.Weighing.{weighable-light, weighable-on-line, weighs-light, weighs-over, weighs-done}
+use Rattle.verdict.proofs.Weighed.{weighable-light, weighable-on-line, weighs-light, weighs-over, weighs-done}
 use Rattle.verdict.proofs.weigh.Statement.{statement}
 use Rattle.verdict.proofs.weigh.Tie as tie
 

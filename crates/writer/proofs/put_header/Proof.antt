@@ -1,67 +1,35 @@
 -- `writer::put_header` meets its contract.
-use native.Mathlib.Omega.{arith}
-use lib.ListN.{length-set}
+use mathlib.Core.Path.{ap}
+use mathlib.Core.List.{List}
+use Prim.Native.Nat.{ℕ}
+use lib.ListN.{set}
 use borrow.Author.Needs.{needs}
 use Rattle.writer.proofs.put_header.Statement.{statement}
 use Rattle.writer.proofs.put_header.Tie as tie
 
-array-read-out : tie.Need-array-read-out
-array-read-out c = search needs
+put-start-requires : tie.Need-put-start-requires
+put-start-requires c κs = search needs
 
 slice-write-out : tie.Need-slice-write-out
 slice-write-out c = search needs
 
-array-read-out-2 : tie.Need-array-read-out-2
-array-read-out-2 c = search needs
-
 slice-write-out-2 : tie.Need-slice-write-out-2
-slice-write-out-2 c = simp length-set (omega arith)
-
-slice-write-out-3 : tie.Need-slice-write-out-3
-slice-write-out-3 c = simp length-set (omega arith)
-
-cast-out : tie.Need-cast-out
-cast-out c = search needs
-
-slice-write-out-4 : tie.Need-slice-write-out-4
-slice-write-out-4 c = simp length-set (omega arith)
-
-cast-out-2 : tie.Need-cast-out-2
-cast-out-2 c = search needs
-
-add-out : tie.Need-add-out
-add-out c = search needs
-
-slice-write-out-5 : tie.Need-slice-write-out-5
-slice-write-out-5 c = simp length-set (omega arith)
-
-slice-write-out-6 : tie.Need-slice-write-out-6
-slice-write-out-6 c = simp length-set (omega arith)
-
-slice-write-out-7 : tie.Need-slice-write-out-7
-slice-write-out-7 c = simp length-set (omega arith)
+slice-write-out-2 c = search needs
 
 same-length : tie.Need-same-length
-same-length c = simp length-set
+same-length c = search needs
 
 returns : tie.Need-returns
-returns c = search needs
+returns c =
+    let a = c .before .before .before .before .before .args in
+    ap (λ (l : List ℕ). set (set l 5 (a .elements)) 6 (a .rows)) (c .before .before .put-start .ensures)
 
 pub put-header-spec : {M : Type 1} → statement M
 put-header-spec =
     tie.close
     (tie.spec
-    array-read-out
+    put-start-requires
     slice-write-out
-    array-read-out-2
     slice-write-out-2
-    slice-write-out-3
-    cast-out
-    slice-write-out-4
-    cast-out-2
-    add-out
-    slice-write-out-5
-    slice-write-out-6
-    slice-write-out-7
     same-length
     returns)

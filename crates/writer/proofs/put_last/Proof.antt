@@ -35,8 +35,8 @@ returns-2 c =
     let y = c .before in
     rw (last-label (y .before .before .args .version) (y .if1 .left) ∙ label-none (c .if2 .taken))
 
-put-label-requires : tie.Need-put-label-requires
-put-label-requires c κs =
+put16-requires : tie.Need-put16-requires
+put16-requires c κs =
     let x = c .before in
     let y = x .before in
     let z = y .before .before in
@@ -46,13 +46,13 @@ same-length-2 : tie.Need-same-length-2
 same-length-2 c = search needs
 
 returns-3 : tie.Need-returns-3
-unfolding lastOf
+unfolding lastOf writeLow
 returns-3 c =
     let x = c .before .before .before .before in
     let y = x .before in
     let z = y .before .before in
     rw (last-label (z .args .version) (y .if1 .left) ∙ label-two (x .if2 .left), ne-eqb (z .args .rings) max-rings (y .if1 .left))
-    (c .before .before .put-label .ensures)
+    (c .before .before .put16 .ensures)
 
 pub put-last-spec : {M : Type 1} → statement M
 put-last-spec =
@@ -62,6 +62,6 @@ put-last-spec =
     same-length
     returns
     returns-2
-    put-label-requires
+    put16-requires
     same-length-2
     returns-3)

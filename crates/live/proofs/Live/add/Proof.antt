@@ -16,7 +16,7 @@ use Rattle.rules.proofs.Answers.{None, none-of}
 use Rattle.table.specs.declared.Row.{Row}
 use Rattle.table.specs.Rows.{single}
 use Rattle.table.proofs.Faults.{faults-numbered, row-sound}
-use Rattle.seats.specs.Seats.{equal}
+use Rattle.live.specs.Seats.{equal}
 use Rattle.live.specs.State.{liveOf, entryOf, rowOf, PutIn}
 use Rattle.live.specs.Answers.{Sized}
 use Rattle.live.proofs.Answering.{answer-done, some-free, SeatNumber, add-off, add-fault, add-found, add-clear, add-long, add-done}

@@ -5,7 +5,7 @@ use borrow.Author.Needs.{needs}
 use borrow.Author.Tests.{not-true, not-false}
 use Rattle.numbers.proofs.Truth.{decides-yes}
 use Rattle.planner.specs.State.{lateAt}
-use Rattle.course.proofs.Accepted.{few-sets}
+use Rattle.planner.proofs.CourseNumbers.{few-sets}
 use Rattle.planner.proofs.Off.{off-late, off-spare-total, state-bounded, off-decided}
 use Rattle.planner.proofs.Planner.is_off.Statement.{statement}
 use Rattle.planner.proofs.Planner.is_off.Tie as tie

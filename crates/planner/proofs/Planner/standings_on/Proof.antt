@@ -6,7 +6,7 @@ use Rattle.rules.specs.Bus.{Table}
 use Rattle.rules.specs.Planner.{Off}
 use Rattle.verdict.specs.Analysed.{Accepted}
 use Rattle.planner.specs.State.{plannerOf, slotOf}
-use Rattle.course.proofs.Accepted.{timed}
+use Rattle.planner.proofs.CourseNumbers.{timed}
 use Rattle.planner.proofs.Off.{still-bounded, state-keeps, state-reached}
 use Rattle.planner.proofs.Checks.{standings-off, standings-done}
 use Rattle.planner.proofs.Answering.{standings-answer, standings-own}

@@ -12,7 +12,7 @@ use Rattle.lags.proofs.Intervals.{intervals-le}
 use Rattle.time.specs.Time.{Begins}
 use Rattle.verdict.specs.Analysed.{Accepted}
 use Rattle.planner.specs.State.{stageOf, plannerOf, slotOf}
-use Rattle.course.proofs.Accepted.{timed}
+use Rattle.planner.proofs.CourseNumbers.{timed}
 use Rattle.planner.proofs.Checks.{step-off, step-finished, step-short, step-done}
 use Rattle.planner.proofs.Laying.{due-begins, due-length, due-plannable}
 use Rattle.planner.proofs.Answering.{step-own, step-answer}

@@ -5,10 +5,11 @@ use native.Mathlib.Omega.{arith}
 use Rattle.numbers.specs.Lists.{at}
 use Rattle.rules.specs.Bus.{Table}
 use Rattle.rules.specs.Loads.{end}
-use Rattle.lags.proofs.Intervals.{end-is, even-end, end-le, end-far}
+use Rattle.lags.proofs.Intervals.{even-end, end-le}
 use Rattle.time.specs.declared.Time.{Time}
 use Rattle.time.specs.Time.{Timed, Begins}
-use Rattle.time.proofs.Periods.{periods-of, leading-is, leading-periods}
+use Rattle.time.proofs.Periods.{leading-is}
+use Rattle.time.proofs.Even.{past-fits, past-is}
 use Rattle.time.proofs.Time.next_end.Statement.{statement}
 use Rattle.time.proofs.Time.next_end.Tie as tie
 
@@ -30,14 +31,10 @@ returns c t k T B = even T B (c .if1 .taken)
 multiple-past-requires : tie.Need-multiple-past-requires
 multiple-past-requires c κs =
     let z = c .before .before .before in
-    let k = z .pre .1 in
-    let T = z .pre .2 in
-    let B = z .pre .3 in
-    let S = T .sound in
-    (leading-periods (T .leads) (periods-of S), omega (arith, T .short, B .here, end-far S k (B .in-range), end-le S k (B .in-range)))
+    past-fits (z .pre .2) (z .pre .3)
 
 returns-2 : tie.Need-returns-2
-returns-2 c t k T B = end-is (T .sound) (leading-is (T .leads)) k _ (rw (B .here) at (c .multiple-past .ensures))
+returns-2 c t k T B = past-is T B (c .multiple-past .ensures)
 
 pub next-end-spec : {M : Type 1} → statement M
 next-end-spec = tie.close (tie.spec add-result returns multiple-past-requires returns-2)

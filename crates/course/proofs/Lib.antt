@@ -1,4 +1,0 @@
-pub mod Accepted
-pub mod Course
-pub mod Laying
-pub mod Shares

@@ -1,2 +1,0 @@
-pub mod Plannable
-pub mod Course

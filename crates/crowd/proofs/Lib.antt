@@ -1,4 +1,0 @@
-pub mod Left
-pub mod Meet
-pub mod Asked
-pub mod Only

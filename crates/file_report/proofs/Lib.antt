@@ -1,0 +1,4 @@
+pub mod ListOnly
+pub mod Shown
+pub mod TextOnly
+pub mod Answers

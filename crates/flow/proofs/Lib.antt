@@ -1,5 +1,0 @@
-pub mod Network
-pub mod Cut
-pub mod Raising
-pub mod Words
-pub mod Ways

@@ -1,3 +1,0 @@
-pub mod Own
-pub mod Weighing
-pub mod Within

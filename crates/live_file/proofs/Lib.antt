@@ -1,3 +1,0 @@
-pub mod Present
-pub mod Only
-pub mod Given
