@@ -8,7 +8,7 @@
 // the hyperperiod and the entry count, and of the first all of the lent numbers, which were 9 before.
 use crate::tables::print_numbers;
 use cases::number_at;
-use cases::print;
+use crate::print;
 use lists::Entry;
 use lists::Head;
 use lists::Reading;

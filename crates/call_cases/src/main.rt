@@ -33,6 +33,17 @@ fn is_relayed(heading: &[u8]) -> bool {
     find(heading, 0, b'*') < heading.len()
 }
 
+// A word, and a space and a number for each of `numbers`.
+pub(crate) fn print(word: &[u8], numbers: &[u64]) {
+    io::write_all(STDOUT_FILENO, word);
+    let mut i: usize = 0;
+    while i < numbers.len() {
+        io::write_all(STDOUT_FILENO, b" ");
+        io::print_decimal(STDOUT_FILENO, numbers[i]);
+        i += 1;
+    }
+}
+
 fn end_line() {
     io::write_all(STDOUT_FILENO, b"\n");
 }

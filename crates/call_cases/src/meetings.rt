@@ -5,7 +5,7 @@
 //
 // For each a line is printed: call, name, number, place, and the word of the segments; for a set the word of its rows stands before that.
 use cases::number_at;
-use cases::print;
+use crate::print;
 
 pub(crate) fn meet_case(heading: &[u8], file: &[u8], given: &[u64]) {
     let r = meeting::meet(

@@ -8,7 +8,7 @@
 use crate::byte_at;
 use cases::find;
 use cases::number_at;
-use cases::print;
+use crate::print;
 use libc::STDOUT_FILENO;
 use planner::MovedOn;
 use planner::Planner;

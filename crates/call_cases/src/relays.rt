@@ -10,7 +10,7 @@ use crate::is_named;
 use crate::plans;
 use crate::verdicts;
 use cases::number_at;
-use cases::print;
+use crate::print;
 use planner::Planner;
 
 fn list(heading: &[u8], relay: usize, file: &[u8], words: &mut [u64]) {

@@ -12,7 +12,7 @@
 use crate::byte_at;
 use crate::lists_of;
 use cases::number_at;
-use cases::print;
+use crate::print;
 use reader::Reading;
 use table::Answer;
 

@@ -4,7 +4,7 @@
 //
 // For each a line is printed: name, number, place, the cuts of both rings, L, h, reported load and number of sets, the last six 0 on a
 // refusal. Before them stands the verdict on a file of no bytes.
-use cases::print;
+use crate::print;
 use libc::STDOUT_FILENO;
 use verdict::Verdict;
 

@@ -115,45 +115,27 @@ pub fn analysis_of<'a>(
         (columnTable elements rows rings (now (cost .entry)) (now (period .entry)) (now (first .entry)) (now (second .entry))
         (now (way .entry))) r ⌝ }
 {
-    let laid = outline::layout_of(elements, rows, rings, period, first, second, way);
-    let answer = laid.answer;
+    let outline = outline::outline_of(elements, rows, rings, period, first, second, way);
+    let answer = outline.answer;
     if answer.number != Answer::DONE {
         return Analysis::refused(answer);
     }
-    let time = laid.time;
-    let line_first = laid.line.first;
-    let line_second = laid.line.second;
-    let list = sets::list_sets(&line_first, &line_second, rows, laid.top);
     let mut rate = [0u16; Table::ROWS];
-    weights::put_rates(rows, time.hyper, cost, period, &mut rate);
+    weights::put_rates(rows, outline.time.hyper, cost, period, &mut rate);
     let weighing = weigh(
         rows,
-        laid.top,
-        time,
+        outline.top,
+        outline.time,
         cost,
         period,
-        &line_first,
-        &line_second,
+        &outline.first,
+        &outline.second,
         &rate,
     );
     let next = weighing.answer;
     if next.number != Answer::DONE {
         return Analysis::refused(next);
     }
-    let words = list.words;
-    let outline = Outline {
-        answer: answer,
-        elements: elements,
-        rows: rows,
-        cut: laid.cut,
-        other: laid.other,
-        top: laid.top,
-        time: time,
-        first: line_first,
-        second: line_second,
-        sets: list.count,
-        words: words,
-    };
     Analysis {
         outline: outline,
         load: weighing.load,

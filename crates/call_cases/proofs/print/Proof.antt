@@ -2,8 +2,8 @@
 use borrow.Author.Needs.{needs}
 use Prim.Native.Nat.{_-_, _≤_}
 use lib.ListN.{length}
-use Rattle.cases.proofs.print.Statement.{statement}
-use Rattle.cases.proofs.print.Tie as tie
+use Rattle.call_cases.proofs.print.Statement.{statement}
+use Rattle.call_cases.proofs.print.Tie as tie
 
 abbrev Inv-loop : tie.InvT-loop
 Inv-loop word numbers i₀ t4 i = i ≤ length numbers
