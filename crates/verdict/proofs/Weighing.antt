@@ -56,14 +56,10 @@ times-of s = record {
   cost-high = λ i l. s .row i l .cost-high;
 }
 
-module _ {e : Bool} (l : ℕ) (cost period : ℕ → ℕ) (i : ℕ) where
-  pub light-equal : e ≡ true → T (lightBy e l cost period i) → ⊥
-  unfolding lightBy
-  light-equal q h = refutes e (fst (not e) (ltb (cost i * l) (period i)) h) (of-true q)
-
-  pub light-differ : {a b : ℕ} → e ≡ false → a ≡ cost i → b ≡ period i → lightBy e l cost period i ≡ ltb (a * l) b
-  unfolding lightBy
-  light-differ q u v = rw (q, u, v)
+pub light-by : (e : Bool) (l : ℕ) (cost period : ℕ → ℕ) (i : ℕ) {a b : ℕ} → a ≡ cost i → b ≡ period i
+    → (not e && ltb (a * l) b) ≡ lightBy e l cost period i
+unfolding lightBy
+light-by e l cost period i u v = rw (u, v)
 
 pub light-is : (t : Table) {e : Bool} {l : ℕ} → e ≡ equalPeriods t → l ≡ shortest t → lightBy e l (t .cost) (t .period) ≡ light t
 unfolding lightBy light
@@ -86,7 +82,11 @@ pub weight-small : {n : ℕ} {xs : List ℕ} → Rates xs n → (w : ℕ) → we
 unfolding weight
 weight-small {n} {xs} S w = sumIn-most n (bit w) (at xs) max-slots (S .small)
 
--- ---- the lowest set over its bound
+-- ---- the lowest row or set that passes a test
+
+pub lowest-start : (p : ℕ → Bool) → 0 ≡ lowest 0 p
+unfolding lowest
+lowest-start p = refl
 
 pub lowest-next : (n : ℕ) (p : ℕ → Bool) → lowest (n + 1) p ≡ nextLowest (lowest n p) n (p n)
 unfolding nextLowest

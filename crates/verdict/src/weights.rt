@@ -33,63 +33,55 @@ fn jobs_in(hyper: u64, last: u64, jobs: u64, period: u64) -> u64
     hyper / period
 }
 
-// All rows' rates, the loads cost / period in units of 1 / h, written to `rate`, which is 0: a row has at most all h slots.
+// A row's cost × L is below its period, where periods differ.
+fn is_light(cost: u64, interval: u64, period: u64, equal: bool) -> bool
+    requires { ⌜ (cost ≤ max-slots) × (interval ≤ max-slots) ⌝ }
+    ensures { λ r. ⌜ r ≡ (not equal && ltb (cost * interval) period) ⌝ }
+{
+    if !equal {
+        return cost * interval < period;
+    }
+    false
+}
+
+// The lowest number that passes a test, one number on: `found` is the one below `n`, or `n` where there is none.
+fn lowest_next(found: usize, n: usize, passes: bool) -> usize
+    requires { ⌜ n < max-rows ⌝ }
+    ensures { λ r. ⌜ r ≡ nextLowest found n passes ⌝ }
+{
+    if found == n && !passes { n + 1 } else { found }
+}
+
+// All rows' rates, the loads cost / period in units of 1 / h, written to `rate`, which is 0: a row has at most all h slots. Gives the lowest
+// light row, the row count where there is none. All periods are equal exactly if L is h.
 pub fn put_rates<'a>(
     rows: usize,
     hyper: u64,
+    interval: u64,
     cost: &'a [u16; Table::ROWS],
     period: &'a [u16; Table::ROWS],
     rate: &mut [u16; Table::ROWS],
-)
-    requires { ⌜ Times rows (at (now cost)) (at (now period)) × (hyper ≤ max-slots) × (now rate ≡ replicate max-rows 0) ⌝ }
-    ensures { λ _. ⌜ ByRow rows (λ i. hyper / at (now (period .entry)) i * at (now (cost .entry)) i) (now (rate .exit)) ⌝ }
+) -> usize
+    requires { ⌜ Times rows (at (now cost)) (at (now period)) × (hyper ≤ max-slots) × (interval ≤ max-slots)
+        × (now rate ≡ replicate max-rows 0) ⌝ }
+    ensures { λ r. ⌜ ByRow rows (λ i. hyper / at (now (period .entry)) i * at (now (cost .entry)) i) (now (rate .exit))
+        × (r ≡ lowest rows (lightBy (eqb interval hyper) interval (at (now (cost .entry))) (at (now (period .entry))))) ⌝ }
 {
+    let equal = interval == hyper;
+    let mut light: usize = 0;
     let mut last: u64 = 1;
     let mut jobs = hyper;
     let mut i: usize = 0;
     while i < rows {
+        let own = table::slots_at(cost, i);
         let next = table::slots_at(period, i);
         jobs = jobs_in(hyper, last, jobs, next);
         last = next;
-        rate[i] = (jobs * table::slots_at(cost, i)) as u16;
+        rate[i] = (jobs * own) as u16;
+        light = lowest_next(light, i, is_light(own, interval, next, equal));
         i += 1;
     }
-}
-
-// A row's cost × L is below its period.
-fn is_light(cost: u64, interval: u64, period: u64) -> bool
-    requires { ⌜ (cost ≤ max-slots) × (interval ≤ max-slots) ⌝ }
-    ensures { λ r. ⌜ r ≡ ltb (cost * interval) period ⌝ }
-{
-    cost * interval < period
-}
-
-// The lowest row with cost × L below its period, where periods differ; the row count where there is none.
-pub fn lowest_light<'a>(
-    rows: usize,
-    cost: &'a [u16; Table::ROWS],
-    period: &'a [u16; Table::ROWS],
-    interval: u64,
-    equal: bool,
-) -> usize
-    requires { ⌜ Times rows (at (now cost)) (at (now period)) × (interval ≤ max-slots) ⌝ }
-    ensures { λ r. ⌜ r ≡ lowest rows (lightBy equal interval (at (now (cost .entry))) (at (now (period .entry)))) ⌝ }
-{
-    if equal {
-        return rows;
-    }
-    let mut i: usize = 0;
-    while i < rows {
-        if is_light(
-            table::slots_at(cost, i),
-            interval,
-            table::slots_at(period, i),
-        ) {
-            return i;
-        }
-        i += 1;
-    }
-    i
+    light
 }
 
 // ---- sets
@@ -109,14 +101,6 @@ fn larger(a: u64, b: u64) -> u64
     ensures { λ r. ⌜ r ≡ max a b ⌝ }
 {
     if a < b { b } else { a }
-}
-
-// The lowest number that passes a test, one number on: `found` is the one below `n`, or `n` where there is none.
-fn lowest_next(found: usize, n: usize, passes: bool) -> usize
-    requires { ⌜ n < max-rows ⌝ }
-    ensures { λ r. ⌜ r ≡ nextLowest found n passes ⌝ }
-{
-    if found == n && !passes { n + 1 } else { found }
 }
 
 // What is found of sets: how many there are, the lowest over its bound (their number where none is), and the largest load.

@@ -9,8 +9,10 @@ use Rattle.rules.specs.Bus.{Table}
 use Rattle.rules.specs.Refusals.{line-checks, bound-checks}
 use Rattle.table.specs.Columns.{columnTable}
 use Rattle.outline.specs.Outlined.{Outlined}
-use Rattle.verdict.proofs.Weighing.{times-of, rates-are}
-use Rattle.verdict.specs.Weighing.{Rest, Weighs}
+use Rattle.lags.proofs.Intervals.{shortest-le}
+use Rattle.verdict.proofs.Weighing.{times-of}
+use Rattle.verdict.proofs.Weighed.{rows-weighed}
+use Rattle.verdict.specs.Weighing.{Weighs}
 use Rattle.verdict.specs.Analysed.{Rated}
 use Rattle.verdict.proofs.Analysing.{analysed-first, analysed-after, line-none, rated-weighable, analysed-next, analysed-done}
 use Rattle.verdict.proofs.analysis_of.Statement.{statement}
@@ -20,12 +22,6 @@ abbrev table : tie.After-outline-of → Table
 table d =
     let a = d .before .args in
     columnTable (a .elements) (a .rows) (a .rings) (a .cost .now) (a .period .now) (a .first .now) (a .second .now) (a .way .now)
-
--- what weighing does not look at of it
-abbrev rest : tie.After-outline-of → Rest
-rest d =
-    let t = table d in
-    record { elements = t .elements; rings = t .rings; first = t .first; second = t .second; way = t .way }
 
 outlined : (d : tie.After-outline-of) → Outlined (line-checks (table d)) (table d) (d .outline-of .result)
 outlined d = d .outline-of .ensures (at (d .before .args .cost .now)) (d .before .pre)
@@ -43,36 +39,36 @@ returns c =
 
 -- the way back from the rates to the outline, and from the weights to the rates
 abbrev asked : tie.After-put-rates → tie.After-outline-of
-asked d = d .before .before .before .before .before
+asked d = d .before .before .before .before .before .before
 
 abbrev rates : tie.After-put-rates → List ℕ
-rates d = d .put-rates .last .1 .1 .1 .1 .0
+rates d = d .put-rates .last .1 .1 .1 .1 .1 .0
 
-rated : (d : tie.After-put-rates) → Rated (table (asked d)) (asked d .outline-of .result) (rates d)
+rated : (d : tie.After-put-rates) → Rated (table (asked d)) (asked d .outline-of .result) (d .put-rates .result) (rates d)
 rated d =
-    let e = d .before .before in
+    let e = d .before .before .before in
     let a = asked d in
     let F = outlined a .found (e .if1 .left) in
-    record { outlined = outlined a; passed = e .if1 .left; rate = rates-are (table a) (F .timed .hyper) (d .put-rates .ensures) }
+    record { outlined = outlined a; passed = e .if1 .left; weighed = rows-weighed (F .timed) (d .put-rates .ensures) }
 
 put-rates-requires : tie.Need-put-rates-requires
 put-rates-requires c κs =
-    let e = c .before in
+    let e = c .before .before in
     let T = outlined (e .before .before .before) .found (e .if1 .left) .timed in
-    (times-of (T .sound), omega (arith, T .hyper, T .short), refl)
+    (times-of (T .sound), omega (arith, T .hyper, T .short), omega (arith, T .interval, shortest-le (T .sound)), refl)
 
 weigh-requires : tie.Need-weigh-requires
 weigh-requires c κs =
-    let d = c .before .before .before .before .before in
-    (rest (asked d), rated-weighable (table (asked d)) (rated d))
+    let d = c .before .before .before .before in
+    (table (asked d), rated-weighable (table (asked d)) (rated d))
 
 abbrev weighed : tie.After-weigh → tie.After-put-rates
-weighed w = w .before .before .before .before .before .before
+weighed w = w .before .before .before .before .before
 
 weighs : (w : tie.After-weigh) → Weighs (table (asked (weighed w))) (w .weigh .result)
 weighs w =
     let a = asked (weighed w) in
-    w .weigh .ensures (rest a) (rated-weighable (table a) (rated (weighed w)))
+    w .weigh .ensures (table a) (rated-weighable (table a) (rated (weighed w)))
 
 refused-requires-2 : tie.Need-refused-requires-2
 refused-requires-2 c κs = search needs
