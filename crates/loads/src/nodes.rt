@@ -41,52 +41,57 @@ fn put(rows: u64, v: u8, to: &mut [u8; Table::ROWS])
     }
 }
 
-// Writes the node where each row starts, before its lowest set, to `tail`, which is 0. `left` are the rows that no set so far has.
-fn put_starts(rows: usize, sets: usize, words: &[u64; Table::ROWS], tail: &mut [u8; Table::ROWS])
-    requires { ⌜ (rows ≤ max-rows) × (sets ≤ max-elements) × (now tail ≡ replicate max-rows 0) ⌝ }
-    ensures { λ _. ⌜ ByRow rows (lowestSet sets (now (words .entry))) (now (tail .exit)) ⌝ }
+// Writes the node where each row starts, before its lowest set, to `tail`, and the rows that start at each node to `out`; both are 0.
+// `left` are the rows that no set so far has.
+fn put_starts(
+    rows: usize,
+    sets: usize,
+    words: &[u64; Table::ROWS],
+    tail: &mut [u8; Table::ROWS],
+    out: &mut [u64; NODES],
+)
+    requires { ⌜ (rows ≤ max-rows) × (sets ≤ max-elements) × (now tail ≡ replicate max-rows 0) × (now out ≡ replicate nodes-most 0) ⌝ }
+    ensures { λ _. ⌜ ByRow rows (lowestSet sets (now (words .entry))) (now (tail .exit))
+        × ByNode rows max-elements (at (now (tail .exit))) (at (now (out .exit))) ⌝ }
 {
     let mut left = all_rows(rows);
     let mut k: usize = 0;
     while k < sets {
         let here = left & words[k];
         put(here, k as u8, tail);
+        out[k] = out[k] | here;
         left = left ^ here;
         k += 1;
     }
     put(left, sets as u8, tail);
+    out[sets] = out[sets] | left;
 }
 
-// Writes the node where each row ends, after its highest set, to `head`, which is 0: the sets from the last on.
-fn put_stops(rows: usize, sets: usize, words: &[u64; Table::ROWS], head: &mut [u8; Table::ROWS])
-    requires { ⌜ (rows ≤ max-rows) × (sets ≤ max-elements) × (now head ≡ replicate max-rows 0) ⌝ }
-    ensures { λ _. ⌜ ByRow rows (λ i. suc (highestSet sets (now (words .entry)) i)) (now (head .exit)) ⌝ }
+// Writes the node where each row ends, after its highest set, to `head`, and the rows that end at each node to `into`; both are 0. The sets
+// from the last on.
+fn put_stops(
+    rows: usize,
+    sets: usize,
+    words: &[u64; Table::ROWS],
+    head: &mut [u8; Table::ROWS],
+    into: &mut [u64; NODES],
+)
+    requires { ⌜ (rows ≤ max-rows) × (sets ≤ max-elements) × (now head ≡ replicate max-rows 0)
+        × (now into ≡ replicate nodes-most 0) ⌝ }
+    ensures { λ _. ⌜ ByRow rows (λ i. suc (highestSet sets (now (words .entry)) i)) (now (head .exit))
+        × ByNode rows max-elements (at (now (head .exit))) (at (now (into .exit))) ⌝ }
 {
     let mut left = all_rows(rows);
     let mut k = sets;
     while k > 0 {
         let here = left & words[k - 1];
         put(here, k as u8, head);
+        into[k] = into[k] | here;
         left = left ^ here;
         k -= 1;
     }
     put(left, 1, head);
-}
-
-// ---- the rows of each node
-
-// Puts each row in the word of the node where it has its end; `words` are 0.
-fn sort_rows(end: &[u8; Table::ROWS], rows: usize, words: &mut [u64; NODES])
-    requires { ⌜ (rows ≤ max-rows) × ((i : ℕ) → i < rows → at (now end) i ≤ max-elements)
-        × (now words ≡ replicate nodes-most 0) ⌝ }
-    ensures { λ _. ⌜ ByNode rows max-elements (at (now (end .entry))) (at (now (words .exit))) ⌝ }
-{
-    let mut i: usize = 0;
-    while i < rows {
-        let v = end[i] as usize;
-        words[v] = words[v] | (1u64 << i);
-        i += 1;
-    }
+    into[1] = into[1] | left;
 }
 
 // ---- all of it
@@ -105,8 +110,6 @@ pub fn lay(
         × (now out ≡ replicate nodes-most 0) × (now into ≡ replicate nodes-most 0) ⌝ }
     ensures { λ _. ⌜ NodesOf rows sets (now (words .entry)) (now (tail .exit)) (now (head .exit)) (now (out .exit)) (now (into .exit)) ⌝ }
 {
-    put_starts(rows, sets, words, tail);
-    put_stops(rows, sets, words, head);
-    sort_rows(tail, rows, out);
-    sort_rows(head, rows, into);
+    put_starts(rows, sets, words, tail, out);
+    put_stops(rows, sets, words, head, into);
 }
