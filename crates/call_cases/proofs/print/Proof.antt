@@ -6,31 +6,25 @@ use Rattle.call_cases.proofs.print.Statement.{statement}
 use Rattle.call_cases.proofs.print.Tie as tie
 
 abbrev Inv-loop : tie.InvT-loop
-Inv-loop word numbers i₀ t4 i = i ≤ length numbers
+Inv-loop word numbers i₀ i = i ≤ length numbers
 
 abbrev μ-loop : tie.MeasureT-loop
-μ-loop word numbers i₀ t4 i = length numbers - i
+μ-loop word numbers i₀ i = length numbers - i
 
-write-all-requires : tie.Need-write-all-requires Inv-loop μ-loop
-write-all-requires c κs = search needs
+print-word-requires : tie.Need-print-word-requires Inv-loop μ-loop
+print-word-requires c κs = search needs
 
 loop-holds : tie.Need-loop-holds Inv-loop μ-loop
 loop-holds c = search needs
 
-slice-aggregate-write-all : tie.Need-slice-aggregate-write-all Inv-loop μ-loop
-slice-aggregate-write-all c = search needs
+mul-print-number : tie.Need-mul-print-number Inv-loop μ-loop
+mul-print-number c = search needs
 
-write-all-requires-2 : tie.Need-write-all-requires-2 Inv-loop μ-loop
-write-all-requires-2 c κs = search needs
+shared-slice-read-print-number : tie.Need-shared-slice-read-print-number Inv-loop μ-loop
+shared-slice-read-print-number c = search needs
 
-mul-print-decimal : tie.Need-mul-print-decimal Inv-loop μ-loop
-mul-print-decimal c = search needs
-
-shared-slice-read-print-decimal : tie.Need-shared-slice-read-print-decimal Inv-loop μ-loop
-shared-slice-read-print-decimal c = search needs
-
-print-decimal-requires : tie.Need-print-decimal-requires Inv-loop μ-loop
-print-decimal-requires c κs = search needs
+print-number-requires : tie.Need-print-number-requires Inv-loop μ-loop
+print-number-requires c κs = search needs
 
 add-i : tie.Need-add-i Inv-loop μ-loop
 add-i c = search needs
@@ -50,13 +44,11 @@ print-spec =
     (tie.spec
     Inv-loop
     μ-loop
-    write-all-requires
+    print-word-requires
     loop-holds
-    slice-aggregate-write-all
-    write-all-requires-2
-    mul-print-decimal
-    shared-slice-read-print-decimal
-    print-decimal-requires
+    mul-print-number
+    shared-slice-read-print-number
+    print-number-requires
     add-i
     loop-less
     loop-again
