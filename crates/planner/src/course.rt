@@ -60,7 +60,6 @@ pub fn plan_intervals(
     let even = time::has_shortest(&time.period, time.count, time.interval);
     let inverse = interval::inverse_of(time.hyper);
     let mut load = [0u16; Table::ROWS];
-    let mut whole = [0u16; Table::ROWS];
     let mut part = [0u32; Table::ROWS];
     let mut after = totals;
     let mut slot = from;
@@ -68,7 +67,7 @@ pub fn plan_intervals(
     while slot < until {
         let end = time::end_of(&time.period, time.count, time.interval, even, slot);
         let slots = (end - slot) as usize;
-        let parted = interval::part_shares(&table.rate, end, size, inverse, &mut whole, &mut part);
+        let parted = interval::part_shares(&table.rate, end, size, inverse, &mut load, &mut part);
         let rounded = interval::round_rows(
             folded.upper,
             &tail,
@@ -79,7 +78,7 @@ pub fn plan_intervals(
             &part,
             parted,
         );
-        interval::give(rounded, rows, &whole, &mut load, &mut after);
+        interval::give(rounded, rows, &mut load, &mut after);
         if plain {
             slots::fill_plain(
                 &table.outline.first,

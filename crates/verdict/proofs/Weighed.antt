@@ -4,7 +4,7 @@ use mathlib.Core.Bool.{Bool}
 use mathlib.Core.List.{List}
 use Prim.Native.Nat.{ℕ, _*_, _/_, _≤_, _<_}
 use native.Mathlib.Omega.{arith}
-use lib.Dec.{T, eqb}
+use lib.Dec.{T, ltb, eqb}
 use lib.ListN.{length, take, length-take}
 use lib.Seq.{getD-take}
 use Rattle.numbers.specs.Finite.{lowest}
@@ -28,7 +28,7 @@ use Rattle.time.specs.Time.{Timed}
 use Rattle.time.specs.declared.Time.{Time}
 use Rattle.outline.proofs.Sets.{Ends, ends-on-line, ring-list}
 use Rattle.outline.proofs.Outlined.{answers-at}
-use Rattle.verdict.specs.Weights.{lightBy, Rates, weight, Weighed}
+use Rattle.verdict.specs.Weights.{Rates, weight, Weighed}
 use Rattle.verdict.proofs.Weighing.{weight-load, past-over, within-one, equal-is, light-is, rates-are, rates-small}
 use Rattle.verdict.specs.declared.Loaded.{Loaded}
 use Rattle.verdict.specs.Weighing.{RowsWeighed, Weighable, Weighs}
@@ -72,10 +72,13 @@ module _ {t : Table} {c : Time} (C : Timed t c) where
   equal = rw (C .interval, C .hyper) (equal-is (C .sound))
 
   pub rows-weighed : {i : ℕ} {xs : List ℕ} → ByRow (t .rows) (λ j. c .hyper / t .period j * t .cost j) xs
-      × (i ≡ lowest (t .rows) (lightBy (eqb (c .interval) (c .hyper)) (c .interval) (t .cost) (t .period))) → RowsWeighed t i xs
+      × (i ≡ lowest (t .rows) (λ j. ltb (t .cost j * c .interval) (t .period j))) → RowsWeighed t i xs
   rows-weighed e = record {
     rate = rates-are t (C .hyper) (e .0);
-    light-is = e .1 ∙ ap (lowest (t .rows)) (light-is t equal (C .interval));
+    light-is =
+        e .1
+        ∙ lowest-eq (t .rows) (λ j. ltb (t .cost j * c .interval) (t .period j)) (light t)
+        (λ j l. ap (λ (x : ℕ). ltb (t .cost j * x) (t .period j)) (C .interval) ∙ light-is (C .sound) j l);
   }
 
 -- ---- the table that is weighed

@@ -9,6 +9,7 @@ use native.Mathlib.Nat.{le-of-dvd, eq-or-lt-of-le, mul-le-mul, mul-le-mul-right,
 use native.Mathlib.Omega.{arith}
 use lib.Dec.{T, ltb, eqb, eqb→eq, lt→ltb}
 use borrow.Author.Count.{below-more}
+use borrow.Author.Tests.{le-ltb}
 use Rattle.numbers.specs.Finite.{every, lowest, largest}
 use Rattle.numbers.specs.Word.{bit}
 use Rattle.numbers.specs.Lists.{at}
@@ -23,7 +24,7 @@ use Rattle.table.specs.Columns.{ByRow}
 use Rattle.sets.proofs.Sums.{sum-none}
 use Rattle.lags.proofs.Intervals.{period-divides, hyperperiod-positive, shortest-positive, shortest-low, rate-period, rate-le}
 use Rattle.lags.proofs.Intervals.{equal-shortest, equal-hyperperiod}
-use Rattle.verdict.specs.Weights.{Times, lightBy, Rates, weight, nextLowest, Weighed}
+use Rattle.verdict.specs.Weights.{Times, Rates, weight, nextLowest, Weighed}
 
 -- ---- equal periods
 
@@ -56,14 +57,19 @@ times-of s = record {
   cost-high = λ i l. s .row i l .cost-high;
 }
 
-pub light-by : (e : Bool) (l : ℕ) (cost period : ℕ → ℕ) (i : ℕ) {a b : ℕ} → a ≡ cost i → b ≡ period i
-    → (not e && ltb (a * l) b) ≡ lightBy e l cost period i
-unfolding lightBy
-light-by e l cost period i u v = rw (u, v)
-
-pub light-is : (t : Table) {e : Bool} {l : ℕ} → e ≡ equalPeriods t → l ≡ shortest t → lightBy e l (t .cost) (t .period) ≡ light t
-unfolding lightBy light
-light-is t p q = rw (p, q)
+-- where all periods are equal no cost × L is below one
+pub light-is : {t : Table} → Sound t → (i : ℕ) → i < t .rows → ltb (t .cost i * shortest t) (t .period i) ≡ light t i
+unfolding light
+light-is {t} s i l = go (equalPeriods t) refl
+  where
+    go : (e : Bool) → equalPeriods t ≡ e → ltb (t .cost i * shortest t) (t .period i) ≡ light t i
+    go true e =
+        let h : shortest t ≡ hyperperiod t = equal-shortest s (of-true e) ∙ sym (equal-hyperperiod s (of-true e)) in
+        let m : 1 * shortest t ≤ t .cost i * shortest t = mul-le-mul-right (shortest t) (s .row i l .cost-low) in
+        let p : t .period i ≤ t .cost i * shortest t =
+        omega (arith, h, m, le-of-dvd (hyperperiod-positive s) (period-divides s i l)) in
+        rw e (le-ltb (t .cost i * shortest t) (t .period i) p)
+    go false e = rw e refl
 
 -- ---- the rates
 

@@ -18,7 +18,7 @@ ghost use Rattle.rules.specs.Loads.{past};
 ghost use Rattle.table.specs.Columns.{ByRow};
 ghost use Rattle.sets.specs.Walk.{line-size};
 ghost use Rattle.sets.specs.Sets.{OnLine, SetWords};
-ghost use Rattle.verdict.specs.Weights.{Times, lightBy, Rates, nextLowest, SumsAt, Weighed};
+ghost use Rattle.verdict.specs.Weights.{Times, Rates, nextLowest, SumsAt, Weighed};
 
 // ---- rows
 
@@ -33,15 +33,12 @@ fn jobs_in(hyper: u64, last: u64, jobs: u64, period: u64) -> u64
     hyper / period
 }
 
-// A row's cost × L is below its period, where periods differ.
-fn is_light(cost: u64, interval: u64, period: u64, equal: bool) -> bool
+// A row's cost × L is below its period.
+fn is_light(cost: u64, interval: u64, period: u64) -> bool
     requires { ⌜ (cost ≤ max-slots) × (interval ≤ max-slots) ⌝ }
-    ensures { λ r. ⌜ r ≡ (not equal && ltb (cost * interval) period) ⌝ }
+    ensures { λ r. ⌜ r ≡ ltb (cost * interval) period ⌝ }
 {
-    if !equal {
-        return cost * interval < period;
-    }
-    false
+    cost * interval < period
 }
 
 // The lowest number that passes a test, one number on: `found` is the one below `n`, or `n` where there is none.
@@ -53,7 +50,7 @@ fn lowest_next(found: usize, n: usize, passes: bool) -> usize
 }
 
 // All rows' rates, the loads cost / period in units of 1 / h, written to `rate`, which is 0: a row has at most all h slots. Gives the lowest
-// light row, the row count where there is none. All periods are equal exactly if L is h.
+// light row, the row count where there is none: where all periods are equal L is one too, so that no cost × L is below it.
 pub fn put_rates<'a>(
     rows: usize,
     hyper: u64,
@@ -65,9 +62,8 @@ pub fn put_rates<'a>(
     requires { ⌜ Times rows (at (now cost)) (at (now period)) × (hyper ≤ max-slots) × (interval ≤ max-slots)
         × (now rate ≡ replicate max-rows 0) ⌝ }
     ensures { λ r. ⌜ ByRow rows (λ i. hyper / at (now (period .entry)) i * at (now (cost .entry)) i) (now (rate .exit))
-        × (r ≡ lowest rows (lightBy (eqb interval hyper) interval (at (now (cost .entry))) (at (now (period .entry))))) ⌝ }
+        × (r ≡ lowest rows (λ i. ltb (at (now (cost .entry)) i * interval) (at (now (period .entry)) i))) ⌝ }
 {
-    let equal = interval == hyper;
     let mut light: usize = 0;
     let mut last: u64 = 1;
     let mut jobs = hyper;
@@ -78,7 +74,7 @@ pub fn put_rates<'a>(
         jobs = jobs_in(hyper, last, jobs, next);
         last = next;
         rate[i] = (jobs * own) as u16;
-        light = lowest_next(light, i, is_light(own, interval, next, equal));
+        light = lowest_next(light, i, is_light(own, interval, next));
         i += 1;
     }
     light

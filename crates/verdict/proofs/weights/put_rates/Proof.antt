@@ -1,27 +1,27 @@
 -- put_rates: row after row's rate is put in its place; the jobs are those of the period before.
 use mathlib.Core.Path.{_≡_, sym, ap, ap₂, _∙_}
-use mathlib.Core.Bool.{Bool, not, _&&_}
+use mathlib.Core.Bool.{Bool}
 use Prim.Native.Nat.{ℕ, _-_, _*_, _/_, _≤_}
 use native.Mathlib.Nat.{div-one, div-mul-le-self, mul-le-mul-left}
 use native.Mathlib.Omega.{arith}
-use lib.Dec.{ltb, eqb}
+use lib.Dec.{ltb}
 use Rattle.numbers.specs.Finite.{lowest}
 use Rattle.numbers.specs.Lists.{at}
 use Rattle.rules.specs.Bounds.{max-slots}
 use Rattle.table.specs.Columns.{ByRow}
 use Rattle.table.proofs.ByRow.{by-row-start, by-row-put}
-use Rattle.verdict.specs.Weights.{lightBy, nextLowest}
-use Rattle.verdict.proofs.Weighing.{light-by, lowest-start, lowest-next}
+use Rattle.verdict.specs.Weights.{nextLowest}
+use Rattle.verdict.proofs.Weighing.{lowest-start, lowest-next}
 use Rattle.verdict.proofs.weights.put_rates.Statement.{statement}
 use Rattle.verdict.proofs.weights.put_rates.Tie as tie
 
 abbrev Inv-loop : tie.InvT-loop
-Inv-loop rows hyper interval cost period rate₀ equal₀ light₀ last₀ jobs₀ i₀ rate light last jobs i =
+Inv-loop rows hyper interval cost period rate₀ light₀ last₀ jobs₀ i₀ rate light last jobs i =
     (i ≤ rows) × ByRow i (λ k. hyper / at period k * at cost k) rate × (jobs ≡ hyper / last)
-    × (light ≡ lowest i (lightBy (eqb interval hyper) interval (at cost) (at period)))
+    × (light ≡ lowest i (λ k. ltb (at cost k * interval) (at period k)))
 
 abbrev μ-loop : tie.MeasureT-loop
-μ-loop rows hyper interval cost period rate₀ equal₀ light₀ last₀ jobs₀ i₀ rate light last jobs i = rows - i
+μ-loop rows hyper interval cost period rate₀ light₀ last₀ jobs₀ i₀ rate light last jobs i = rows - i
 
 loop-holds : tie.Need-loop-holds Inv-loop μ-loop
 loop-holds c = (omega arith, rw (c .pre .3) (by-row-start _), sym (div-one (c .args .hyper)), lowest-start _)
@@ -98,8 +98,7 @@ loop-again c =
     let j = q .before in
     let p = j .before in
     let u = p .before .before .before in
-    let a = u .before .args in
-    let light = lightBy (eqb (a .interval) (a .hyper)) (a .interval) (at (a .cost .now)) (at (a .period .now)) in (
+    let a = u .before .args in (
       omega arith,
       by-row-put _ (u .loop .inv .1) (omega arith)
           (ap₂ (λ (x y : ℕ). x * y) (j .jobs-in .ensures ∙ ap (λ (x : ℕ). a .hyper / x) (p .slots-at2 .ensures))
@@ -108,9 +107,8 @@ loop-again c =
       c .lowest-next .ensures
           ∙ ap₂ (λ (x : ℕ) (y : Bool). nextLowest x (u .loop .i) y) (u .loop .inv .3)
           (q .is-light .ensures
-          ∙ light-by (eqb (a .interval) (a .hyper)) (a .interval) (at (a .cost .now)) (at (a .period .now)) (u .loop .i) (p .before .slots-at .ensures)
-          (p .slots-at2 .ensures))
-          ∙ sym (lowest-next (u .loop .i) light),
+          ∙ ap₂ (λ (x y : ℕ). ltb (x * a .interval) y) (p .before .slots-at .ensures) (p .slots-at2 .ensures))
+          ∙ sym (lowest-next (u .loop .i) (λ k. ltb (at (a .cost .now) k * a .interval) (at (a .period .now) k))),
     )
 
 returns : tie.Need-returns Inv-loop μ-loop
