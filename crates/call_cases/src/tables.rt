@@ -7,19 +7,17 @@
 //     list NAME: room / bytes                                  the reader of lists of an element, likewise
 //     file NAME: 1 element hyperperiod room / numbers          the writer of such lists, likewise
 //
-// For each a line is printed: the call, the name, number and place, what the reader returned of the mark, the version, M and the row count,
-// or of the element, the hyperperiod and the entry count, and then all of the lent memory, which held 9s before.
-use crate::byte_at;
-use crate::lists_of;
+// For each is printed: number and place, what the reader returned of the mark, the version, M and the row count, or of the element, the
+// hyperperiod and the entry count, and then all of the lent memory.
+use crate::KEPT;
+use crate::MOST;
+use crate::print_answer;
+use crate::print_number;
+use crate::room;
 use cases::number_at;
-use cases::print;
 use reader::Reading;
 use table::Answer;
-
-// as much as a call is given, and is lent, at most
-const MOST: usize = 540;
-
-const KEPT: u8 = 9;
+ghost use Prim.Native.Nat.{_+_, _≤_};
 
 fn wide(x: u16) -> u64 {
     x as u64
@@ -29,14 +27,10 @@ fn wide_byte(x: u8) -> u64 {
     x as u64
 }
 
-fn print_one(x: u64) {
-    print(b"", &[x]);
-}
-
 pub(crate) fn print_numbers(numbers: &[u16]) {
     let mut i: usize = 0;
     while i < numbers.len() {
-        print_one(wide(numbers[i]));
+        print_number(wide(numbers[i]));
         i += 1;
     }
 }
@@ -44,144 +38,115 @@ pub(crate) fn print_numbers(numbers: &[u16]) {
 fn print_bytes(bytes: &[u8]) {
     let mut i: usize = 0;
     while i < bytes.len() {
-        print_one(wide_byte(bytes[i]));
+        print_number(wide_byte(bytes[i]));
         i += 1;
     }
 }
 
+// How many numbers stand from place `k` on.
+fn after(given: &[u64], k: usize) -> usize
+    ensures { λ r. ⌜ r ≤ 540 ⌝ }
+{
+    if given.len() < k {
+        return 0;
+    }
+    let size = given.len() - k;
+    if size < MOST { size } else { MOST }
+}
+
 // ---- the reader
 
-fn read_by(heading: &[u8], file: &[u8], out: &mut [u16]) -> Reading {
-    if byte_at(heading, 0) == b'r' {
-        return reader::read(file, out);
-    }
-    reader::read_version_1(file, out)
-}
-
-fn read_table(heading: &[u8], file: &[u8], out: &mut [u16]) {
-    let r = read_by(heading, file, out);
-    print(heading, &[r.answer.number as u64, r.answer.place as u64]);
+fn print_table(r: Reading) {
+    print_answer(r.answer);
     let mark = r.mark;
     print_bytes(&mark);
-    print(
-        b"",
-        &[r.version, r.table.elements as u64, r.table.rows as u64],
-    );
-    print_numbers(out);
+    print_number(r.version);
+    print_number(r.table.elements as u64);
+    print_number(r.table.rows as u64);
 }
 
-fn read(heading: &[u8], file: &[u8], out: &mut [u16]) {
-    if byte_at(heading, 0) == b'l' {
-        lists_of::read(heading, file, out);
-        return;
+fn print_list(r: lists::Reading) {
+    print_answer(r.answer);
+    print_number(r.head.element as u64);
+    print_number(r.head.hyper as u64);
+    print_number(r.head.entries as u64);
+}
+
+fn read_by(letter: u8, file: &[u8], out: &mut [u16]) {
+    match letter {
+        b'r' => print_table(reader::read(file, out)),
+        b'v' => print_table(reader::read_version_1(file, out)),
+        _ => print_list(lists::read(file, out)),
     }
-    read_table(heading, file, out);
+}
+
+fn read(letter: u8, file: &[u8], out: &mut [u16]) {
+    read_by(letter, file, out);
+    print_numbers(out);
 }
 
 fn put_bytes(given: &[u64], out: &mut [u8]) {
     let mut i: usize = 0;
     while i < out.len() {
-        out[i] = (number_at(given, i) % 256) as u8;
+        out[i] = (number_at(given, i + 1) % 256) as u8;
         i += 1;
     }
 }
 
-fn read_front(heading: &[u8], file: &[u8], size: usize, out: &mut [u16], room: usize) {
-    if size > file.len() {
-        return;
-    }
-    if room > out.len() {
-        return;
-    }
-    read(heading, &file[..size], &mut out[..room]);
-}
-
-pub(crate) fn read_case(heading: &[u8], given: &[u64]) {
-    if given.len() < 1 {
-        return;
-    }
+pub(crate) fn read_case(letter: u8, given: &[u64]) {
     let mut file = [0u8; MOST];
-    put_bytes(&given[1..], &mut file);
+    put_bytes(given, &mut file);
+    let size = after(given, 1);
     let mut out = [KEPT as u16; MOST];
-    read_front(
-        heading,
-        &file,
-        given.len() - 1,
-        &mut out,
-        number_at(given, 0) as usize,
-    );
+    let lent = room(given, 0, MOST);
+    read(letter, &file[..size], &mut out[..lent]);
 }
 
 // ---- the writer
 
-fn write_by(heading: &[u8], mark: u8, given: &[u64], numbers: &[u16], out: &mut [u8]) -> Answer {
-    let version = number_at(given, 0);
-    let first = number_at(given, 1);
-    let second = number_at(given, 2);
-    if byte_at(heading, 0) == b'f' {
-        return lists::write(first, second, numbers, out);
+fn mark_end(lead: &[u64]) -> u8 {
+    if lead.len() == 0 {
+        return b'T';
     }
-    let bytes = [b'R', b'B', mark];
-    writer::write(&bytes, version, first, second, numbers, out)
+    (number_at(lead, 0) % 256) as u8
 }
 
-fn write(heading: &[u8], mark: u8, given: &[u64], numbers: &[u16], out: &mut [u8]) {
-    let answer = write_by(heading, mark, given, numbers, out);
-    print(heading, &[answer.number as u64, answer.place as u64]);
+fn write_table(mark: u8, given: &[u64], numbers: &[u16], out: &mut [u8]) -> Answer {
+    writer::write(
+        &[b'R', b'B', mark],
+        number_at(given, 0),
+        number_at(given, 1),
+        number_at(given, 2),
+        numbers,
+        out,
+    )
+}
+
+fn write_by(letter: u8, lead: &[u64], given: &[u64], numbers: &[u16], out: &mut [u8]) -> Answer {
+    if letter == b'f' {
+        return lists::write(number_at(given, 1), number_at(given, 2), numbers, out);
+    }
+    write_table(mark_end(lead), given, numbers, out)
+}
+
+fn write(letter: u8, lead: &[u64], given: &[u64], numbers: &[u16], out: &mut [u8]) {
+    print_answer(write_by(letter, lead, given, numbers, out));
     print_bytes(out);
 }
 
 fn put_numbers(given: &[u64], out: &mut [u16]) {
     let mut i: usize = 0;
     while i < out.len() {
-        out[i] = (number_at(given, i) % 65536) as u16;
+        out[i] = (number_at(given, i + 4) % 65536) as u16;
         i += 1;
     }
 }
 
-fn write_front(
-    heading: &[u8],
-    mark: u8,
-    given: &[u64],
-    numbers: &[u16],
-    size: usize,
-    out: &mut [u8],
-    room: usize,
-) {
-    if size > numbers.len() {
-        return;
-    }
-    if room > out.len() {
-        return;
-    }
-    write(heading, mark, given, &numbers[..size], &mut out[..room]);
-}
-
-fn write_marked(heading: &[u8], mark: u8, given: &[u64]) {
-    if given.len() < 4 {
-        return;
-    }
+pub(crate) fn write_case(letter: u8, lead: &[u64], given: &[u64]) {
     let mut numbers = [0u16; MOST];
-    put_numbers(&given[4..], &mut numbers);
+    put_numbers(given, &mut numbers);
+    let size = after(given, 4);
     let mut out = [KEPT; MOST];
-    write_front(
-        heading,
-        mark,
-        given,
-        &numbers,
-        given.len() - 4,
-        &mut out,
-        number_at(given, 3) as usize,
-    );
-}
-
-pub(crate) fn write_case(heading: &[u8], given: &[u64]) {
-    write_marked(heading, b'T', given);
-}
-
-pub(crate) fn other_case(heading: &[u8], given: &[u64]) {
-    if given.len() < 1 {
-        return;
-    }
-    write_marked(heading, (number_at(given, 0) % 256) as u8, &given[1..]);
+    let lent = room(given, 3, MOST);
+    write(letter, lead, given, &numbers[..size], &mut out[..lent]);
 }

@@ -1,6 +1,5 @@
-// Reads the cases of the case programs: a line each, with a heading, a colon, and numbers. Prints what the calls answer.
+// Reads the cases of the case programs: a line each, with a heading, a colon, and numbers.
 use decimal::put_bytes;
-use libc::STDOUT_FILENO;
 use table::Table;
 ghost use mathlib.Core.Path.{_≡_};
 ghost use mathlib.Core.Bool.{not, _&&_, cond};
@@ -206,17 +205,4 @@ pub fn table_file(board: bool, xs: &[u64], out: &mut [u8]) -> usize
     ];
     let next = put_bytes(&head, out, 0);
     put_rows(board, xs, rows, out, next)
-}
-
-// ---- what is printed
-
-// A word, and a space and a number for each of `numbers`.
-pub fn print(word: &[u8], numbers: &[u64]) {
-    io::write_all(STDOUT_FILENO, word);
-    let mut i: usize = 0;
-    while i < numbers.len() {
-        io::write_all(STDOUT_FILENO, b" ");
-        io::print_decimal(STDOUT_FILENO, numbers[i]);
-        i += 1;
-    }
 }

@@ -10,8 +10,8 @@ ghost use Prim.Native.Nat.{_+_, _*_, _≤_};
 ghost use lib.ListN.{length};
 ghost use Rattle.numbers.specs.Lists.{each};
 ghost use Rattle.rules.specs.ElementList.{move, entryNumbers, memoryEntry};
-ghost use Rattle.rules.specs.Program.{list, element, hyper, entry, ListPrinted};
-ghost use Rattle.decimal.specs.Puts.{limit, max-line, PutsLine, PutsLines};
+ghost use Rattle.rules.specs.Program.{list, entry, ListPrinted};
+ghost use Rattle.decimal.specs.Puts.{limit, lineOf, max-line, PutsLine, PutsLines};
 ghost use Rattle.file_report.specs.ListWritten.{Rendered, ListWrittenFor};
 
 // The program's input: room for one entry more than a list can have, and a byte, so that a still longer file is refused for its length.
@@ -30,18 +30,12 @@ fn put_answer(number: u32, place: u32, out: &mut [u8]) -> usize
     put_line(b"list", &[number as u64, place as u64], out, 0)
 }
 
-fn put_element(x: u64, out: &mut [u8], at: usize) -> usize
-    requires { ⌜ at + max-line ≤ limit ⌝ }
-    ensures { λ r. ⌜ PutsLine (element x) (now (out .entry)) at (now (out .exit)) r ⌝ }
+// A line of one number.
+fn put_number(word: &[u8], x: u64, out: &mut [u8], at: usize) -> usize
+    requires { ⌜ (length (now word) ≤ 8) × (at + max-line ≤ limit) ⌝ }
+    ensures { λ r. ⌜ PutsLine (lineOf (now (word .entry)) (x ∷ [])) (now (out .entry)) at (now (out .exit)) r ⌝ }
 {
-    put_line(b"element", &[x], out, at)
-}
-
-fn put_hyper(x: u64, out: &mut [u8], at: usize) -> usize
-    requires { ⌜ at + max-line ≤ limit ⌝ }
-    ensures { λ r. ⌜ PutsLine (hyper x) (now (out .entry)) at (now (out .exit)) r ⌝ }
-{
-    put_line(b"hyper", &[x], out, at)
+    put_line(word, &[x], out, at)
 }
 
 fn put_entry(slot: u16, row: u16, way: u16, out: &mut [u8], at: usize) -> usize
@@ -82,8 +76,8 @@ pub fn show(file: &[u8], out: &mut [u8]) -> usize
     if found.answer.number != Answer::DONE {
         return first;
     }
-    let second = put_element(found.head.element as u64, out, first);
-    let third = put_hyper(found.head.hyper as u64, out, second);
+    let second = put_number(b"element", found.head.element as u64, out, first);
+    let third = put_number(b"hyper", found.head.hyper as u64, out, second);
     put_entries(&numbers, found.head.entries, out, third)
 }
 

@@ -2,12 +2,12 @@
 // refusal a line.
 use decimal::put_bytes;
 use decimal::put_line;
-use fields::Spot;
-use fields::spot_of;
 use table::Answer;
 use table::Table;
 use table::rings_of;
 use table::row_bytes;
+use text_reader::Spot;
+use text_reader::spot_of;
 ghost use Prim.Native.Nat.{_≤_};
 ghost use Rattle.rules.specs.Text.{textOf};
 ghost use Rattle.decimal.specs.Puts.{Puts};

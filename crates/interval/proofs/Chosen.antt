@@ -23,7 +23,7 @@ use Rattle.lags.proofs.Intervals.{hyperperiod-positive, rate-le, end-le}
 use Rattle.lags.proofs.Lags.{row-lag, qualify-of}
 use Rattle.promises.proofs.Words.{words-placed}
 use Rattle.loads.specs.Loads.{inSet, Qualified}
-use Rattle.nodes.specs.Ranges.{lowestSet, highestSet}
+use Rattle.loads.specs.Ranges.{lowestSet, highestSet}
 use Rattle.interval.specs.Interval.{Moved}
 use Rattle.interval.proofs.RowSets.{set-rows}
 

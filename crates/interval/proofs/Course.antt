@@ -20,7 +20,7 @@ use Rattle.loads.proofs.Choice.{greatest-shift}
 use Rattle.interval.specs.Folded.{lowSets}
 use Rattle.interval.specs.Rings.{OnEach}
 use Rattle.interval.proofs.Unfolding.{unfolded-greatest}
-use Rattle.chains.specs.Chained.{ChainedRows}
+use Rattle.sets.specs.Chained.{ChainedRows}
 use Rattle.placing.specs.Filled.{FilledSlots}
 use Rattle.interval.specs.Interval.{Given}
 use Rattle.interval.specs.Ready.{Laid, Ready, Due, Advanced}

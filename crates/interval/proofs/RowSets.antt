@@ -28,12 +28,12 @@ use Rattle.sets.proofs.Transfer.{list-agree}
 use Rattle.lags.specs.Lags.{Admissible}
 use Rattle.loads.specs.Loads.{covers, inSet, last, digit, Spans}
 use Rattle.loads.proofs.Settling.{digit-on, digit-off}
+use Rattle.loads.specs.Ranges.{lowestSet, highestSet, Ranged}
 use Rattle.interval.specs.declared.fold.Folded.{Folded}
 use Rattle.interval.specs.Folded.{upperRows, lowSets, FoldedSets}
 use Rattle.interval.proofs.Unfolding.{ringSets}
-use Rattle.promises.proofs.Words.{overlap-agrees}
-use Rattle.nodes.specs.Ranges.{lowestSet, highestSet, Ranged}
 use Rattle.interval.proofs.Rings.{in-ring, few-folded}
+use Rattle.promises.proofs.Words.{overlap-agrees}
 
 -- ---- a row's sets
 

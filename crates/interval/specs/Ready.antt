@@ -22,11 +22,11 @@ use Rattle.rules.specs.Loads as loads
 use Rattle.table.specs.Columns.{ByRow}
 use Rattle.lags.specs.Lags.{Admissible, Steady}
 use Rattle.loads.specs.declared.Size.{Size}
+use Rattle.loads.specs.NodesOf.{NodesOf}
 use Rattle.interval.specs.Folded.{FoldedSets}
-use Rattle.chains.specs.Chained.{Chained}
-use Rattle.placing.specs.Filled.{Kept}
-use Rattle.nodes.specs.NodesOf.{NodesOf}
 use Rattle.interval.specs.Interval.{Moved}
+use Rattle.sets.specs.Chained.{Chained}
+use Rattle.placing.specs.Filled.{Kept}
 
 pub record Laid : Type 0 where
   pub tail : List ℕ

@@ -128,22 +128,17 @@ pub fn round_rows<'a>(
 
 // ---- the totals
 
-// Gives each row its whole slots, and one more to those in the word `top`: `load` is what a row gets beside those it has had.
-pub fn give(
-    top: u64,
-    rows: usize,
-    whole: &[u16; Table::ROWS],
-    load: &mut [u16; Table::ROWS],
-    totals: &mut [u64; Table::ROWS],
-)
-    requires { ⌜ (rows ≤ max-rows) × ((i : ℕ) → i < rows → (at (now totals) i ≤ at (now whole) i) × (at (now whole) i ≤ max-slots))
+// Gives each row its whole slots, which `load` has, and one more to those in the word `top`: `load` is then what a row gets beside those it
+// has had.
+pub fn give(top: u64, rows: usize, load: &mut [u16; Table::ROWS], totals: &mut [u64; Table::ROWS])
+    requires { ⌜ (rows ≤ max-rows) × ((i : ℕ) → i < rows → (at (now totals) i ≤ at (now load) i) × (at (now load) i ≤ max-slots))
         × (length (now load) ≡ max-rows) × (length (now totals) ≡ max-rows) ⌝ }
     ensures { λ r. ⌜ (length (now (load .exit)) ≡ max-rows) × (length (now (totals .exit)) ≡ max-rows)
-        × Given rows top (at (now (whole .entry))) (at (now (totals .entry))) (at (now (load .exit))) (at (now (totals .exit))) ⌝ }
+        × Given rows top (at (now (load .entry))) (at (now (totals .entry))) (at (now (load .exit))) (at (now (totals .exit))) ⌝ }
 {
     let mut i: usize = 0;
     while i < rows {
-        let all = table::slots_at(whole, i) + (top >> i) % 2;
+        let all = load[i] as u64 + (top >> i) % 2;
         load[i] = (all - totals[i]) as u16;
         totals[i] = all;
         i += 1;

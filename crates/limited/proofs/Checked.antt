@@ -46,7 +46,8 @@ module _ (t : Table) (label : List ℕ) (our their : ℕ) where
       → Analysed (within-checks l our their) t (blank (o .answer))
   within-line o O h = analysed-refused (o .answer) h (stopped (line-checks t) past (o .answer .number) (o .answer .place) h (O .answers))
 
-  module _ {o : Outline} {xs : List ℕ} (R : Rated t o xs) (k : Answer) (K : Answers (limit-checks l our their) (k .number) (k .place)) where
+  module _ {o : Outline} {i : ℕ} {xs : List ℕ} (R : Rated t o i xs) (k : Answer)
+      (K : Answers (limit-checks l our their) (k .number) (k .place)) where
     -- 21 or 22
     pub within-limit : k .number ≢ 0 → Analysed (within-checks l our their) t (blank k)
     within-limit h =

@@ -10,7 +10,7 @@ use Rattle.numbers.specs.Word.{bit}
 use Rattle.numbers.proofs.Finite.{sum-next, sumIn-most, only-true, only-false}
 use Rattle.rules.specs.Bounds.{max-rows, max-slots}
 use Rattle.rules.specs.Parties.{owns}
-use Rattle.limited.specs.Limits.{party, Small, weightOn}
+use Rattle.limited.specs.Limits.{party, RatesFit, weightOn}
 
 module _ (rate segments label : List ℕ) (b : Bool) (s : ℕ) where
   pub weight-none : weightOn 0 rate segments label b s ≡ 0
@@ -31,6 +31,6 @@ module _ (rate segments label : List ℕ) (b : Bool) (s : ℕ) where
   pub weight-same : (n : ℕ) → counted n ≡ false → weightOn (n + 1) rate segments label b s ≡ weightOn n rate segments label b s
   weight-same n e = omega (arith, next n, only-false (counted n) (at rate n) e)
 
-  pub weight-small : (n m : ℕ) → Small n rate → m ≤ n → weightOn m rate segments label b s ≤ n * max-slots
+  pub weight-small : (n m : ℕ) → RatesFit n rate → m ≤ n → weightOn m rate segments label b s ≤ n * max-slots
   unfolding weightOn
   weight-small n m S l = omega (arith, sumIn-most m counted (at rate) max-slots (λ i k. S .small i (omega arith)))

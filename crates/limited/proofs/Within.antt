@@ -24,11 +24,11 @@ use Rattle.rules.proofs.Answers.{single-none, single-numbered, single-stopped}
 use Rattle.table.specs.declared.Answer.{Answer}
 use Rattle.ring.specs.Route.{rowSegments}
 use Rattle.lags.proofs.Intervals.{rate-le}
-use Rattle.limited.specs.Limits.{party, Small, weightOn, Limited, OverAt, FirstOf}
+use Rattle.limited.specs.Limits.{party, RatesFit, weightOn, Limited, OverAt, FirstOf}
 use Rattle.limited.proofs.Own.{over-among}
 
 module _ {t : Table} {M n h : ℕ} {rate words : List ℕ} (L : Limited t M n h rate words) where
-  pub limited-small : Small n rate
+  pub limited-small : RatesFit n rate
   limited-small = record {
     few = omega (arith, L .rows-is, L .sound .rows-high);
     small = λ i l.

@@ -1,7 +1,7 @@
 -- Two parties' rows as the code weighs them: whole numbers of 1 / h, from the rows' rates, words of segments and labels in arrays.
 --
 --   party b            the second maker's where b holds, else ours
---   Small n xs         no rate of n rows is above 4096
+--   RatesFit n xs      no rate of n rows is above 4096
 --   weightOn n ..      what a party's rows among n weigh on the segment whose bit is s
 --   labelled t xs      the table t with the labels xs
 --   Limited t ..       the table t is sound, has one ring and a short h, and its rates and words of segments are these
@@ -28,7 +28,7 @@ use Rattle.ring.specs.Route as route
 abbrev pub party : Bool → Party
 party b = cond b theirs ours
 
-pub record Small (n : ℕ) (xs : List ℕ) : Type 0 where
+pub record RatesFit (n : ℕ) (xs : List ℕ) : Type 0 where
   pub few : n ≤ max-rows
   pub small : (i : ℕ) → i < n → at xs i ≤ max-slots
 

@@ -49,9 +49,16 @@ fn analysis_within(columns: Columns, label: &[u16; Table::ROWS], limits: Limits)
     if answer.number != Answer::DONE {
         return Analysis::refused(answer);
     }
-    let hyper = outline.time.hyper;
+    let time = outline.time;
     let mut rate = [0u16; Table::ROWS];
-    verdict::put_rates(rows, hyper, &columns.cost, &columns.period, &mut rate);
+    let light = verdict::put_rates(
+        rows,
+        time.hyper,
+        time.interval,
+        &columns.cost,
+        &columns.period,
+        &mut rate,
+    );
     let segments = ring::lay_segments(
         elements,
         rows,
@@ -59,16 +66,15 @@ fn analysis_within(columns: Columns, label: &[u16; Table::ROWS], limits: Limits)
         &columns.second,
         &columns.way,
     );
-    let kept = limits::kept_within(elements, rows, hyper, &rate, &segments, label, limits);
+    let kept = limits::kept_within(elements, rows, time.hyper, &rate, &segments, label, limits);
     if kept.number != Answer::DONE {
         return Analysis::refused(kept);
     }
     let weighing = verdict::weigh(
         rows,
+        light,
         outline.top,
-        outline.time,
-        &columns.cost,
-        &columns.period,
+        time,
         &outline.first,
         &outline.second,
         &rate,

@@ -15,7 +15,7 @@ ghost use Rattle.rules.specs.Bounds.{max-elements, max-rows, max-slots};
 ghost use Rattle.rules.specs.Bus as bus;
 ghost use Rattle.rules.specs.Parties.{max-limit, owns};
 ghost use Rattle.rules.specs.Refusals.{Answers, limit-checks};
-ghost use Rattle.limited.specs.Limits.{party, Small, weightOn, labelled, Limited, OverAt, FirstOf};
+ghost use Rattle.limited.specs.Limits.{party, RatesFit, weightOn, labelled, Limited, OverAt, FirstOf};
 
 // Each party's limit in thousandths.
 pub struct Limits {
@@ -56,7 +56,7 @@ fn load_on<'a>(
     theirs: bool,
     s: usize,
 ) -> u64
-    requires { ⌜ Small rows (now rate) × (s < max-elements) ⌝ }
+    requires { ⌜ RatesFit rows (now rate) × (s < max-elements) ⌝ }
     ensures { λ r. ⌜ (r ≡ weightOn rows (now (rate .entry)) (now (segments .entry)) (now (label .entry)) theirs s)
         × (r ≤ max-rows * max-slots) ⌝ }
 {
@@ -82,7 +82,7 @@ fn lowest_over<'a>(
     theirs: bool,
     limit: u32,
 ) -> usize
-    requires { ⌜ Small rows (now rate) × (elements ≤ max-elements) × (hyper ≤ max-slots) × (limit ≤ max-limit) ⌝ }
+    requires { ⌜ RatesFit rows (now rate) × (elements ≤ max-elements) × (hyper ≤ max-slots) × (limit ≤ max-limit) ⌝ }
     ensures { λ r. ⌜ r ≡ lowest elements
         (λ s. ltb (limit * hyper) (1000 * weightOn rows (now (rate .entry)) (now (segments .entry)) (now (label .entry)) theirs s)) ⌝ }
 {

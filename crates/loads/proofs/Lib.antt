@@ -10,3 +10,6 @@ pub mod Closed
 pub mod Raising
 pub mod Words
 pub mod Ways
+pub mod Ranges
+pub mod Leaving
+pub mod Sorted

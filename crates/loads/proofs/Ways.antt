@@ -17,7 +17,7 @@ use Rattle.numbers.proofs.Word.{bit-zero, bit-and}
 use Rattle.loads.specs.declared.flow.Arcs.{Arcs}
 use Rattle.loads.specs.Network.{Net, Circulation, Within, Put}
 use Rattle.loads.specs.Raised.{Pushed, Best}
-use Rattle.loads.specs.Way.{Stride, Way, Shut, Toggled, With, Reached, Visited, Entered, Done, ByNode, Wired, Narrow, Shown}
+use Rattle.loads.specs.Way.{Stride, Way, Shut, Toggled, With, WaysFrom, Visited, Entered, Done, ByNode, Wired, Narrow, Shown}
 use Rattle.loads.proofs.Network.{put, put-is, sum-put}
 use Rattle.loads.proofs.Closed.{closed-best}
 use Rattle.loads.proofs.Words.{or-left, or-not, or-same, or-right, and-both, and-left, one-of, unseen}
@@ -245,7 +245,7 @@ module _ (n : ℕ) (x : ℕ → ℕ) where
       go e l (no z) q = p .1 e z ∙ t .inside e l (sym (or-same (bit w e) (eqb e c) (ne-eqb e c z)) ∙ sym (j e l) ∙ q)
 
 module _ (n : ℕ) (G : Net) (may : ℕ → Bool) (x : ℕ → ℕ) (s : ℕ) where
-  pub reached-start : (seen : ℕ) (by : ℕ → ℕ) → Circulation G x → ((u : ℕ) → bit seen u ≡ eqb u s) → by s ≡ 0 → Reached n G may x s seen by
+  pub reached-start : (seen : ℕ) (by : ℕ → ℕ) → Circulation G x → ((u : ℕ) → bit seen u ≡ eqb u s) → by s ≡ 0 → WaysFrom n G may x s seen by
   reached-start seen by c one z = record {
     start = one s ∙ eq-eqb s s refl;
     way = λ v q.
@@ -255,11 +255,11 @@ module _ (n : ℕ) (G : Net) (may : ℕ → Bool) (x : ℕ → ℕ) (s : ℕ) wh
 
   -- the nodes reached from u: their arcs had no part in the way to u
   module _ (m u way seen seen' : ℕ) (by by' : ℕ → ℕ) (go : ℕ → Bool) (far : ℕ → ℕ) (few : n ≤ m) (us : bit seen u ≡ true)
-      (old : (x' : ℕ → ℕ) × Way G may (bit seen) x x' s u × Toggled n way x x') (R : Reached n G may x s seen by)
+      (old : (x' : ℕ → ℕ) × Way G may (bit seen) x x' s u × Toggled n way x x') (R : WaysFrom n G may x s seen by)
       (two : (c : ℕ) → c < n → (x c ≤ 1) × (G .high c ≤ 1)) (Z : Visited m go far way seen seen' by by') where
     -- the ways to the nodes seen before, and to each that came
     grow : ((v c : ℕ) → go c ≡ true → far c ≡ v → bit seen v ≡ false → bit seen' v ≡ true → With n way c (by' v)
-        → (x' : ℕ → ℕ) × Way G may (bit seen') x x' s v × Toggled n (by' v) x x') → Reached n G may x s seen' by'
+        → (x' : ℕ → ℕ) × Way G may (bit seen') x x' s v × Toggled n (by' v) x x') → WaysFrom n G may x s seen' by'
     grow new = record { start = Z .kept s (R .start) .0; way = λ v q. by-case v q (bit seen v) refl }
       where
         by-case : (v : ℕ) → bit seen' v ≡ true → (b : Bool) → bit seen v ≡ b
@@ -274,7 +274,7 @@ module _ (n : ℕ) (G : Net) (may : ℕ → Bool) (x : ℕ → ℕ) (s : ℕ) wh
     old-still = (old .0, way-wider G may x s (bit seen) (bit seen') (old .0) u (λ w z. Z .kept w z .0) (old .1), old .2)
 
     pub reached-ahead : ((c : ℕ) → go c ≡ true → (c < G .arcs) × (G .tail c ≡ u) × (G .head c ≡ far c) × (may c ≡ true) × (x c < G .high c))
-        → Reached n G may x s seen' by'
+        → WaysFrom n G may x s seen' by'
     reached-ahead arc = grow (λ v c g f e e' j.
         let a = arc c g in
         let h : G .head c ≡ v = a .2 ∙ f in
@@ -288,7 +288,7 @@ module _ (n : ℕ) (G : Net) (may : ℕ → Bool) (x : ℕ → ℕ) (s : ℕ) wh
         ))
 
     pub reached-back : ((c : ℕ) → go c ≡ true → (c < G .arcs) × (G .head c ≡ u) × (G .tail c ≡ far c) × (may c ≡ true) × (G .low c < x c))
-        → Reached n G may x s seen' by'
+        → WaysFrom n G may x s seen' by'
     reached-back arc = grow (λ v c g f e e' j.
         let a = arc c g in
         let t : G .tail c ≡ v = a .2 ∙ f in
@@ -499,7 +499,7 @@ module _ (n K : ℕ) (tail head out into : ℕ → ℕ) (W : Wired n K tail head
     up-set : Visited n (λ e. eqb e (n + u) && bit (A .less) u) (λ e. suc (e - n)) way three four by3 by4
     up-set = entered-visited n n u (bit (A .less) u) (λ e. suc (e - n)) (u + 1) way three four by3 by4 (omega arith) (omega arith) d
 
-    pub leave-reached : Reached n G may x s seen by → Reached n G may x s four by4
+    pub leave-reached : WaysFrom n G may x s seen by → WaysFrom n G may x s four by4
     leave-reached R =
         let o1 : (x' : ℕ → ℕ) × Way G may (bit seen) x x' s u × Toggled n way x x' = rw wu (R .way u us) in
         let R1 = reached-ahead n G may x s 64 u way seen one by by1 (bit (bitAnd (out u) (A .up))) head (W .few-rows) us o1 R (S .digits) a

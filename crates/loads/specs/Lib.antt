@@ -4,3 +4,5 @@ pub mod State
 pub mod Network
 pub mod Raised
 pub mod Way
+pub mod Ranges
+pub mod NodesOf

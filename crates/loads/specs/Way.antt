@@ -6,7 +6,7 @@
 --   Shut G may seen x          no arc that may change leads out of the seen nodes
 --   Toggled n w x x'           of the first n arcs, those in the word w carry their other digit
 --   With n w c w'              the word w' is w with c, as far as the first n bits go
---   Reached n G may x s seen by  there is a way to every seen node v from s, and of the first n arcs it toggles those in by v
+--   WaysFrom n G may x s seen by  there is a way to every seen node v from s, and of the first n arcs it toggles those in by v
 --   Done G may x seen done     no arc that may change leads from nodes that are done out of the seen ones
 --   Visited n go far way seen seen' by by'
 --                              the far ends of the arcs in `go` are now seen, each by the way and the arc
@@ -56,7 +56,7 @@ pub record Toggled (n w : ℕ) (x x' : ℕ → ℕ) : Type 0 where
 abbrev pub With : (n w c w' : ℕ) → Type 0
 With n w c w' = (e : ℕ) → e < n → bit w' e ≡ (bit w e || eqb e c)
 
-pub record Reached (n : ℕ) (G : Net) (may : ℕ → Bool) (x : ℕ → ℕ) (s seen : ℕ) (by : ℕ → ℕ) : Type 0 where
+pub record WaysFrom (n : ℕ) (G : Net) (may : ℕ → Bool) (x : ℕ → ℕ) (s seen : ℕ) (by : ℕ → ℕ) : Type 0 where
   pub start : bit seen s ≡ true
   pub way : (v : ℕ) → bit seen v ≡ true → (x' : ℕ → ℕ) × Way G may (bit seen) x x' s v × Toggled n (by v) x x'
 

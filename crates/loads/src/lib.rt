@@ -9,10 +9,12 @@
 //   circulation within the bounds, only not a whole one.
 // - Then each row in turn is rounded up where there is a way by the rows after it. So the loads are the greatest in the order of rows.
 mod flow;
+mod nodes;
 
 use flow::Arcs;
 pub use flow::NODES;
 pub use flow::pick;
+pub use nodes::lay;
 use table::Table;
 ghost use mathlib.Core.Path.{_≡_};
 ghost use mathlib.Core.Bool.{_&&_, not};

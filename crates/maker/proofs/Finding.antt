@@ -44,7 +44,7 @@ use Rattle.decoding.proofs.OneRing.{OtherMark, other-mark, own-mark, one-number
 use Rattle.ring.specs.Route.{rowSegments}
 use Rattle.verdict.specs.Analysed.{table-checks}
 use Rattle.verdict.proofs.Bound.{verdict-numbered, verdict-split, admissible-of}
-use Rattle.maker.specs.Words.{Segmented, LowestBad, endingAt, planMoves, Clear}
+use Rattle.maker.specs.Words.{Segmented, LowestBad, endingAt, planMoves, OneEach}
 use Rattle.maker.proofs.Made.{plan-moves, clean-clear}
 use Rattle.maker.specs.declared.Source.{Source}
 use Rattle.maker.specs.Finding.{word-checks, early-checks, Finds}
@@ -146,7 +146,7 @@ module _ {t : Table} (S : Sound t) (plan : List ℕ) (e : ℕ) where
   unfolding elementMoves
   moves-of = plan-moves S e (hyperperiod t) plan
 
-  pub clear-of : t .rings ≡ 1 → None (early-checks [] t plan e) → Clear into from (hyperperiod t) plan
+  pub clear-of : t .rings ≡ 1 → None (early-checks [] t plan e) → OneEach into from (hyperperiod t) plan
   clear-of one a = clean-clear S e one (hyperperiod t) plan (words-clean t plan e a)
 
   pub long-of : None (early-checks [] t plan e) → hyperperiod t ≤ length plan

@@ -16,7 +16,7 @@ use Rattle.numbers.proofs.Lists.{each-eq}
 use Rattle.rules.specs.Bus.{Table, overlap}
 use Rattle.rules.specs.ElementList.{Entry, slotMoves, BadWord}
 use Rattle.table.specs.Sound.{Sound}
-use Rattle.maker.specs.Words.{endingAt, wordMoves, planMoves, AtMostOne, Clear}
+use Rattle.maker.specs.Words.{endingAt, wordMoves, planMoves, AtMostOne, OneEach}
 use Rattle.maker.proofs.Words.{bit-ending, picked-ending}
 use Rattle.maker.proofs.Bad.{first-overlap, second-overlap}
 
@@ -60,7 +60,7 @@ module _ {t : Table} (S : Sound t) (e : ℕ) where
         ⊎-elim (λ (l : i ≤ j). ⊎-elim (λ (m : j ≤ i). omega arith) (λ m. absurd (apart i j m x y)) (le-or-lt j i))
         (λ l. absurd (apart j i l y x)) (le-or-lt i j)
 
-  pub clean-clear : t .rings ≡ 1 → (n : ℕ) (ws : List ℕ) → ((s : ℕ) → s < n → BadWord t (at ws s) → ⊥) → Clear into from n ws
+  pub clean-clear : t .rings ≡ 1 → (n : ℕ) (ws : List ℕ) → ((s : ℕ) → s < n → BadWord t (at ws s) → ⊥) → OneEach into from n ws
   clean-clear one n ws h = record {
     into = λ s l. at-most-one (t .second) (second-overlap S one) (at ws s) (h s l);
     from = λ s l. at-most-one (t .first) (first-overlap S one) (at ws s) (h s l);

@@ -20,7 +20,7 @@ use Rattle.rules.specs.ElementList.{elementMoves}
 use Rattle.rules.specs.Refusals.{Check, Answers, wrong-element, bad-word, short-output, maker-checks}
 use Rattle.rules.specs.Calls.{Ask}
 use Rattle.table.specs.declared.Answer.{Answer}
-use Rattle.maker.specs.Words.{planMoves, Clear}
+use Rattle.maker.specs.Words.{planMoves, OneEach}
 use Rattle.maker.specs.declared.Source.{Source}
 use Rattle.maker.specs.declared.Making.{Making}
 
@@ -35,7 +35,7 @@ pub record Makeable (t : Table) (plan : List ℕ) (element : ℕ) (r : Source) :
   pub short : r .hyper ≤ max-slots
   pub long : r .hyper ≤ length plan
   pub element-small : element ≤ max-elements
-  pub clear : Clear (r .into) (r .from) (r .hyper) plan
+  pub clear : OneEach (r .into) (r .from) (r .hyper) plan
   pub moves : planMoves (r .into) (r .from) (r .hyper) plan ≡ elementMoves t element plan
   pub entries : r .entries ≡ length (elementMoves t element plan)
   pub few : r .entries ≤ 2 * max-slots

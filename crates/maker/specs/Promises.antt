@@ -1,7 +1,7 @@
 -- What a list that was made promises (#101). The file holds statements only; proofs/Promises proves them of every answer that the contract
 -- allows.
 --
---   Holds l x              entry x stands in list l
+--   HasEntry l x           entry x stands in list l
 --   Exactly t e ws         the list of element e has exactly its moves in the first h words of the plan ws, each once
 --   Twice t ws s i         all elements' lists together have the move of row i in slot s twice: received once and sent once
 --   All-twice              this holds of every move
@@ -36,20 +36,20 @@ use Rattle.rules.specs.ElementList.{
 use Rattle.rules.specs.Refusals.{Answers, list-file-checks, list-memory-checks}
 use Rattle.rules.specs.Calls.{Ask, oneRingAsk, ListMade}
 
-abbrev pub Holds : ElementList → Entry → Type 0
-Holds l x = (k : ℕ) × (k < l .entries) × (l .entry k ≡ x)
+abbrev pub HasEntry : ElementList → Entry → Type 0
+HasEntry l x = (k : ℕ) × (k < l .entries) × (l .entry k ≡ x)
 
 pub record Exactly (t : Table) (e : ℕ) (ws : List ℕ) : Type 0 where
   pub moves : (k : ℕ) → k < movesList t e ws .entries → IsMove t e ws (movesList t e ws .entry k)
-  pub all : (x : Entry) → IsMove t e ws x → Holds (movesList t e ws) x
+  pub all : (x : Entry) → IsMove t e ws x → HasEntry (movesList t e ws) x
   pub once : (j k : ℕ) → j < movesList t e ws .entries → k < movesList t e ws .entries
       → movesList t e ws .entry j ≡ movesList t e ws .entry k → j ≡ k
 
 -- Row i moves in slot s: its second end receives it and its first end sends it, and no other list has it.
 pub record Twice (t : Table) (ws : List ℕ) (s i : ℕ) : Type 0 where
-  pub received : Holds (movesList t (t .second i) ws) (move s i 0)
-  pub sent : Holds (movesList t (t .first i) ws) (move s i 1)
-  pub only : (e d : ℕ) → Holds (movesList t e ws) (move s i d) → ((d ≡ 0) × (e ≡ t .second i)) ⊎ ((d ≡ 1) × (e ≡ t .first i))
+  pub received : HasEntry (movesList t (t .second i) ws) (move s i 0)
+  pub sent : HasEntry (movesList t (t .first i) ws) (move s i 1)
+  pub only : (e d : ℕ) → HasEntry (movesList t e ws) (move s i d) → ((d ≡ 0) × (e ≡ t .second i)) ⊎ ((d ≡ 1) × (e ≡ t .first i))
 
 abbrev pub Made-exactly : Type 0
 Made-exactly = (f plan : List ℕ) (e : ℕ) (form : ElementList → List ℕ) (was now : List ℕ) (p h k : ℕ)

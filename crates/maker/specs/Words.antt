@@ -7,7 +7,7 @@
 --   planMoves a b n ws the moves in the first n words of the plan ws
 --   AtMostOne x        the word x has at most one bit
 --   IsMove x s d r     the word x has one bit, and r is its entry in slot s and way d
---   Clear a b n ws     each of the first n words has at most one of a and at most one of b
+--   OneEach a b n ws   each of the first n words has at most one of a and at most one of b
 --   flat g xs          g of each entry of xs, joined
 --   PutMoves g xs p was now n m   the entries xs, n before them and m then, stand from place p on, each as g has it
 --   LowestBad t ws n r r is the lowest of the first n slots whose word is bad, and n where none is
@@ -52,7 +52,7 @@ pub record IsMove (x s d : ℕ) (r : Place) : Type 0 where
   pub row : r .row < max-rows
   pub way : r .way ≡ d
 
-pub record Clear (a b n : ℕ) (ws : List ℕ) : Type 0 where
+pub record OneEach (a b n : ℕ) (ws : List ℕ) : Type 0 where
   pub into : (s : ℕ) → s < n → AtMostOne (bitAnd (at ws s) a)
   pub from : (s : ℕ) → s < n → AtMostOne (bitAnd (at ws s) b)
 

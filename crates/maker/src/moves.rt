@@ -23,7 +23,7 @@ ghost use Rattle.maker.specs.Words.{
   planMoves,
   AtMostOne,
   IsMove,
-  Clear,
+  OneEach,
   flat,
   PutMoves,
   LowestBad,
@@ -120,7 +120,7 @@ fn one(word: u64) -> usize
 
 // How many moves there are in the first `hyper` words.
 pub fn count(plan: &[u64], hyper: usize, into: u64, from: u64) -> usize
-    requires { ⌜ (hyper ≤ length (now plan)) × (hyper ≤ max-slots) × Clear into from hyper (now plan) ⌝ }
+    requires { ⌜ (hyper ≤ length (now plan)) × (hyper ≤ max-slots) × OneEach into from hyper (now plan) ⌝ }
     ensures { λ r. ⌜ (r ≡ length (planMoves into from hyper (now (plan .entry)))) × (r ≤ 2 * hyper) ⌝ }
 {
     let mut n: usize = 0;
@@ -160,7 +160,7 @@ fn put_number(word: u64, slot: usize, way: u16, out: &mut [u16], n: usize) -> us
 
 // The numbers of all moves, at the front of `out`.
 pub fn put_numbers(plan: &[u64], hyper: usize, into: u64, from: u64, out: &mut [u16])
-    requires { ⌜ (hyper ≤ length (now plan)) × (hyper ≤ max-slots) × Clear into from hyper (now plan)
+    requires { ⌜ (hyper ≤ length (now plan)) × (hyper ≤ max-slots) × OneEach into from hyper (now plan)
         × (entryNumbers * length (planMoves into from hyper (now plan)) ≤ length (now out)) ⌝ }
     ensures { λ _. ⌜ now (out .exit) ≡ lent (flat inMemory (planMoves into from hyper (now (plan .entry)))) (now (out .entry)) ⌝ }
 {
@@ -193,7 +193,7 @@ fn put_byte(word: u64, slot: usize, way: u16, out: &mut [u8], n: usize) -> usize
 
 // The bytes of all moves, past the head.
 pub fn put_bytes(plan: &[u64], hyper: usize, into: u64, from: u64, out: &mut [u8])
-    requires { ⌜ (hyper ≤ length (now plan)) × (hyper ≤ max-slots) × Clear into from hyper (now plan)
+    requires { ⌜ (hyper ≤ length (now plan)) × (hyper ≤ max-slots) × OneEach into from hyper (now plan)
         × (listHeader + entrySize * length (planMoves into from hyper (now plan)) ≤ length (now out)) ⌝ }
     ensures { λ _. ⌜ now (out .exit) ≡
         lent (take listHeader (now (out .entry)) ++ flat inFile (planMoves into from hyper (now (plan .entry)))) (now (out .entry)) ⌝ }

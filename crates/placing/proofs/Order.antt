@@ -16,7 +16,7 @@ use Rattle.numbers.specs.Finite.{any}
 use Rattle.numbers.proofs.Truth.{both, fst, snd, orl, orr, or-cases, decide, same, is-false, eqb-of, le-or-lt}
 use Rattle.numbers.proofs.Finite.{any-eq}
 use Rattle.rules.specs.Interval.{before, hinders, free}
-use Rattle.chains.specs.Chained.{Link}
+use Rattle.sets.specs.Chained.{Link}
 
 unfoldable pub taken : ℕ → (f : ℕ → ℕ) → ℕ → ℕ → ℕ → Bool
 taken n f e r j = ltb j n && (ltb (f j) e || (eqb (f j) e && ltb j r))

@@ -14,7 +14,7 @@ use Rattle.table.specs.Sound.{Sound}
 use Rattle.verdict.specs.declared.Analysis.{Analysis}
 use Rattle.verdict.specs.Analysed.{Accepted}
 use Rattle.planner.proofs.CourseNumbers.{hyper-is, few-sets}
-use Rattle.steady.proofs.Steady.{Shown}
+use Rattle.planner.proofs.InStep.{Shown}
 use Rattle.planner.specs.declared.Stage.{Stage}
 use Rattle.planner.specs.declared.Stage.the-variants.{Due, Finished}
 use Rattle.planner.specs.State.{stageOf, slotOf, stageAfter}

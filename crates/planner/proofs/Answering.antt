@@ -23,8 +23,8 @@ use Rattle.time.specs.Time.{Begins}
 use Rattle.verdict.specs.declared.Analysis.{Analysis}
 use Rattle.verdict.specs.Analysed.{Accepted}
 use Rattle.interval.proofs.Moved.{step-of-moved}
-use Rattle.steady.specs.Step.{Stands}
-use Rattle.steady.proofs.Steady.{standings-are}
+use Rattle.planner.specs.Step.{Stands}
+use Rattle.planner.proofs.InStep.{standings-are}
 use Rattle.planner.specs.declared.Stage.the-variants.{Due}
 use Rattle.planner.specs.declared.Planner.{Planner}
 use Rattle.planner.specs.State.{stageOf, plannerOf, stageAfter, unmovedOf, noStandings}

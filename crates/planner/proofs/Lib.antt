@@ -11,3 +11,5 @@ pub mod CourseNumbers
 pub mod Walked
 pub mod Shared
 pub mod MovedOnly
+pub mod Keeping
+pub mod InStep

@@ -16,8 +16,8 @@ use Rattle.lags.proofs.Intervals.{start-late, late-start}
 use Rattle.lags.proofs.States.{not-off}
 use Rattle.verdict.specs.declared.Analysis.{Analysis}
 use Rattle.verdict.specs.Analysed.{Accepted}
-use Rattle.steady.specs.Step.{Bounded, RowsKeep, KeepsStep, SpareClear}
-use Rattle.steady.proofs.Steady.{bounded, reached-le, steady-is, not-off-of, off-spare, off-step}
+use Rattle.planner.specs.Step.{Bounded, RowsKeep, KeepsStep, SpareClear}
+use Rattle.planner.proofs.InStep.{bounded, reached-le, steady-is, not-off-of, off-spare, off-step}
 use Rattle.planner.specs.declared.Stage.{Stage}
 use Rattle.planner.specs.declared.Stage.the-variants.{Due, Finished}
 use Rattle.planner.specs.declared.Planner.{Planner}

@@ -7,13 +7,13 @@ use Rattle.rules.specs.Bounds.{max-elements}
 use Rattle.rules.specs.Bus.{Table}
 use Rattle.verdict.specs.declared.Analysis.{Analysis}
 use Rattle.verdict.specs.Analysed.{Accepted}
-use Rattle.chains.specs.Chained.{all-heads, Chained}
+use Rattle.sets.specs.Chained.{all-heads, Chained}
 use Rattle.interval.specs.declared.fold.Folded.{Folded}
 use Rattle.interval.specs.Folded.{FoldedSets}
-use Rattle.nodes.specs.NodesOf.{NodesOf}
 use Rattle.interval.specs.Ready.{Laid, Ready}
 use Rattle.interval.proofs.RowSets.{folded-few}
 use Rattle.interval.proofs.Ready.{line-narrow, ends-on-line}
+use Rattle.loads.specs.NodesOf.{NodesOf}
 use Rattle.planner.proofs.CourseNumbers.{hyper-is}
 
 module _ {t : Table} {a : Analysis} (A : Accepted t a) where

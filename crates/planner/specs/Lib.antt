@@ -6,3 +6,4 @@ pub mod Promises
 pub mod Plannable
 pub mod Course
 pub mod InPlace
+pub mod Step

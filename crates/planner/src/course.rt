@@ -1,7 +1,7 @@
 // The planning intervals of an admitted table, one after the other. Arrays are lent where they can be: the supervisor's stack is small.
-use chains::HEADS;
 use loads::NODES;
 use loads::Size;
+use sets::HEADS;
 use table::Table;
 use verdict::Analysis;
 ghost use Prim.Native.Nat.{ℕ};
@@ -40,7 +40,7 @@ pub fn plan_intervals(
     let mut head = [0u8; Table::ROWS];
     let mut out = [0u64; NODES];
     let mut into = [0u64; NODES];
-    nodes::lay(
+    loads::lay(
         rows,
         folded.sets,
         &words,
@@ -51,7 +51,7 @@ pub fn plan_intervals(
     );
     let mut heads = [0u8; HEADS];
     let mut next = [0u8; Table::ROWS];
-    chains::chain(&table.outline.first, rows, &mut heads, &mut next);
+    sets::chain(&table.outline.first, rows, &mut heads, &mut next);
     let size = Size {
         rows,
         sets: folded.sets,
@@ -60,7 +60,6 @@ pub fn plan_intervals(
     let even = time::has_shortest(&time.period, time.count, time.interval);
     let inverse = interval::inverse_of(time.hyper);
     let mut load = [0u16; Table::ROWS];
-    let mut whole = [0u16; Table::ROWS];
     let mut part = [0u32; Table::ROWS];
     let mut after = totals;
     let mut slot = from;
@@ -68,7 +67,7 @@ pub fn plan_intervals(
     while slot < until {
         let end = time::end_of(&time.period, time.count, time.interval, even, slot);
         let slots = (end - slot) as usize;
-        let parted = interval::part_shares(&table.rate, end, size, inverse, &mut whole, &mut part);
+        let parted = interval::part_shares(&table.rate, end, size, inverse, &mut load, &mut part);
         let rounded = interval::round_rows(
             folded.upper,
             &tail,
@@ -79,9 +78,9 @@ pub fn plan_intervals(
             &part,
             parted,
         );
-        interval::give(rounded, rows, &whole, &mut load, &mut after);
+        interval::give(rounded, rows, &mut load, &mut after);
         if plain {
-            plain_slots::fill_plain(
+            slots::fill_plain(
                 &table.outline.first,
                 &table.outline.second,
                 &heads,

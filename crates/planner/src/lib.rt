@@ -7,6 +7,7 @@
 // its spare totals, and then its totals row by row, before any product is taken.
 mod course;
 mod kept;
+mod steady;
 
 pub use kept::move_on;
 use table::Answer;

@@ -36,7 +36,7 @@ pub const PLAIN_SIZE: usize = 64 * 2 * Table::SLOTS;
 // ---- lines
 
 // A line of one number.
-fn put_value(word: &[u8], x: u64, out: &mut [u8], at: usize) -> usize
+pub(crate) fn put_value(word: &[u8], x: u64, out: &mut [u8], at: usize) -> usize
     requires { ⌜ (length (now word) ≤ 8) × (at + max-line ≤ limit) ⌝ }
     ensures { λ r. ⌜ PutsLine (lineOf (now (word .entry)) (x ∷ [])) (now (out .entry)) at (now (out .exit)) r ⌝ }
 {
@@ -70,29 +70,15 @@ fn put_values(interval: u32, hyper: u32, load: u32, out: &mut [u8], at: usize) -
     put_value(b"load", load as u64, out, last)
 }
 
-fn put_set(word: u64, out: &mut [u8], at: usize) -> usize
-    requires { ⌜ at + max-line ≤ limit ⌝ }
-    ensures { λ r. ⌜ PutsLine (set word) (now (out .entry)) at (now (out .exit)) r ⌝ }
-{
-    put_value(b"set", word, out, at)
-}
-
-fn put_slot(number: u64, word: u64, out: &mut [u8], at: usize) -> usize
-    requires { ⌜ at + max-line ≤ limit ⌝ }
-    ensures { λ r. ⌜ PutsLine (slot number word) (now (out .entry)) at (now (out .exit)) r ⌝ }
-{
-    put_line(b"slot", &[number, word], out, at)
-}
-
 // A slot's line, which has its number `k`, or a set's.
 fn put_word(slots: bool, k: u64, word: u64, out: &mut [u8], at: usize) -> usize
     requires { ⌜ at + max-line ≤ limit ⌝ }
     ensures { λ r. ⌜ PutsLine (word-line slots k word) (now (out .entry)) at (now (out .exit)) r ⌝ }
 {
     if slots {
-        return put_slot(k, word, out, at);
+        return put_line(b"slot", &[k, word], out, at);
     }
-    put_set(word, out, at)
+    put_value(b"set", word, out, at)
 }
 
 fn put_words(slots: bool, words: &[u64], out: &mut [u8], at: usize) -> usize

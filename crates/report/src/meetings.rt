@@ -1,9 +1,9 @@
 // What the program prints by the words `meet` and `set` (#102), in lent bytes: number and place, then each row of a set, each segment.
 //
 // Each `put_` function writes lines from place `at` on, as far as there is room, and returns the place after them.
+use crate::put_value;
 use decimal::put_line;
 use table::Table;
-ghost use mathlib.Core.List.{[], _∷_};
 ghost use Prim.Native.Nat.{_+_, _*_, _≤_};
 ghost use lib.ListN.{length};
 ghost use Rattle.rules.specs.Bounds.{max-elements, max-rows};
@@ -20,14 +20,6 @@ fn put_answer(number: u32, place: u32, out: &mut [u8]) -> usize
     put_line(b"shared", &[number as u64, place as u64], out, 0)
 }
 
-// A line of one number.
-fn put_number(name: &[u8], x: u64, out: &mut [u8], at: usize) -> usize
-    requires { ⌜ (length (now name) ≤ 8) × (at + max-line ≤ limit) ⌝ }
-    ensures { λ r. ⌜ PutsLine (numbered (now (name .entry)) x) (now (out .entry)) at (now (out .exit)) r ⌝ }
-{
-    put_line(name, &[x], out, at)
-}
-
 // A line for each of the first `bits` bits of a word that is set, numbered from `first` on.
 fn put_members(name: &[u8], word: u64, first: u64, bits: u64, out: &mut [u8], at: usize) -> usize
     requires { ⌜ (length (now name) ≤ 8) × (first ≤ 1) × (bits ≤ 64) × (at + max-line * bits ≤ limit) ⌝ }
@@ -38,7 +30,7 @@ fn put_members(name: &[u8], word: u64, first: u64, bits: u64, out: &mut [u8], at
     let mut k: u64 = 0;
     while k < bits {
         if (word >> k) % 2 == 1 {
-            next = put_number(name, first + k, out, next);
+            next = put_value(name, first + k, out, next);
         }
         k += 1;
     }

@@ -56,49 +56,38 @@ fn raised(file: &[u8], out: &mut [u8]) -> usize {
     0
 }
 
-fn of_files(word: &[u8], input: &[u8], out: &mut [u8]) -> usize {
-    if same(word, b"element") {
-        return file_report::listing::make(input, number(2) as u64, out);
+// Which of the words it is, from 0 on; one more than the last where it is none of them.
+fn number_of(word: &[u8]) -> usize {
+    let words: &[u8] = b"plain relay limits meet set raise raised element list text table";
+    let mut k: usize = 0;
+    let mut at: usize = 0;
+    while at < words.len() {
+        let end = cases::find(words, at, b' ');
+        if same(word, &words[at..end]) {
+            return k;
+        }
+        at = end + 1;
+        k += 1;
     }
-    if same(word, b"list") {
-        return file_report::listing::show(input, out);
-    }
-    if same(word, b"text") {
-        return file_report::texts::show(input, out);
-    }
-    if same(word, b"table") {
-        return file_report::texts::make(input, out);
-    }
-    0
+    k
 }
 
-fn of_rows(word: &[u8], file: &[u8], out: &mut [u8]) -> usize {
-    if same(word, b"meet") {
-        return report::meetings::rows(file, number(2), number(3), out);
+// What is written for the word with this number.
+fn answer(k: usize, input: &[u8], out: &mut [u8]) -> usize {
+    match k {
+        0 => report::render_plain(input, out),
+        1 => report::render_relayed(input, number(2), out),
+        2 => verdict_within(input, out),
+        3 => report::meetings::rows(input, number(2), number(3), out),
+        4 => report::meetings::set(input, number(2), out),
+        5 => report::raised::render(input, out),
+        6 => raised(input, out),
+        7 => file_report::listing::make(input, number(2) as u64, out),
+        8 => file_report::listing::show(input, out),
+        9 => file_report::texts::show(input, out),
+        10 => file_report::texts::make(input, out),
+        _ => 0,
     }
-    if same(word, b"set") {
-        return report::meetings::set(file, number(2), out);
-    }
-    if same(word, b"raise") {
-        return report::raised::render(file, out);
-    }
-    if same(word, b"raised") {
-        return raised(file, out);
-    }
-    of_files(word, file, out)
-}
-
-fn of_plans(word: &[u8], file: &[u8], out: &mut [u8]) -> usize {
-    if same(word, b"plain") {
-        return report::render_plain(file, out);
-    }
-    if same(word, b"relay") {
-        return report::render_relayed(file, number(2), out);
-    }
-    if same(word, b"limits") {
-        return verdict_within(file, out);
-    }
-    of_rows(word, file, out)
 }
 
 fn render(input: &[u8], out: &mut [u8]) -> usize {
@@ -107,7 +96,7 @@ fn render(input: &[u8], out: &mut [u8]) -> usize {
     }
     let mut word = [0u8; LONGEST];
     let size = os::arg(1, &mut word);
-    of_plans(&word[..size], input, out)
+    answer(number_of(&word[..size]), input, out)
 }
 
 fn main() {

@@ -11,22 +11,22 @@
 // table is made it is all zeros, which breaks the rules: 15.
 use cases::find;
 use cases::number_at;
-use cases::print;
 use libc::STDIN_FILENO;
 use libc::STDOUT_FILENO;
 use live::Entry;
 use live::Live;
 use table::Answer;
 use table::Table;
+ghost use Prim.Native.Nat.{_≤_};
+ghost use lib.ListN.{length};
 
 // as many numbers as a line has at most
 const MOST: usize = 5;
 
 const LARGEST: u64 = 65535;
 
-fn end_line() {
-    io::write_all(STDOUT_FILENO, b"\n");
-}
+// room for the longest line that is printed: 12 letters, 6 numbers of up to 20 digits with a space each, and a newline
+const LINE: usize = 12 + 6 * 21 + 1;
 
 // ---- a line of the input
 
@@ -83,9 +83,12 @@ fn small_at(given: &[u64], k: usize) -> u16 {
 
 // ---- the answers
 
-fn print_line(word: &[u8], numbers: &[u64]) {
-    print(word, numbers);
-    end_line();
+fn print_line(word: &[u8], numbers: &[u64])
+    requires { ⌜ (length (now word) ≤ 12) × (length (now numbers) ≤ 6) ⌝ }
+{
+    let mut line = [0u8; LINE];
+    let size = decimal::put_line(word, numbers, &mut line, 0);
+    io::write_all(STDOUT_FILENO, &line[..size]);
 }
 
 fn print_row(live: Live, i: usize) {

@@ -5,3 +5,4 @@ pub mod Transfer
 pub mod Loops
 pub mod SetWords
 pub mod Sums
+pub mod Chained

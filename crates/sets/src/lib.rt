@@ -2,6 +2,10 @@
 //
 // An overlap set is the rows across its least second end (proofs/Overlap), and the rows across a second end are an overlap set just when
 // some row has started since the second end before it. So a word and a bool find the sets, in their order, and nothing is sorted.
+mod chains;
+
+pub use chains::HEADS;
+pub use chains::chain;
 use table::Table;
 ghost use mathlib.Core.Path.{_≡_};
 ghost use mathlib.Core.Logic.{_≢_};

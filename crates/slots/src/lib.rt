@@ -9,16 +9,18 @@
 // used up inside, so there is at most one stretch more than rows, however long the interval is. Of the rows that start at one element each
 // scans on from where the row before it stopped: every slot up to there has a last end past the element.
 mod parting;
+mod plain;
 
-use chains::HEADS;
 use parting::STRETCHES;
+pub use plain::fill_plain;
+use sets::HEADS;
 use table::Table;
 ghost use mathlib.Core.Path.{_≡_};
 ghost use Prim.Native.Nat.{ℕ, _+_, _≤_, _<_};
 ghost use lib.ListN.{length, set};
 ghost use Rattle.numbers.specs.Lists.{at};
 ghost use Rattle.rules.specs.Bounds.{max-slots};
-ghost use Rattle.chains.specs.Chained.{ChainedRows};
+ghost use Rattle.sets.specs.Chained.{ChainedRows};
 ghost use Rattle.placing.specs.Filled.{FilledSlots};
 
 // A byte as an index.

@@ -27,7 +27,7 @@ use lib.ListN.{length, set}
 use Rattle.numbers.specs.Lists.{at}
 use Rattle.numbers.proofs.Truth.{along}
 use Rattle.rules.specs.Bounds.{max-rows}
-use Rattle.chains.specs.Chained.{Link}
+use Rattle.sets.specs.Chained.{Link}
 use Rattle.placing.specs.Filled.{Kept, FilledSlots}
 use Rattle.stretches.specs.Stretches.{most-stretches, Tiles, Spread}
 use Rattle.placing.proofs.Kept.{kept-trans}

@@ -2,3 +2,8 @@ pub mod Lines
 pub mod RowByRow
 pub mod Texts
 pub mod Only
+pub mod Parts
+pub mod LineFields
+pub mod TextLines
+pub mod Numbers
+pub mod Spots

@@ -24,9 +24,9 @@ use Rattle.table.proofs.Faults.{row-found, row-clean}
 use Rattle.grammar.specs.TableText.{Part, field, last, number, placed, no-heading, missing-field, spare-field, number-checks}
 use Rattle.grammar.specs.TableText.{rowTable, needed}
 use Rattle.grammar.specs.TableText.{heading-checks, form-checks, value-checks, text-row-checks}
-use Rattle.fields.specs.declared.Span.{Span}
-use Rattle.fields.specs.declared.Cell.{Cell}
-use Rattle.fields.specs.Walk.{spanned, IsField, IsCell}
+use Rattle.text_reader.specs.declared.fields.Span.{Span}
+use Rattle.text_reader.specs.declared.fields.Cell.{Cell}
+use Rattle.text_reader.specs.Walk.{spanned, IsField, IsCell}
 use Rattle.text_reader.specs.Reading.{IsRowOf, inRing, blame}
 
 -- ---- a field

@@ -27,8 +27,8 @@ use Rattle.rules.proofs.Calls.{filled-lent}
 use Rattle.table.specs.Rows.{inMemory}
 use Rattle.round_trip.proofs.RoundTrip.{last-told}
 use Rattle.grammar.specs.TableText.{Part, part, some, lines, last, row, number, textRings, textTable, textLabelled, text-row-checks}
-use Rattle.fields.specs.declared.Line.{Line}
-use Rattle.fields.specs.Walk.{linesAt, lineOf, IsNextLine}
+use Rattle.text_reader.specs.declared.fields.Line.{Line}
+use Rattle.text_reader.specs.Walk.{linesAt, lineOf, IsNextLine}
 use Rattle.text_reader.specs.declared.Form.{Form}
 use Rattle.text_reader.specs.Reading.{IsRowOf, IsRowAt, Rest, AreRows}
 use Rattle.text_reader.proofs.Lines.{row-numbered}

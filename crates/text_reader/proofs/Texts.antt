@@ -20,8 +20,8 @@ use Rattle.grammar.specs.TableText.{Part, part, parts, kept, lines, field, head
 use Rattle.grammar.specs.TableText.{number, ringsIn, textRings, textTable, textLabelled, textVersion, max-text}
 use Rattle.grammar.specs.TableText.{long-text, heading-checks}
 use Rattle.grammar.specs.TableText.{text-row-checks, text-line-checks, text-checks, text-reader-checks, TextRead}
-use Rattle.fields.specs.declared.Line.{Line}
-use Rattle.fields.specs.Walk.{linesAt, lineOf, IsNextLine}
+use Rattle.text_reader.specs.declared.fields.Line.{Line}
+use Rattle.text_reader.specs.Walk.{linesAt, lineOf, IsNextLine}
 use Rattle.text_reader.specs.declared.Heading.{Heading}
 use Rattle.text_reader.specs.declared.Rows.{Rows}
 use Rattle.text_reader.specs.declared.TextReading.{TextReading}

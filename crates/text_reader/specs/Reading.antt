@@ -29,7 +29,7 @@ use Rattle.rules.specs.Calls.{lent, no-mark}
 use Rattle.table.specs.declared.Row.{Row}
 use Rattle.grammar.specs.TableText.{Part, some, lines, field, last, row, number, ringsIn, textRings, textTable, textLabelled}
 use Rattle.grammar.specs.TableText.{textMark, textVersion, number-checks, heading-checks, form-checks, text-row-checks, text-line-checks}
-use Rattle.fields.specs.Walk.{linesAt}
+use Rattle.text_reader.specs.Walk.{linesAt}
 use Rattle.text_reader.specs.declared.Cells.{Cells}
 use Rattle.text_reader.specs.declared.Form.{Form}
 use Rattle.text_reader.specs.declared.Heading.{Heading}

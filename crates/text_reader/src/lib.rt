@@ -1,11 +1,15 @@
 // The reader of tables in text: from a text to numbers in memory.
 //
 // A line is lent as far as its comment, and `from` is the place of the text where it starts.
+mod fields;
+
 use fields::Cell;
 use fields::Fault;
+pub use fields::Spot;
 use fields::field;
 use fields::has_field;
 use fields::next_line;
+pub use fields::spot_of;
 use table::Answer;
 use table::Row;
 use table::Table;
@@ -26,7 +30,7 @@ ghost use Rattle.table.specs.Rows.{sized};
 ghost use Rattle.grammar.specs.TableText as grammar;
 ghost use Rattle.grammar.specs.TableText.{part, max-text, ringsIn, textRings, textTable, missing-field, spare-field, value-checks};
 ghost use Rattle.grammar.specs.TableText.{TextRead};
-ghost use Rattle.fields.specs.Walk.{IsCell};
+ghost use Rattle.text_reader.specs.Walk.{IsCell};
 ghost use Rattle.text_reader.specs.Reading.{AreCells, IsRowOf, inRing, IsForm, IsRowAt, IsHeading, blame, Rest, AreRows, versionFor};
 ghost use Rattle.text_reader.specs.Reading.{IsNothing, AreLines};
 

@@ -18,7 +18,7 @@ use Rattle.rules.specs.Text as text
 use Rattle.decimal.specs.Plain.{IsDigit, Digits, Plain, none, some}
 use Rattle.decimal.proofs.Decimal.{decimal-plain}
 use Rattle.grammar.specs.TableText.{isNewline, isHash, isBlank, until}
-use Rattle.fields.proofs.Parts.{until-past}
+use Rattle.text_reader.proofs.Parts.{until-past}
 
 unfoldable pub clear : (ℕ → Bool) → List ℕ → Bool
 clear p [] = true

@@ -16,8 +16,8 @@ use Rattle.numbers.specs.Lists.{each}
 use Rattle.numbers.proofs.Lists.{each-eq, each-join}
 use Rattle.rules.specs.Text.{Line, space, newline, decimal, textOf}
 use Rattle.grammar.specs.TableText.{Part, part, isNewline, isHash, isBlank, parts, until, some, kept, fields, uncommented, field}
-use Rattle.fields.proofs.Parts.{until-here, until-end, after, parts-first}
-use Rattle.fields.proofs.Fields.{fields-none, fields-blank, fields-word}
+use Rattle.text_reader.proofs.Parts.{until-here, until-end, after, parts-first}
+use Rattle.text_reader.proofs.LineFields.{fields-none, fields-blank, fields-word}
 use Rattle.text_trip.proofs.Clear.{clear, until-clear, spaced, spaced-none, spaced-next, decimal-some, decimal-clear, blank-skips}
 
 -- ---- fields

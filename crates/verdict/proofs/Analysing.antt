@@ -44,14 +44,22 @@ module _ (t : Table) where
       analysed-refused (o .answer) h
       (stopped (line-checks t) (bound-checks t) (o .answer .number) (o .answer .place) h (O .answers))
 
-  module _ {o : Outline} {xs : List ℕ} (R : Rated t o xs) where
+  module _ {o : Outline} {i : ℕ} {xs : List ℕ} (R : Rated t o i xs) where
     pub line-none : None (line-checks t)
     line-none = outlined-none (line-numbered t) (R .outlined) (R .passed)
 
-    pub rated-weighable : Weighable t (o .time) (o .top) (o .first) (o .second) xs
+    pub rated-weighable : Weighable t (t .rows) i (o .time) (o .top) (o .first) (o .second) xs
     rated-weighable =
         let F = R .outlined .found (R .passed) in
-        record { timed = F .timed; clear = F .clear; top-is = F .top; first = F .first; second = F .second; rate = R .rate }
+        record {
+          rows-is = refl;
+          weighed = R .weighed;
+          timed = F .timed;
+          clear = F .clear;
+          top-is = F .top;
+          first = F .first;
+          second = F .second;
+        }
 
     module _ (w : Loaded) (W : Weighs t w) where
       -- 13 or 14
@@ -73,7 +81,7 @@ module _ (t : Table) where
             found = λ h. record {
               outline = F;
               admissible = table-admissible t s none;
-              rate = R .rate;
+              rate = R .weighed .rate;
               load = v .3 ∙ ap (reported t) (sets-only (s .rows-low) (v .1) (F .list));
             };
             refused = λ h. absurd (h (R .passed));

@@ -9,6 +9,7 @@ use native.Mathlib.Nat.{le-of-dvd, eq-or-lt-of-le, mul-le-mul, mul-le-mul-right,
 use native.Mathlib.Omega.{arith}
 use lib.Dec.{T, ltb, eqb, eqb→eq, lt→ltb}
 use borrow.Author.Count.{below-more}
+use borrow.Author.Tests.{le-ltb}
 use Rattle.numbers.specs.Finite.{every, lowest, largest}
 use Rattle.numbers.specs.Word.{bit}
 use Rattle.numbers.specs.Lists.{at}
@@ -23,7 +24,7 @@ use Rattle.table.specs.Columns.{ByRow}
 use Rattle.sets.proofs.Sums.{sum-none}
 use Rattle.lags.proofs.Intervals.{period-divides, hyperperiod-positive, shortest-positive, shortest-low, rate-period, rate-le}
 use Rattle.lags.proofs.Intervals.{equal-shortest, equal-hyperperiod}
-use Rattle.verdict.specs.Weights.{Times, lightBy, Rates, weight, nextLowest, Weighed}
+use Rattle.verdict.specs.Weights.{Times, Rates, weight, nextLowest, Weighed}
 
 -- ---- equal periods
 
@@ -56,18 +57,19 @@ times-of s = record {
   cost-high = λ i l. s .row i l .cost-high;
 }
 
-module _ {e : Bool} (l : ℕ) (cost period : ℕ → ℕ) (i : ℕ) where
-  pub light-equal : e ≡ true → T (lightBy e l cost period i) → ⊥
-  unfolding lightBy
-  light-equal q h = refutes e (fst (not e) (ltb (cost i * l) (period i)) h) (of-true q)
-
-  pub light-differ : {a b : ℕ} → e ≡ false → a ≡ cost i → b ≡ period i → lightBy e l cost period i ≡ ltb (a * l) b
-  unfolding lightBy
-  light-differ q u v = rw (q, u, v)
-
-pub light-is : (t : Table) {e : Bool} {l : ℕ} → e ≡ equalPeriods t → l ≡ shortest t → lightBy e l (t .cost) (t .period) ≡ light t
-unfolding lightBy light
-light-is t p q = rw (p, q)
+-- where all periods are equal no cost × L is below one
+pub light-is : {t : Table} → Sound t → (i : ℕ) → i < t .rows → ltb (t .cost i * shortest t) (t .period i) ≡ light t i
+unfolding light
+light-is {t} s i l = go (equalPeriods t) refl
+  where
+    go : (e : Bool) → equalPeriods t ≡ e → ltb (t .cost i * shortest t) (t .period i) ≡ light t i
+    go true e =
+        let h : shortest t ≡ hyperperiod t = equal-shortest s (of-true e) ∙ sym (equal-hyperperiod s (of-true e)) in
+        let m : 1 * shortest t ≤ t .cost i * shortest t = mul-le-mul-right (shortest t) (s .row i l .cost-low) in
+        let p : t .period i ≤ t .cost i * shortest t =
+        omega (arith, h, m, le-of-dvd (hyperperiod-positive s) (period-divides s i l)) in
+        rw e (le-ltb (t .cost i * shortest t) (t .period i) p)
+    go false e = rw e refl
 
 -- ---- the rates
 
@@ -86,7 +88,11 @@ pub weight-small : {n : ℕ} {xs : List ℕ} → Rates xs n → (w : ℕ) → we
 unfolding weight
 weight-small {n} {xs} S w = sumIn-most n (bit w) (at xs) max-slots (S .small)
 
--- ---- the lowest set over its bound
+-- ---- the lowest row or set that passes a test
+
+pub lowest-start : (p : ℕ → Bool) → 0 ≡ lowest 0 p
+unfolding lowest
+lowest-start p = refl
 
 pub lowest-next : (n : ℕ) (p : ℕ → Bool) → lowest (n + 1) p ≡ nextLowest (lowest n p) n (p n)
 unfolding nextLowest

@@ -1,7 +1,7 @@
 -- A table analysed: its outline, its rows' rates and its reported load, or a refusal.
 --
 --   Accepted t a       a is the analysis of the table t, which is admitted
---   Rated t o xs       o is the outline of the table t, which 10 and 11 don't refuse, and xs are its rows' rates
+--   Rated t o i xs     o is the outline of the table t, which 10 and 11 don't refuse, xs are its rows' rates and i is the lowest light row
 --   blank r            the analysis of a refusal: 0 for all but the answer
 --   table-checks t     10 to 14, in their order
 --   Analysed cs t a    a answers the checks cs, and is what is found of table t where none of them applies
@@ -23,6 +23,7 @@ use Rattle.outline.specs.Outlined.{Found, Outlined}
 use Rattle.outline.specs.Outlined as outline
 use Rattle.lags.specs.Lags.{Admissible}
 use Rattle.verdict.specs.declared.Analysis.{Analysis}
+use Rattle.verdict.specs.Weighing.{RowsWeighed}
 
 pub record Accepted (t : Table) (a : Analysis) : Type 0 where
   pub outline : Found t (a .outline)
@@ -30,10 +31,10 @@ pub record Accepted (t : Table) (a : Analysis) : Type 0 where
   pub rate : ByRow (t .rows) (loads.rate t) (a .rate)
   pub load : a .load ≡ loads.reported t (take (a .outline .sets) (a .outline .words))
 
-pub record Rated (t : Table) (o : Outline) (xs : List ℕ) : Type 0 where
+pub record Rated (t : Table) (o : Outline) (light : ℕ) (xs : List ℕ) : Type 0 where
   pub outlined : Outlined (line-checks t) t o
   pub passed : o .answer .number ≡ 0
-  pub rate : ByRow (t .rows) (loads.rate t) xs
+  pub weighed : RowsWeighed t light xs
 
 abbrev pub blank : Answer → Analysis
 blank answer = record { outline = outline.blank answer; load = 0; rate = replicate max-rows 0 }

@@ -1,8 +1,6 @@
 -- The loads of rows and sets as the code weighs them: whole numbers of 1 / h, from the rows' rates in an array.
 --
 --   Times n cost period  costs and periods of n rows, as a bus allows them
---   lightBy e l cost period i
---                        row i is light, where e says whether all periods are equal, and l is L
 --   Rates xs n           each of n rows has a rate, and none is above 4096
 --   weight n xs w        the load of the set whose word is w, from the rates xs of n rows
 --   nextLowest a n b     the lowest number below n + 1 that passes a test, where a is the one below n (or n), and b the test of n
@@ -28,9 +26,6 @@ pub record Times (n : ℕ) (cost period : ℕ → ℕ) : Type 0 where
   pub period-low : (i : ℕ) → i < n → 1 ≤ period i
   pub period-high : (i : ℕ) → i < n → period i ≤ max-slots
   pub cost-high : (i : ℕ) → i < n → cost i ≤ period i
-
-unfoldable pub lightBy : Bool → ℕ → (cost period : ℕ → ℕ) → ℕ → Bool
-lightBy e l cost period i = not e && ltb (cost i * l) (period i)
 
 pub record Rates (xs : List ℕ) (n : ℕ) : Type 0 where
   pub few : n ≤ max-rows

@@ -13,7 +13,7 @@ ghost use Rattle.rules.specs.Refusals.{verdict-checks};
 ghost use Rattle.rules.specs.Calls.{fileAsk, Judged};
 ghost use Rattle.table.specs.Sound.{Sound};
 ghost use Rattle.table.specs.Columns.{columnTable};
-ghost use Rattle.verdict.specs.Weighing.{Rest, tableBy, Weighable, Weighs};
+ghost use Rattle.verdict.specs.Weighing.{Weighable, Weighs};
 ghost use Rattle.verdict.specs.Analysed.{table-checks, blank, Accepted, Analysed};
 ghost use Rattle.verdict.specs.Verdict.{numberOf, placeOf, cutOf, otherOf, intervalOf, hyperOf, loadOf, setsOf};
 ghost use Rattle.verdict.specs.Verdict.{JudgedBy, VerdictOn};
@@ -37,31 +37,20 @@ fn unweighed(answer: Answer) -> Loaded
     }
 }
 
-// The rows and sets of a table weighed, whose time, line and rates are found; `top` is where the line ends. All periods are equal exactly
-// if L is h.
+// The rows and sets of a table weighed, whose time, line, rates and lowest light row are found; `top` is where the line ends.
 pub fn weigh<'a>(
     rows: usize,
+    light: usize,
     top: usize,
     time: Time,
-    cost: &'a [u16; Table::ROWS],
-    period: &'a [u16; Table::ROWS],
     starts: &'a [u8; Table::ROWS],
     ends: &'a [u8; Table::ROWS],
     rate: &'a [u16; Table::ROWS],
 ) -> Loaded
-    requires { ⌜ ((b : Rest) × Weighable (tableBy b rows (now cost) (now period)) time top (now starts) (now ends) (now rate)) ⌝ }
-    ensures { λ r. ⌜ ((b : Rest)
-        → Weighable (tableBy b rows (now (cost .entry)) (now (period .entry))) time top
-        (now (starts .entry)) (now (ends .entry)) (now (rate .entry))
-        → Weighs (tableBy b rows (now (cost .entry)) (now (period .entry))) r) ⌝ }
+    requires { ⌜ ((t : bus.Table) × Weighable t rows light time top (now starts) (now ends) (now rate)) ⌝ }
+    ensures { λ r. ⌜ ((t : bus.Table) → Weighable t rows light time top (now (starts .entry)) (now (ends .entry)) (now (rate .entry))
+        → Weighs t r) ⌝ }
 {
-    let light = weights::lowest_light(
-        rows,
-        cost,
-        period,
-        time.interval,
-        time.interval == time.hyper,
-    );
     if light < rows {
         return unweighed(Answer::at(Answer::LIGHT_ROW, light));
     }
@@ -115,45 +104,27 @@ pub fn analysis_of<'a>(
         (columnTable elements rows rings (now (cost .entry)) (now (period .entry)) (now (first .entry)) (now (second .entry))
         (now (way .entry))) r ⌝ }
 {
-    let laid = outline::layout_of(elements, rows, rings, period, first, second, way);
-    let answer = laid.answer;
+    let outline = outline::outline_of(elements, rows, rings, period, first, second, way);
+    let answer = outline.answer;
     if answer.number != Answer::DONE {
         return Analysis::refused(answer);
     }
-    let time = laid.time;
-    let line_first = laid.line.first;
-    let line_second = laid.line.second;
-    let list = sets::list_sets(&line_first, &line_second, rows, laid.top);
     let mut rate = [0u16; Table::ROWS];
-    weights::put_rates(rows, time.hyper, cost, period, &mut rate);
+    let time = outline.time;
+    let light = weights::put_rates(rows, time.hyper, time.interval, cost, period, &mut rate);
     let weighing = weigh(
         rows,
-        laid.top,
+        light,
+        outline.top,
         time,
-        cost,
-        period,
-        &line_first,
-        &line_second,
+        &outline.first,
+        &outline.second,
         &rate,
     );
     let next = weighing.answer;
     if next.number != Answer::DONE {
         return Analysis::refused(next);
     }
-    let words = list.words;
-    let outline = Outline {
-        answer: answer,
-        elements: elements,
-        rows: rows,
-        cut: laid.cut,
-        other: laid.other,
-        top: laid.top,
-        time: time,
-        first: line_first,
-        second: line_second,
-        sets: list.count,
-        words: words,
-    };
     Analysis {
         outline: outline,
         load: weighing.load,
@@ -270,13 +241,12 @@ fn judge_table<'a>(
     }
     let time = laid.time;
     let mut rate = [0u16; Table::ROWS];
-    weights::put_rates(rows, time.hyper, cost, period, &mut rate);
+    let light = weights::put_rates(rows, time.hyper, time.interval, cost, period, &mut rate);
     let weighing = weigh(
         rows,
+        light,
         laid.top,
         time,
-        cost,
-        period,
         &laid.line.first,
         &laid.line.second,
         &rate,

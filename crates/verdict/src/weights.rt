@@ -18,7 +18,7 @@ ghost use Rattle.rules.specs.Loads.{past};
 ghost use Rattle.table.specs.Columns.{ByRow};
 ghost use Rattle.sets.specs.Walk.{line-size};
 ghost use Rattle.sets.specs.Sets.{OnLine, SetWords};
-ghost use Rattle.verdict.specs.Weights.{Times, lightBy, Rates, nextLowest, SumsAt, Weighed};
+ghost use Rattle.verdict.specs.Weights.{Times, Rates, nextLowest, SumsAt, Weighed};
 
 // ---- rows
 
@@ -33,29 +33,6 @@ fn jobs_in(hyper: u64, last: u64, jobs: u64, period: u64) -> u64
     hyper / period
 }
 
-// All rows' rates, the loads cost / period in units of 1 / h, written to `rate`, which is 0: a row has at most all h slots.
-pub fn put_rates<'a>(
-    rows: usize,
-    hyper: u64,
-    cost: &'a [u16; Table::ROWS],
-    period: &'a [u16; Table::ROWS],
-    rate: &mut [u16; Table::ROWS],
-)
-    requires { ⌜ Times rows (at (now cost)) (at (now period)) × (hyper ≤ max-slots) × (now rate ≡ replicate max-rows 0) ⌝ }
-    ensures { λ _. ⌜ ByRow rows (λ i. hyper / at (now (period .entry)) i * at (now (cost .entry)) i) (now (rate .exit)) ⌝ }
-{
-    let mut last: u64 = 1;
-    let mut jobs = hyper;
-    let mut i: usize = 0;
-    while i < rows {
-        let next = table::slots_at(period, i);
-        jobs = jobs_in(hyper, last, jobs, next);
-        last = next;
-        rate[i] = (jobs * table::slots_at(cost, i)) as u16;
-        i += 1;
-    }
-}
-
 // A row's cost × L is below its period.
 fn is_light(cost: u64, interval: u64, period: u64) -> bool
     requires { ⌜ (cost ≤ max-slots) × (interval ≤ max-slots) ⌝ }
@@ -64,32 +41,43 @@ fn is_light(cost: u64, interval: u64, period: u64) -> bool
     cost * interval < period
 }
 
-// The lowest row with cost × L below its period, where periods differ; the row count where there is none.
-pub fn lowest_light<'a>(
+// The lowest number that passes a test, one number on: `found` is the one below `n`, or `n` where there is none.
+fn lowest_next(found: usize, n: usize, passes: bool) -> usize
+    requires { ⌜ n < max-rows ⌝ }
+    ensures { λ r. ⌜ r ≡ nextLowest found n passes ⌝ }
+{
+    if found == n && !passes { n + 1 } else { found }
+}
+
+// All rows' rates, the loads cost / period in units of 1 / h, written to `rate`, which is 0: a row has at most all h slots. Gives the lowest
+// light row, the row count where there is none: where all periods are equal L is one too, so that no cost × L is below it.
+pub fn put_rates<'a>(
     rows: usize,
+    hyper: u64,
+    interval: u64,
     cost: &'a [u16; Table::ROWS],
     period: &'a [u16; Table::ROWS],
-    interval: u64,
-    equal: bool,
+    rate: &mut [u16; Table::ROWS],
 ) -> usize
-    requires { ⌜ Times rows (at (now cost)) (at (now period)) × (interval ≤ max-slots) ⌝ }
-    ensures { λ r. ⌜ r ≡ lowest rows (lightBy equal interval (at (now (cost .entry))) (at (now (period .entry)))) ⌝ }
+    requires { ⌜ Times rows (at (now cost)) (at (now period)) × (hyper ≤ max-slots) × (interval ≤ max-slots)
+        × (now rate ≡ replicate max-rows 0) ⌝ }
+    ensures { λ r. ⌜ ByRow rows (λ i. hyper / at (now (period .entry)) i * at (now (cost .entry)) i) (now (rate .exit))
+        × (r ≡ lowest rows (λ i. ltb (at (now (cost .entry)) i * interval) (at (now (period .entry)) i))) ⌝ }
 {
-    if equal {
-        return rows;
-    }
+    let mut light: usize = 0;
+    let mut last: u64 = 1;
+    let mut jobs = hyper;
     let mut i: usize = 0;
     while i < rows {
-        if is_light(
-            table::slots_at(cost, i),
-            interval,
-            table::slots_at(period, i),
-        ) {
-            return i;
-        }
+        let own = table::slots_at(cost, i);
+        let next = table::slots_at(period, i);
+        jobs = jobs_in(hyper, last, jobs, next);
+        last = next;
+        rate[i] = (jobs * own) as u16;
+        light = lowest_next(light, i, is_light(own, interval, next));
         i += 1;
     }
-    i
+    light
 }
 
 // ---- sets
@@ -109,14 +97,6 @@ fn larger(a: u64, b: u64) -> u64
     ensures { λ r. ⌜ r ≡ max a b ⌝ }
 {
     if a < b { b } else { a }
-}
-
-// The lowest number that passes a test, one number on: `found` is the one below `n`, or `n` where there is none.
-fn lowest_next(found: usize, n: usize, passes: bool) -> usize
-    requires { ⌜ n < max-rows ⌝ }
-    ensures { λ r. ⌜ r ≡ nextLowest found n passes ⌝ }
-{
-    if found == n && !passes { n + 1 } else { found }
 }
 
 // What is found of sets: how many there are, the lowest over its bound (their number where none is), and the largest load.

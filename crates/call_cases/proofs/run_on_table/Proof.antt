@@ -1,10 +1,13 @@
--- run_on_table: the bytes that it lends are as many as it says.
+-- run_on_table: the parts that it lends are as long as they say.
+use borrow.Author.Needs.{needs}
 use native.Mathlib.Omega.{arith}
 use mathlib.Core.Path.{sym}
 use lib.Seq.{length-take-le}
-use borrow.Author.Needs.{needs}
 use Rattle.call_cases.proofs.run_on_table.Statement.{statement}
 use Rattle.call_cases.proofs.run_on_table.Tie as tie
+
+letter-of-requires : tie.Need-letter-of-requires
+letter-of-requires c κs = search needs
 
 before-table-requires : tie.Need-before-table-requires
 before-table-requires c κs = search needs
@@ -12,8 +15,8 @@ before-table-requires c κs = search needs
 returns : tie.Need-returns
 returns c = search needs
 
-is-board-requires : tie.Need-is-board-requires
-is-board-requires c κs = search needs
+has-requires : tie.Need-has-requires
+has-requires c κs = search needs
 
 mul-table-file : tie.Need-mul-table-file
 mul-table-file c = search needs
@@ -39,6 +42,9 @@ array-share-prefix-file c = search needs
 slice-aggregate-run-on : tie.Need-slice-aggregate-run-on
 slice-aggregate-run-on c = sym (length-take-le _ _ (omega arith))
 
+slice-aggregate-run-on-2 : tie.Need-slice-aggregate-run-on-2
+slice-aggregate-run-on-2 c = sym (length-take-le _ _ (omega arith))
+
 run-on-requires : tie.Need-run-on-requires
 run-on-requires c κs = search needs
 
@@ -52,9 +58,10 @@ pub run-on-table-spec : {M : Type 1} → statement M
 run-on-table-spec =
     tie.close
     (tie.spec
+    letter-of-requires
     before-table-requires
     returns
-    is-board-requires
+    has-requires
     mul-table-file
     sub-table-file
     part-table-file-start
@@ -63,6 +70,7 @@ run-on-table-spec =
     table-file-requires
     array-share-prefix-file
     slice-aggregate-run-on
+    slice-aggregate-run-on-2
     run-on-requires
     returns-2
     returns-3)

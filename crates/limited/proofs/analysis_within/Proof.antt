@@ -10,9 +10,11 @@ use Rattle.rules.specs.Refusals.{Answers, line-checks, limit-checks, bound-chec
 use Rattle.table.specs.Columns.{tableOf}
 use Rattle.ring.proofs.Rows.{sound-routes}
 use Rattle.outline.specs.Outlined.{Outlined}
-use Rattle.verdict.proofs.Weighing.{times-of, rates-are}
+use Rattle.lags.proofs.Intervals.{shortest-le}
+use Rattle.verdict.proofs.Weighing.{times-of}
+use Rattle.verdict.proofs.Weighed.{rows-weighed}
 use Rattle.limited.specs.Limits.{labelled, Limited}
-use Rattle.verdict.specs.Weighing.{Rest, Weighs}
+use Rattle.verdict.specs.Weighing.{Weighs}
 use Rattle.verdict.specs.Analysed.{Rated, Analysed}
 use Rattle.verdict.specs.declared.Analysis.{Analysis}
 use Rattle.verdict.proofs.Analysing.{rated-weighable, analysed-next, analysed-done}
@@ -26,12 +28,6 @@ start d = d .before .before .before .before .before .before
 
 abbrev table : tie.After-outline-of → Table
 table d = tableOf (start d .args .t1)
-
--- what weighing does not look at of it
-abbrev rest : tie.After-outline-of → Rest
-rest d =
-    let t = table d in
-    record { elements = t .elements; rings = t .rings; first = t .first; second = t .second; way = t .way }
 
 outlined : (d : tie.After-outline-of) → Outlined (line-checks (table d)) (table d) (d .outline-of .result)
 outlined d = d .outline-of .ensures (at (start d .args .t1 .cost)) (start d .pre .0)
@@ -51,23 +47,23 @@ returns c =
 
 -- the way back from the rates to the outline, and from the segments to the rates
 abbrev asked : tie.After-put-rates → tie.After-outline-of
-asked d = d .before .before .before .before .before .before .before .before
+asked d = d .before .before .before .before .before .before .before .before .before
 
 abbrev rates : tie.After-put-rates → List ℕ
-rates d = d .put-rates .last .1 .1 .1 .1 .0
+rates d = d .put-rates .last .1 .1 .1 .1 .1 .0
 
-rated : (d : tie.After-put-rates) → Rated (table (asked d)) (asked d .outline-of .result) (rates d)
+rated : (d : tie.After-put-rates) → Rated (table (asked d)) (asked d .outline-of .result) (d .put-rates .result) (rates d)
 rated d =
-    let e = d .before .before .before .before .before in
+    let e = d .before .before .before .before .before .before in
     let a = asked d in
     let F = outlined a .found (e .if1 .left) in
-    record { outlined = outlined a; passed = e .if1 .left; rate = rates-are (table a) (F .timed .hyper) (d .put-rates .ensures) }
+    record { outlined = outlined a; passed = e .if1 .left; weighed = rows-weighed (F .timed) (d .put-rates .ensures) }
 
 put-rates-requires : tie.Need-put-rates-requires
 put-rates-requires c κs =
-    let e = c .before .before .before .before in
+    let e = c .before .before .before .before .before in
     let T = outlined (e .before .before .before) .found (e .if1 .left) .timed in
-    (times-of (T .sound), omega (arith, T .hyper, T .short), refl)
+    (times-of (T .sound), omega (arith, T .hyper, T .short), omega (arith, T .interval, shortest-le (T .sound)), refl)
 
 lay-segments-requires : tie.Need-lay-segments-requires
 lay-segments-requires c κs = let o = asked (c .before .before .before .before) in sound-routes {t = table o} (start o .pre .0)
@@ -82,7 +78,7 @@ limited : (s : tie.After-lay-segments)
     Limited (table o) (a .t1 .elements) (a .t1 .rows) (o .outline-of .result .time .hyper) (rates d) (s .lay-segments .result))
 limited s =
     let d = weighted s in
-    let T = outlined (asked d) .found (d .before .before .before .before .before .if1 .left) .timed in
+    let T = outlined (asked d) .found (d .before .before .before .before .before .before .if1 .left) .timed in
     record {
       sound = T .sound;
       one-ring = start (asked d) .pre .1;
@@ -90,7 +86,7 @@ limited s =
       rows-is = refl;
       hyper-is = T .hyper;
       short = T .short;
-      rate-is = rated d .rate;
+      rate-is = rated d .weighed .rate;
       segments-is = s .lay-segments .ensures;
     }
 
@@ -126,12 +122,12 @@ returns-2 c =
 
 weigh-requires : tie.Need-weigh-requires
 weigh-requires c κs =
-    let k = c .before .before .before .before .before .before .before .before .before .before in
-    (rest (found k), rated-weighable (table (found k)) (rated (weighted (laid k))))
+    let k = c .before .before .before .before .before .before in
+    (table (found k), rated-weighable (table (found k)) (rated (weighted (laid k))))
 
 -- the way back from the weights to what is kept
 abbrev kept : tie.After-weigh → tie.Else2
-kept w = w .before .before .before .before .before .before .before .before .before
+kept w = w .before .before .before .before .before
 
 -- past the limits, what is weighed
 after : (w : tie.After-weigh) (z : Analysis)
@@ -148,7 +144,7 @@ after w z A =
 weighs : (w : tie.After-weigh) → Weighs (table (found (kept w .before .before))) (w .weigh .result)
 weighs w =
     let k = kept w .before .before in
-    w .weigh .ensures (rest (found k)) (rated-weighable (table (found k)) (rated (weighted (laid k))))
+    w .weigh .ensures (table (found k)) (rated-weighable (table (found k)) (rated (weighted (laid k))))
 
 refused-requires-3 : tie.Need-refused-requires-3
 refused-requires-3 c κs = search needs

@@ -11,10 +11,10 @@ use lib.Seq.{getD-set-same, getD-set-other}
 use Rattle.numbers.specs.Lists.{at}
 use Rattle.numbers.proofs.Word.{one-shl}
 use Rattle.rules.specs.Bounds.{max-rows, max-slots}
-use Rattle.chains.specs.Chained.{ChainedRows}
+use Rattle.sets.specs.Chained.{ChainedRows}
 use Rattle.placing.specs.Filled.{Kept, FilledSlots}
 use Rattle.stretches.specs.Stretches.{most-stretches}
-use Rattle.chains.proofs.Chained.{link-row, rest, rest-less}
+use Rattle.sets.proofs.Chained.{link-row, rest, rest-less}
 use Rattle.placing.proofs.Kept.{kept-none, kept-trans, kept-set, kept-cleared}
 use Rattle.stretches.proofs.Stretches.{Fitted, fitted-whole, fitted-parted, fitted-end}
 use Rattle.stretches.proofs.Stretched.{stretched-low, stretched-end}

@@ -9,8 +9,9 @@ use Rattle.table.specs.Columns.{columnTable}
 use Rattle.outline.specs.Layout.{Lies, LaidOut}
 use Rattle.outline.proofs.Cuts.{board-high}
 use Rattle.lags.proofs.Intervals.{shortest-le}
-use Rattle.verdict.proofs.Weighing.{times-of, rates-are}
-use Rattle.verdict.specs.Weighing.{Rest, Weighable, Weighs}
+use Rattle.verdict.proofs.Weighing.{times-of}
+use Rattle.verdict.proofs.Weighed.{rows-weighed}
+use Rattle.verdict.specs.Weighing.{Weighable, Weighs}
 use Rattle.verdict.proofs.Judging.{judged-first, judged-next, judged-admitted, values-small}
 use Rattle.verdict.proofs.judge_table.Statement.{statement}
 use Rattle.verdict.proofs.judge_table.Tie as tie
@@ -19,12 +20,6 @@ abbrev table : tie.After-layout-of → Table
 table d =
     let a = d .before .args in
     columnTable (a .elements) (a .rows) (a .rings) (a .cost .now) (a .period .now) (a .first .now) (a .second .now) (a .way .now)
-
--- what weighing does not look at of it
-abbrev rest : tie.After-layout-of → Rest
-rest d =
-    let t = table d in
-    record { elements = t .elements; rings = t .rings; first = t .first; second = t .second; way = t .way }
 
 laid : (d : tie.After-layout-of) → LaidOut (table d) (d .layout-of .result)
 laid d = d .layout-of .ensures (at (d .before .args .cost .now)) (d .before .pre)
@@ -50,32 +45,34 @@ rated w = w .before .before .before .before .before
 ready : (d : tie.After-put-rates)
     → let a = asked (unrefused d) in
     let r = a .layout-of .result in
-    Weighable (table a) (r .time) (r .top) (r .line .first) (r .line .second) (d .put-rates .last .1 .1 .1 .1 .0)
+    Weighable (table a) (table a .rows) (d .put-rates .result) (r .time) (r .top) (r .line .first) (r .line .second)
+    (d .put-rates .last .1 .1 .1 .1 .1 .0)
 ready d =
     let e = unrefused d in
     let F = laid (asked e) .found (e .if1 .left) in
     record {
+      rows-is = refl;
+      weighed = rows-weighed (F .timed) (d .put-rates .ensures);
       timed = F .timed;
       clear = F .clear;
       top-is = F .top;
       first = F .first;
       second = F .second;
-      rate = rates-are (table (asked e)) (F .timed .hyper) (d .put-rates .ensures);
     }
 
 weighed : (w : tie.After-weigh) → Weighs (table (asked (unrefused (rated w)))) (w .weigh .result)
-weighed w = w .weigh .ensures (rest (asked (unrefused (rated w)))) (ready (rated w))
+weighed w = w .weigh .ensures (table (asked (unrefused (rated w)))) (ready (rated w))
 
 put-rates-requires : tie.Need-put-rates-requires
 put-rates-requires c κs =
     let e = c .before .before in
     let T = laid (asked e) .found (e .if1 .left) .timed in
-    (times-of (T .sound), omega (arith, T .hyper, T .short), refl)
+    (times-of (T .sound), omega (arith, T .hyper, T .short), omega (arith, T .interval, shortest-le (T .sound)), refl)
 
 weigh-requires : tie.Need-weigh-requires
 weigh-requires c κs =
     let d = c .before .before .before .before in
-    (rest (asked (unrefused d)), ready d)
+    (table (asked (unrefused d)), ready d)
 
 returns-2 : tie.Need-returns-2
 returns-2 c =

@@ -2,80 +2,55 @@
 use mathlib.Core.Path.{_≡_, refl, ap, _∙_}
 use native.Mathlib.Omega.{arith}
 use borrow.Author.Needs.{needs}
-use Rattle.numbers.specs.Finite.{lowest}
-use Rattle.rules.specs.Bus.{Table}
-use Rattle.rules.specs.Loads as loads
 use Rattle.table.specs.declared.Answer.{Answer}
 use Rattle.lags.proofs.Intervals.{hyperperiod-positive, shortest-positive, shortest-le}
-use Rattle.verdict.proofs.Weighing.{times-of, rates-small}
-use Rattle.verdict.specs.Weighing.{Rest, tableBy, Weighable}
-use Rattle.verdict.proofs.Weighed.{weighable-light, weighable-on-line, weighs-light, weighs-over, weighs-done}
+use Rattle.verdict.proofs.Weighed.{weighable-on-line, weighable-rates, weighs-light, weighs-over, weighs-done}
 use Rattle.verdict.proofs.weigh.Statement.{statement}
 use Rattle.verdict.proofs.weigh.Tie as tie
 
-abbrev table : tie.Start → Rest → Table
-table z b = tableBy b (z .args .rows) (z .args .cost .now) (z .args .period .now)
-
-abbrev Given : tie.Start → Rest → Type 0
-Given z b = Weighable (table z b) (z .args .time) (z .args .top) (z .args .starts .now) (z .args .ends .now) (z .args .rate .now)
-
-abbrev entry : tie.After-lowest-light → tie.Start
-entry d = d .before .before
-
-low : (d : tie.After-lowest-light) (b : Rest) → Given (entry d) b
-    → d .lowest-light .result ≡ lowest (entry d .args .rows) (loads.light (table (entry d) b))
-low d b A = d .lowest-light .ensures ∙ ap (lowest (entry d .args .rows)) (weighable-light A)
-
-lowest-light-requires : tie.Need-lowest-light-requires
-lowest-light-requires c κs =
-    let T = c .before .pre .1 .timed in
-    (times-of (T .sound), omega (arith, T .interval, shortest-le (T .sound)))
-
 at-requires : tie.Need-at-requires
 at-requires c κs =
-    let s = entry (c .before) .pre .1 .timed .sound in
-    omega (arith, c .if1 .taken)
+    let A = c .before .pre .1 in
+    let s = A .timed .sound in
+    omega (arith, c .if1 .taken, A .rows-is)
 
 unweighed-requires : tie.Need-unweighed-requires
 unweighed-requires c κs = search needs
 
 returns : tie.Need-returns
-returns c b A =
-    let d = c .before .before .before in
+returns c t A =
     let e = c .unweighed .ensures in
-    weighs-light A _ (low d b A) (c .before .before .if1 .taken) _
+    weighs-light A (c .before .before .if1 .taken) _
     (ap (λ (r : Answer). r .number) e ∙ c .before .at .ensures .0, ap (λ (r : Answer). r .place) e ∙ c .before .at .ensures .1)
 
 weigh-line-requires : tie.Need-weigh-line-requires
 weigh-line-requires c κs =
-    let A = entry (c .before) .pre .1 in
+    let A = c .before .pre .1 in
     let T = A .timed in
     let s = T .sound in (
       weighable-on-line A,
-      rates-small s (T .short) (A .rate),
+      weighable-rates A,
       omega (arith, T .hyper, T .short),
       omega (arith, T .interval, shortest-positive s),
       omega (arith, T .interval, shortest-le s),
     )
 
-abbrev at-light : tie.After-weigh-line → tie.After-lowest-light
-at-light w = w .before .before
-
 at-requires-2 : tie.Need-at-requires-2
 at-requires-2 c κs =
     let w = c .before .before in
-    let s = entry (at-light w) .pre .1 .timed .sound in
-    omega (arith, c .if2 .taken, w .weigh-line .ensures .1 .few)
+    let A = w .before .before .pre .1 in
+    let s = A .timed .sound in
+    omega (arith, c .if2 .taken, w .weigh-line .ensures .1 .few, A .rows-is)
 
 unweighed-requires-2 : tie.Need-unweighed-requires-2
 unweighed-requires-2 c κs = search needs
 
 returns-2 : tie.Need-returns-2
-returns-2 c b A =
+returns-2 c t A =
     let w = c .before .before .before .before in
     let e = c .unweighed2 .ensures in
     let v = w .weigh-line .ensures in
-    weighs-over A _ (low (at-light w) b A) (w .before .if1 .left) (v .1) (v .2) (c .before .before .if2 .taken) _
+    weighs-over A (w .before .if1 .left) (v .1) (v .2) (c .before .before .if2 .taken) _
     (ap (λ (r : Answer). r .number) e ∙ c .before .at2 .ensures .0, ap (λ (r : Answer). r .place) e ∙ c .before .at2 .ensures .1)
 
 done-requires : tie.Need-done-requires
@@ -84,21 +59,20 @@ done-requires c κs = search needs
 thousandths-requires : tie.Need-thousandths-requires
 thousandths-requires c κs =
     let w = c .before .before .before in
-    let T = entry (at-light w) .pre .1 .timed in
+    let T = w .before .before .pre .1 .timed in
     (w .weigh-line .ensures .2 .small, omega (arith, T .hyper, hyperperiod-positive (T .sound)), omega (arith, T .hyper, T .short))
 
 returns-3 : tie.Need-returns-3
-returns-3 c b A =
+returns-3 c t A =
     let w = c .before .before .before .before in
     let v = w .weigh-line .ensures in
-    weighs-done A _ (low (at-light w) b A) (w .before .if1 .left) (v .1) (v .2) (c .before .before .if2 .left) _
+    weighs-done A (w .before .if1 .left) (v .1) (v .2) (c .before .before .if2 .left) _
     (c .before .done .ensures) refl (c .thousandths .ensures)
 
 pub weigh-spec : {M : Type 1} → statement M
 weigh-spec =
     tie.close
     (tie.spec
-    lowest-light-requires
     at-requires
     unweighed-requires
     returns

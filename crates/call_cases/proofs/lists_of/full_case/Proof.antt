@@ -1,8 +1,8 @@
--- `lists_of::full_case`: the part that it lends is as long as it says.
+-- `lists_of::full_case`: the parts that it lends are as long as they say.
+use borrow.Author.Needs.{needs}
 use native.Mathlib.Omega.{arith}
 use mathlib.Core.Path.{sym}
 use lib.Seq.{length-take-le}
-use borrow.Author.Needs.{needs}
 use Rattle.call_cases.proofs.lists_of.full_case.Statement.{statement}
 use Rattle.call_cases.proofs.lists_of.full_case.Tie as tie
 
@@ -18,20 +18,17 @@ slice-aggregate-put-head c = search needs
 put-head-requires : tie.Need-put-head-requires
 put-head-requires c κs = search needs
 
+add-room : tie.Need-add-room
+add-room c = search needs
+
+room-requires : tie.Need-room-requires
+room-requires c κs = search needs
+
 number-at-requires-2 : tie.Need-number-at-requires-2
 number-at-requires-2 c κs = search needs
 
-add-if1 : tie.Need-add-if1
-add-if1 c = search needs
-
-returns : tie.Need-returns
-returns c = search needs
-
 number-at-requires-3 : tie.Need-number-at-requires-3
 number-at-requires-3 c κs = search needs
-
-number-at-requires-4 : tie.Need-number-at-requires-4
-number-at-requires-4 c κs = search needs
 
 slice-aggregate-fill : tie.Need-slice-aggregate-fill
 slice-aggregate-fill c = search needs
@@ -60,8 +57,8 @@ read-requires c κs = search needs
 print-list-requires : tie.Need-print-list-requires
 print-list-requires c κs = search needs
 
-returns-2 : tie.Need-returns-2
-returns-2 c = search needs
+returns : tie.Need-returns
+returns c = search needs
 
 pub full-case-spec : {M : Type 1} → statement M
 full-case-spec =
@@ -71,11 +68,10 @@ full-case-spec =
     cast-put-head
     slice-aggregate-put-head
     put-head-requires
+    add-room
+    room-requires
     number-at-requires-2
-    add-if1
-    returns
     number-at-requires-3
-    number-at-requires-4
     slice-aggregate-fill
     fill-requires
     mul-size
@@ -85,4 +81,4 @@ full-case-spec =
     slice-aggregate-read-2
     read-requires
     print-list-requires
-    returns-2)
+    returns)

@@ -20,8 +20,8 @@ shared-slice-read-wide-byte c = search needs
 wide-byte-requires : tie.Need-wide-byte-requires Inv-loop μ-loop
 wide-byte-requires c κs = search needs
 
-print-one-requires : tie.Need-print-one-requires Inv-loop μ-loop
-print-one-requires c κs = search needs
+print-number-requires : tie.Need-print-number-requires Inv-loop μ-loop
+print-number-requires c κs = search needs
 
 add-i : tie.Need-add-i Inv-loop μ-loop
 add-i c = search needs
@@ -44,7 +44,7 @@ print-bytes-spec =
     loop-holds
     shared-slice-read-wide-byte
     wide-byte-requires
-    print-one-requires
+    print-number-requires
     add-i
     loop-less
     loop-again

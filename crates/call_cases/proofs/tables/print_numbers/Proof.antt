@@ -23,8 +23,8 @@ shared-slice-read-wide c = search needs
 wide-requires : tie.Need-wide-requires Inv-loop μ-loop
 wide-requires c κs = search needs
 
-print-one-requires : tie.Need-print-one-requires Inv-loop μ-loop
-print-one-requires c κs = search needs
+print-number-requires : tie.Need-print-number-requires Inv-loop μ-loop
+print-number-requires c κs = search needs
 
 add-i : tie.Need-add-i Inv-loop μ-loop
 add-i c = search needs
@@ -48,7 +48,7 @@ print-numbers-spec =
     mul-wide
     shared-slice-read-wide
     wide-requires
-    print-one-requires
+    print-number-requires
     add-i
     loop-less
     loop-again

@@ -15,6 +15,9 @@ abbrev μ-loop : tie.MeasureT-loop
 loop-holds : tie.Need-loop-holds Inv-loop μ-loop
 loop-holds c = search needs
 
+add-number-at : tie.Need-add-number-at Inv-loop μ-loop
+add-number-at c = search needs
+
 number-at-requires : tie.Need-number-at-requires Inv-loop μ-loop
 number-at-requires c κs = search needs
 
@@ -49,6 +52,7 @@ put-numbers-spec =
     Inv-loop
     μ-loop
     loop-holds
+    add-number-at
     number-at-requires
     cast-out
     mul-out

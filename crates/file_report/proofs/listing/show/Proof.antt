@@ -36,11 +36,17 @@ returns c =
       fits = omega (arith, A .1);
     }
 
-put-element-requires : tie.Need-put-element-requires
-put-element-requires c κs = search needs
+slice-aggregate-put-number : tie.Need-slice-aggregate-put-number
+slice-aggregate-put-number c = search needs
 
-put-hyper-requires : tie.Need-put-hyper-requires
-put-hyper-requires c κs = search needs
+put-number-requires : tie.Need-put-number-requires
+put-number-requires c κs = search needs
+
+slice-aggregate-put-number-2 : tie.Need-slice-aggregate-put-number-2
+slice-aggregate-put-number-2 c = search needs
+
+put-number-requires-2 : tie.Need-put-number-requires-2
+put-number-requires-2 c κs = search needs
 
 slice-aggregate-put-entries : tie.Need-slice-aggregate-put-entries
 slice-aggregate-put-entries c = search needs
@@ -48,11 +54,11 @@ slice-aggregate-put-entries c = search needs
 put-entries-requires : tie.Need-put-entries-requires
 put-entries-requires c κs =
     let h = c .before .before .before .before in
-    let e = h .before .before .before .before in
-    let z = e .before .before in
+    let e = h .before .before .before .before .before in
+    let z = e .before .before .before in
     let a = z .before .before .before .before in
     let l = read-fits _ _ _ _ _ _ _ _ (found a .read .ensures) (omega arith) (z .if1 .left) in
-    (omega (arith, l), omega (arith, l, a .put-answer .ensures .1, e .put-element .ensures .1, h .put-hyper .ensures .1))
+    (omega (arith, l), omega (arith, l, a .put-answer .ensures .1, e .put-number .ensures .1, h .put-number2 .ensures .1))
 
 same-length-2 : tie.Need-same-length-2
 same-length-2 c = search needs
@@ -61,14 +67,14 @@ returns-2 : tie.Need-returns-2
 returns-2 c =
     let p = c .before .before in
     let h = p .before .before .before .before .before in
-    let e = h .before .before .before .before in
-    let z = e .before .before in
+    let e = h .before .before .before .before .before in
+    let z = e .before .before .before in
     let a = z .before .before .before .before in
     let r = found a .read .ensures in
     let l = read-fits _ _ _ _ _ _ _ _ r (omega arith) (z .if1 .left) in
     let A = a .put-answer .ensures in
-    let E = e .put-element .ensures in
-    let H = h .put-hyper .ensures in
+    let E = e .put-number .ensures in
+    let H = h .put-number2 .ensures in
     let P = p .put-entries .ensures in
     record {
       lines = _;
@@ -86,8 +92,10 @@ show-spec =
     put-answer-requires
     same-length
     returns
-    put-element-requires
-    put-hyper-requires
+    slice-aggregate-put-number
+    put-number-requires
+    slice-aggregate-put-number-2
+    put-number-requires-2
     slice-aggregate-put-entries
     put-entries-requires
     same-length-2

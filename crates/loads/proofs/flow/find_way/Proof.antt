@@ -11,7 +11,7 @@ use Rattle.numbers.specs.Word.{bit}
 use Rattle.numbers.proofs.Lists.{zeros-at}
 use Rattle.numbers.proofs.Word.{bit-shr, bit-zero}
 use Rattle.loads.specs.Network.{nodes-most, Net, Circulation}
-use Rattle.loads.specs.Way.{Reached, Done, Wired, Narrow, Shown}
+use Rattle.loads.specs.Way.{WaysFrom, Done, Wired, Narrow, Shown}
 use Rattle.loads.proofs.Words.{bit-one-more, bit-first, bit-odd, in-first, fewer}
 use Rattle.loads.proofs.Ways.{reached-start, done-start, done-shut, out-node, into-node}
 use Rattle.loads.proofs.Ways.{leave-line, leave-reached, leave-done, leave-within}
@@ -23,7 +23,7 @@ Inv-loop tail head out into arcs s t by₀ seen₀ done₀ by seen done =
     (length by ≡ nodes-most) × ((v : ℕ) → bit done v ≡ true → bit seen v ≡ true)
     × ((n K : ℕ) → Wired n K (at tail) (at head) (at out) (at into) → Narrow K arcs → s ≤ K → (v : ℕ) → bit seen v ≡ true → v ≤ K)
     × ((n K : ℕ) (G : Net) (may : ℕ → Bool) (x : ℕ → ℕ) → Wired n K (at tail) (at head) (at out) (at into) → Narrow K arcs → s ≤ K
-    → Shown n K G may x (at tail) (at head) arcs → Circulation G x → Reached n G may x s seen (at by) × Done G may x seen done)
+    → Shown n K G may x (at tail) (at head) arcs → Circulation G x → WaysFrom n G may x s seen (at by) × Done G may x seen done)
 
 abbrev μ-loop : tie.MeasureT-loop
 μ-loop tail head out into arcs s t by₀ seen₀ done₀ by seen done = count 64 (λ v. not (bit done v))

@@ -23,14 +23,14 @@ use Rattle.planner.proofs.course.plan_intervals.Statement.{statement}
 use Rattle.planner.proofs.course.plan_intervals.Tie as tie
 
 abbrev Inv-loop : tie.InvT-loop
-Inv-loop plain from until plan₀ table rows top time folded tail head out into heads next size even inverse load₀ whole₀ part₀ after₀ slot₀
-    at₀ plan load whole part after slot at =
-    (length load ≡ max-rows) × (length whole ≡ max-rows) × (length part ≡ max-rows)
+Inv-loop plain from until plan₀ table rows top time folded tail head out into heads next size even inverse load₀ part₀ after₀ slot₀
+    at₀ plan load part after slot at =
+    (length load ≡ max-rows) × (length part ≡ max-rows)
     × ((t : Table) (k m : ℕ) → Plannable t table k m from until after₀ (length plan₀) → Planning t k m after₀ plan₀ slot at after plan)
 
 abbrev μ-loop : tie.MeasureT-loop
-μ-loop plain from until plan₀ table rows top time folded tail head out into heads next size even inverse load₀ whole₀ part₀ after₀ slot₀ at₀
-    plan load whole part after slot at = until - slot
+μ-loop plain from until plan₀ table rows top time folded tail head out into heads next size even inverse load₀ part₀ after₀ slot₀ at₀
+    plan load part after slot at = until - slot
 
 -- ---- what the intervals share
 
@@ -99,7 +99,7 @@ abbrev entered : Set → tie.Start Inv-loop μ-loop
 entered c = entry (laid (c .before))
 
 loop-holds : tie.Need-loop-holds Inv-loop μ-loop
-loop-holds c = (refl, refl, refl, λ t k m P. planning-start (entered c .args .plan .now) P)
+loop-holds c = (refl, refl, λ t k m P. planning-start (entered c .args .plan .now) P)
 
 -- ---- a turn: an interval of the table begins, and there is room for it
 
@@ -124,7 +124,7 @@ end-of-requires : tie.Need-end-of-requires Inv-loop μ-loop
 end-of-requires c κs =
     let d = c .before .before in
     let P = given d in
-    let L = d .before .loop .inv .3 _ _ _ P in (
+    let L = d .before .loop .inv .2 _ _ _ P in (
       (
         begun d .pre .0,
         L .number,
@@ -142,7 +142,7 @@ turned c = c .before .before .before
 module _ (c : tie.After-end-of Inv-loop μ-loop) {t : Table} {k m : ℕ} (P : Given (begun (turned c)) t k m) where
   abbrev done : Planning t k m (begun (turned c) .args .totals) (begun (turned c) .args .plan .now) (turned c .before .loop .slot)
       (turned c .before .loop .at) (turned c .before .loop .after) (turned c .before .loop .plan)
-  done = turned c .before .loop .inv .3 t k m P
+  done = turned c .before .loop .inv .2 t k m P
 
   ends : c .end-of .result ≡ end t (done .number)
   ends =
@@ -188,8 +188,8 @@ part-shares-requires c κs =
       hyper-short A,
       l .before .inverse-of .ensures,
       shares-fit (ready I (given (turned I))) (due I (given (turned I))),
+      l .loop .inv .0,
       l .loop .inv .1,
-      l .loop .inv .2,
     )
 
 -- the turn, from where the shares are had and from where the loads are given
@@ -203,7 +203,7 @@ abbrev rounding : tie.After-round-rows Inv-loop μ-loop → Parted
 rounding r = r .before .before .before .before .before .before
 
 abbrev giving : tie.After-give Inv-loop μ-loop → tie.After-round-rows Inv-loop μ-loop
-giving g = g .before .before .before .before
+giving g = g .before .before .before
 
 abbrev turn : tie.After-give Inv-loop μ-loop → tie.After-end-of Inv-loop μ-loop
 turn g = parting (rounding (giving g))
@@ -217,10 +217,10 @@ part p = p .part-shares .last .1 .1 .1 .1 .1 .0
 
 -- the loads, and the totals with them
 abbrev load : tie.After-give Inv-loop μ-loop → List ℕ
-load g = g .give .last .1 .1 .1 .0
+load g = g .give .last .1 .1 .0
 
 abbrev totals : tie.After-give Inv-loop μ-loop → List ℕ
-totals g = g .give .last .1 .1 .1 .1 .0
+totals g = g .give .last .1 .1 .1 .0
 
 round-rows-requires : tie.Need-round-rows-requires Inv-loop μ-loop
 round-rows-requires c κs =
@@ -232,12 +232,12 @@ round-rows-requires c κs =
 
 give-requires : tie.Need-give-requires Inv-loop μ-loop
 give-requires c κs =
-    let p = rounding (c .before .before .before) in
+    let p = rounding (c .before .before) in
     let I = parting p in
     let P = given (turned I) in (
       few-rows (P .accepted),
       whole-fit (ready I P) (due I P) (whole p) (part p) (p .part-shares .ensures .2),
-      turned I .before .loop .inv .0,
+      p .part-shares .ensures .0,
       done I P .size,
     )
 
@@ -329,19 +329,19 @@ loop-again c =
     let l = g .give .ensures .0 in
     let S = rounding (giving g) .part-shares .ensures in
     ⊎-elim
-    (λ w. rw (w .11) (l, S .0, S .1, next g (w .8 .last .1 .1 .1 .1 .1 .1 .1 .0) (w .8 .ensures _ O)))
-    (λ w. rw (w .10) (l, S .0, S .1, next g (w .7 .last .1 .1 .1 .1 .1 .1 .0) (w .7 .ensures _ _ O)))
+    (λ w. rw (w .11) (l, S .1, next g (w .8 .last .1 .1 .1 .1 .1 .1 .1 .0) (w .8 .ensures _ O)))
+    (λ w. rw (w .10) (l, S .1, next g (w .7 .last .1 .1 .1 .1 .1 .1 .0) (w .7 .ensures _ _ O)))
     (c .if1 .came)
 
 -- ---- the end
 
 same-length : tie.Need-same-length Inv-loop μ-loop
-same-length c = let S = entered (c .before .before) in c .before .loop .inv .3 _ _ _ (S .pre .3) .filled .same
+same-length c = let S = entered (c .before .before) in c .before .loop .inv .2 _ _ _ (S .pre .3) .filled .same
 
 returns : tie.Need-returns Inv-loop μ-loop
 returns c t k m P =
     let S = entered (c .before .before) in
-    planning-end (S .args .plan .now) P (c .before .loop .inv .3 t k m P) (c .loop-test .left)
+    planning-end (S .args .plan .now) P (c .before .loop .inv .2 t k m P) (c .loop-test .left)
 
 pub plan-intervals-spec : {M : Type 1} → statement M
 plan-intervals-spec =

@@ -24,11 +24,11 @@ loop-holds c = (omega arith, lines-none _ _ _)
 shr-if1 : tie.Need-shr-if1 Inv-loop μ-loop
 shr-if1 c = omega arith
 
-add-put-number : tie.Need-add-put-number Inv-loop μ-loop
-add-put-number c = omega arith
+add-put-value : tie.Need-add-put-value Inv-loop μ-loop
+add-put-value c = omega arith
 
-put-number-requires : tie.Need-put-number-requires Inv-loop μ-loop
-put-number-requires c κs = omega arith
+put-value-requires : tie.Need-put-value-requires Inv-loop μ-loop
+put-value-requires c κs = omega arith
 
 add-k : tie.Need-add-k Inv-loop μ-loop
 add-k c = omega arith
@@ -65,8 +65,8 @@ put-members-spec =
     μ-loop
     loop-holds
     shr-if1
-    add-put-number
-    put-number-requires
+    add-put-value
+    put-value-requires
     add-k
     loop-less
     loop-again

@@ -1,3 +1,0 @@
-pub mod Ranges
-pub mod Leaving
-pub mod Sorted
