@@ -49,8 +49,8 @@ fn lowest_next(found: usize, n: usize, passes: bool) -> usize
     if found == n && !passes { n + 1 } else { found }
 }
 
-// All rows' rates, the loads cost / period in units of 1 / h, written to `rate`, which is 0: a row has at most all h slots. Gives the lowest
-// light row, the row count where there is none: where all periods are equal L is one too, so that no cost × L is below it.
+// All rows' rates, the loads cost / period in units of 1 / h, written to `rate`, which is 0: a row has at most all h slots. Gives the
+// lowest light row, the row count where there is none: where all periods are equal L is one too, so that no cost × L is below it.
 pub fn put_rates<'a>(
     rows: usize,
     hyper: u64,
