@@ -2,6 +2,8 @@
 // a name only is a table for the verdict. The modules say what numbers a call's case has, and what is printed for it after its heading.
 // Where rows stand as (cost,period,first,second), a name with a + in it is of a board with two rings, whose rows are
 // (cost,period,first,second,direction). A name with a * in it is of a call with a relay (#113), whose number leads the others.
+#![tactic(auto)]
+
 mod lists_of;
 mod meetings;
 mod plans;

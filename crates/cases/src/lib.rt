@@ -1,4 +1,6 @@
 // Reads the cases of the case programs: a line each, with a heading, a colon, and numbers.
+#![tactic(auto)]
+
 ghost use Rattle.std.specs.Prelude.{◌≡◌, not, ◌&&◌, cond, [], ◌∷◌, ◌+◌, ◌*◌, ◌/◌, ◌%◌, ◌≤◌, ◌<◌, min};
 ghost use Rattle.numbers.specs.Lists.{at as item, each};
 ghost use Rattle.decimal.specs.Puts.{limit, Puts};

@@ -2,6 +2,8 @@
 //
 // Each function writes from place `at` on, as far as there is room, and returns the place after its text: so a slice of no places measures
 // a text.
+#![tactic(auto)]
+
 ghost use Rattle.std.specs.Prelude.{[], ◌∷◌, ◌+◌, ◌*◌, ◌<◌, ◌≤◌, length};
 ghost use Rattle.rules.specs.Text.{space, decimal, fields, text_of};
 ghost use Rattle.decimal.specs.Puts.{limit, field_most, line_of, Puts};

@@ -1,4 +1,6 @@
 // From a file to a table in columns: the one place where the bytes of rows are read.
+#![tactic(auto)]
+
 ghost use Rattle.std.specs.Prelude.{◌≡◌, ◌≢◌, ◌+◌, ◌*◌, ◌≤◌, ◌<◌, length, replicate};
 ghost use Rattle.rules.specs.Bounds.{max_rows};
 ghost use Rattle.rules.specs.TableFile.{table_mark, version_2, header_size, row_size, mark, version};
@@ -173,7 +175,7 @@ fn labels_of(file: &[u8]) -> [u16; Table::ROWS]
 }
 
 // What a file says of its table beside the columns, or why it is refused: then the rest is 0.
-#[derive(Drop)]
+#[derive(Clone, Copy)]
 pub struct Head {
     pub answer: Answer,
     pub elements: usize,
@@ -226,7 +228,7 @@ pub fn decode_into(
 }
 
 // A file's table and its labels, or why it is refused.
-#[derive(Drop)]
+#[derive(Clone, Copy)]
 pub struct Decoded {
     pub answer: Answer,
     pub columns: Columns,

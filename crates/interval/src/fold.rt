@@ -70,7 +70,7 @@ fn larger(a: usize, b: usize) -> usize
 }
 
 // The rows of the second ring, and how many sets the folded line has.
-#[derive(Drop)]
+#[derive(Clone, Copy)]
 pub struct Folded {
     pub upper: u64,
     pub sets: usize,

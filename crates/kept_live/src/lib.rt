@@ -1,6 +1,8 @@
 // The live table changed where it is kept (#109), for those who keep one: the supervisor, a C program (include/ringlive.h). Each call takes
 // it by value, and what is handed back is stored where it was. Each answers 256 × number + place; an addition's place is the one taken.
 // The rows present are written as a table file from where they are kept.
+#![tactic(auto)]
+
 ghost use Rattle.std.specs.Prelude.{◌≤◌};
 ghost use Rattle.rules.specs.Bounds.{max_rows};
 ghost use Rattle.rules.specs.Refusals.{last_number};
@@ -10,7 +12,7 @@ use live::{Changed, Entry, Live};
 
 // A live table, and what is answered.
 #[repr(C)]
-#[derive(Drop)]
+#[derive(Clone, Copy)]
 pub struct Kept {
     pub live: Live,
     pub code: u32,

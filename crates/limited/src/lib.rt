@@ -1,5 +1,7 @@
 // The verdict, a step and the whole plan with a limit for each of two parties (#108): 23 before all else, and 21 and 22 between the
 // outline's refusals and those of the bound. One ring alone is taken. Limits refuse, and choose nothing: the words are those without.
+#![tactic(auto)]
+
 mod limits;
 
 ghost use Rattle.std.specs.Prelude.{◌≡◌, ◌||◌, ◌≤◌, ltb};

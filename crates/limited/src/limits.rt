@@ -15,7 +15,7 @@ ghost use Rattle.limited.specs.Limits.{party, RatesFit, weight_on, labelled, Lim
 use table::{Answer, Table};
 
 // Each party's limit in thousandths.
-#[derive(Drop)]
+#[derive(Clone, Copy)]
 pub struct Limits {
     pub ours: u32,
     pub theirs: u32,

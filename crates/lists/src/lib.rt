@@ -1,4 +1,6 @@
 // Lists of the moves of one element (#101): their reader, from a list file to numbers in memory, and their writer.
+#![tactic(auto)]
+
 ghost use Rattle.std.specs.Prelude.{◌≡◌, [], ◌∷◌, ◌++◌, ◌+◌, ◌*◌, ◌<◌, ◌≤◌, length, take};
 ghost use Rattle.std.proofs.lemmas.List.Edits.{sets};
 ghost use Rattle.numbers.specs.Decides.{Decides};
@@ -26,7 +28,7 @@ ghost use Rattle.lists.specs.Entries.{IsHead, IsEntry, entry_of, Leaves, FirstWr
 use table::{Answer, Table, put16, read16};
 
 // What stands before the entries: the element, the hyperperiod, and how many entries follow.
-#[derive(Drop)]
+#[derive(Clone, Copy)]
 pub struct Head {
     pub element: usize,
     pub hyper: usize,
@@ -67,7 +69,7 @@ impl Head {
 }
 
 // One move: its slot, its row, and its way.
-#[derive(Drop)]
+#[derive(Clone, Copy)]
 pub struct Entry {
     pub slot: u16,
     pub row: u16,
@@ -309,7 +311,7 @@ fn put_all_numbers(file: &[u8], entries: usize, out: &mut [u16])
 }
 
 // What the reader returns beside the numbers that it fills in.
-#[derive(Drop)]
+#[derive(Clone, Copy)]
 pub struct Reading {
     pub answer: Answer,
     pub head: Head,

@@ -3,6 +3,8 @@
 //
 // Every call first looks whether the live table that it is handed keeps the rules, which works denominator and sums out afresh. So a change
 // works them out afresh too, by the same functions, and nothing is carried along that could drift.
+#![tactic(auto)]
+
 mod files;
 mod seats;
 mod tally;
@@ -21,7 +23,7 @@ use table::{Answer, Row, Table};
 
 // The sum of segment s + 1 stands at s.
 #[repr(C)]
-#[derive(Drop)]
+#[derive(Clone, Copy)]
 pub struct Live {
     pub elements: usize,
     pub cost: [u16; Table::ROWS],
@@ -34,7 +36,7 @@ pub struct Live {
 }
 
 // A row that is to be put in a place, with its label. A live table has one ring, so no direction is told.
-#[derive(Drop)]
+#[derive(Clone, Copy)]
 pub struct Entry {
     pub cost: u16,
     pub period: u16,
@@ -57,7 +59,7 @@ fn clockwise(entry: Entry) -> Row
 }
 
 // What a call answers: number and place, the place that a row has taken, and the live table after it.
-#[derive(Drop)]
+#[derive(Clone, Copy)]
 pub struct Changed {
     pub answer: Answer,
     pub taken: u32,

@@ -23,7 +23,7 @@ pub const NODES: usize = Table::ELEMENTS + 1;
 
 // What can be taken: `up` and `down` are the rows that can carry one more and one less, `more` the sets that can carry one more, by the
 // node where they start, and `less` the sets that can carry one less, by the node where they end.
-#[derive(Drop)]
+#[derive(Clone, Copy)]
 pub struct Arcs {
     pub up: u64,
     pub down: u64,
@@ -32,7 +32,7 @@ pub struct Arcs {
 }
 
 // Whether there is a way, and the rows that are toggled on it.
-#[derive(Drop)]
+#[derive(Clone, Copy)]
 pub struct Outcome {
     pub found: bool,
     pub rows: u64,

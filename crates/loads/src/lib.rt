@@ -8,6 +8,8 @@
 // - Sets that are too low are mended by ways (`flow`). There is one as long as some set is too low, since the parts themselves are a
 //   circulation within the bounds, only not a whole one.
 // - Then each row in turn is rounded up where there is a way by the rows after it. So the loads are the greatest in the order of rows.
+#![tactic(auto)]
+
 mod flow;
 mod nodes;
 
@@ -34,7 +36,7 @@ const ROWS: usize = Table::ROWS;
 const SETS: usize = Table::ELEMENTS;
 
 // How many rows and sets there are, and h.
-#[derive(Drop)]
+#[derive(Clone, Copy)]
 pub struct Size {
     pub rows: usize,
     pub sets: usize,
@@ -56,7 +58,7 @@ pub fn mark(w: u64, q: usize, on: bool) -> u64
 
 // The rows that are not whole and those that are rounded up; and of the sets, those that can take one more (by the node after them), those
 // that can do with one less, and those that are too low.
-#[derive(Drop)]
+#[derive(Clone, Copy)]
 pub struct Sides {
     pub parted: u64,
     pub top: u64,

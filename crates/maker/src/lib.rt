@@ -1,4 +1,6 @@
 // The list of one element's moves, made from a table file and a plan (#101): in memory, or as the bytes of a list file.
+#![tactic(auto)]
+
 mod moves;
 
 ghost use Rattle.std.specs.Prelude.{◌≡◌, List, [], ℕ, ◌+◌, ◌*◌, ◌≤◌, length};
@@ -20,7 +22,7 @@ use verdict::Verdict;
 
 // What a list is written from: the first refusal, or how many slots and entries there are, and the words of the rows that come to the
 // element and of those that leave it.
-#[derive(Drop)]
+#[derive(Clone, Copy)]
 struct Source {
     answer: Answer,
     hyper: usize,
@@ -141,7 +143,7 @@ fn find_for(
 }
 
 // What is made: how many slots the plan has, and how many entries the list; 0 beside a refusal.
-#[derive(Drop)]
+#[derive(Clone, Copy)]
 pub struct Making {
     pub answer: Answer,
     pub hyper: usize,

@@ -9,7 +9,7 @@ ghost use Rattle.rules.specs.Calls.{Crowded};
 use table::{Answer, Table};
 
 // What is answered of a set, the word of its rows, and that of the segments that all of them use; 0 beside a refusal.
-#[derive(Drop)]
+#[derive(Clone, Copy)]
 pub struct Crowd {
     pub answer: Answer,
     pub rows: u64,

@@ -1,4 +1,6 @@
 // Where two rows of a table meet: the segments of the ring that both routes use (#102).
+#![tactic(auto)]
+
 mod crowd;
 
 ghost use Rattle.rules.specs.Calls.{Met};
@@ -7,7 +9,7 @@ pub use crowd::{Crowd, of_set};
 use table::Answer;
 
 // What is answered of two rows, and the word of the segments that they share, bit s - 1 for segment s; 0 beside a refusal.
-#[derive(Drop)]
+#[derive(Clone, Copy)]
 pub struct Meeting {
     pub answer: Answer,
     pub word: u32,

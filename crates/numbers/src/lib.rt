@@ -1,3 +1,5 @@
+#![tactic(auto)]
+
 ghost use Rattle.std.specs.Prelude.{◌≡◌, ◌^◌, ◌<◌, pos, ◌-ℤ◌};
 ghost use Rattle.numbers.specs.Pairs.{IsGcd};
 ghost use Rattle.numbers.specs.Word.{Stretch};

@@ -1,4 +1,6 @@
 // What a table is on the line: its cuts, its rows' ends, its overlap sets, hyperperiod and interval, or a refusal of 1 to 11, 18 and 26.
+#![tactic(auto)]
+
 ghost use Rattle.std.specs.Prelude.{◌≡◌, not, cond, ℕ, ◌≤◌, ltb, eqb, length};
 ghost use Rattle.numbers.specs.Finite.{any, lowest};
 ghost use Rattle.numbers.specs.Lists.{at};
@@ -97,7 +99,7 @@ fn board_cut(
 
 // Where a table's line begins on each ring, as the board's own number, and where it ends; its time; and its rows' ends on the line. All is
 // 0 but the answer where it is refused.
-#[derive(Drop)]
+#[derive(Clone, Copy)]
 pub struct Layout {
     pub answer: Answer,
     pub cut: usize,
@@ -164,7 +166,7 @@ pub fn layout_of<'a>(
 // ---- the outline
 
 // A table on the line and in time. All is 0 but the answer where it is refused.
-#[derive(Drop)]
+#[derive(Clone, Copy)]
 pub struct Outline {
     pub answer: Answer,
     pub elements: usize,
@@ -263,7 +265,7 @@ fn outline_file(file: &[u8]) -> Outline
 }
 
 // What the list of sets answers, and its length.
-#[derive(Drop)]
+#[derive(Clone, Copy)]
 pub struct Listing {
     pub answer: Answer,
     pub sets: u32,

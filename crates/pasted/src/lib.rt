@@ -1,4 +1,6 @@
 // A table as it is given: what is refused of it before anything is looked for on its ring.
+#![tactic(auto)]
+
 ghost use Rattle.std.specs.Prelude.{◌≡◌, List, ◌&&◌, ℕ, ◌≤◌, ◌<◌};
 ghost use Rattle.numbers.specs.Finite.{any, lowest};
 ghost use Rattle.numbers.specs.Lists.{at};

@@ -5,6 +5,8 @@
 //
 // A planner is kept by the caller and any state may be handed in. So the slot that it has reached is held to the hyperperiod first, then
 // its spare totals, and then its totals row by row, before any product is taken.
+#![tactic(auto)]
+
 mod course;
 mod kept;
 mod steady;
@@ -26,28 +28,28 @@ use time::Time;
 use verdict::Analysis;
 
 // Due, with the number of the next interval, or finished.
-#[derive(Drop)]
+#[derive(Clone, Copy)]
 pub enum Stage {
     Due(u64),
     Finished,
 }
 
 // A stage, and beside it the totals, one for each row.
-#[derive(Drop)]
+#[derive(Clone, Copy)]
 pub struct Planner {
     pub stage: Stage,
     pub totals: [u64; Table::ROWS],
 }
 
 // What a step answers: the planner moved on by one interval, or the one it was given and a refusal.
-#[derive(Drop)]
+#[derive(Clone, Copy)]
 pub struct MovedOn {
     pub planner: Planner,
     pub answer: Answer,
 }
 
 // All standings together, 0 past the last row.
-#[derive(Drop)]
+#[derive(Clone, Copy)]
 pub struct Standings {
     pub answer: Answer,
     pub values: [i64; Table::ROWS],

@@ -55,7 +55,7 @@ fn rows_keep_step(
 }
 
 // The rates and the totals of the rows of a set, summed.
-#[derive(Drop)]
+#[derive(Clone, Copy)]
 struct Sums {
     rate: u64,
     total: u64,

@@ -1,4 +1,6 @@
 // Raising light rows (document 02, #111): each light row's cost becomes the least that passes, and nothing else changes.
+#![tactic(auto)]
+
 ghost use Rattle.std.specs.Prelude.{◌≡◌, ◌≤◌, max};
 ghost use Rattle.numbers.specs.Lists.{at};
 ghost use Rattle.numbers.specs.Rounding.{up};
@@ -47,7 +49,7 @@ fn raised_costs<'a>(
 }
 
 // A file's table as it is given, and its rows' costs with the light ones raised; all 0 beside a refusal.
-#[derive(Drop)]
+#[derive(Clone, Copy)]
 pub struct Raising {
     pub given: Decoded,
     pub cost: [u16; Table::ROWS],

@@ -1,4 +1,6 @@
 // The reader: from a file to numbers in memory.
+#![tactic(auto)]
+
 ghost use Rattle.std.specs.Prelude.{◌≡◌, ◌+◌, ◌*◌, ◌≤◌, length};
 ghost use Rattle.std.proofs.lemmas.List.Edits.{sets};
 ghost use Rattle.rules.specs.Bounds.{max_rows};
@@ -75,7 +77,7 @@ fn last_numbers<'a>(
 }
 
 // What the reader returns beside the numbers that it fills in.
-#[derive(Drop)]
+#[derive(Clone, Copy)]
 pub struct Reading {
     pub answer: Answer,
     pub mark: [u8; 3],

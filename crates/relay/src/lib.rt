@@ -1,4 +1,6 @@
 // A table split at a relay (#113): each row through it becomes two rows, to the relay and from there.
+#![tactic(auto)]
+
 ghost use Rattle.std.specs.Prelude.{◌≡◌, List, [], ◌∷◌, ◌++◌, ℕ, ◌+◌, ◌≤◌, ◌<◌, length};
 ghost use Rattle.rules.specs.Bounds.{max_rows};
 ghost use Rattle.rules.specs.Bus as bus;
@@ -169,7 +171,7 @@ fn split_at(given: Columns, relay: usize) -> Columns
 // ---- a file's table
 
 // A file's table split at a relay, or why it is refused; the columns are all 0 then.
-#[derive(Drop)]
+#[derive(Clone, Copy)]
 pub struct Split {
     pub answer: Answer,
     pub columns: Columns,

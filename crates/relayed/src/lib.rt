@@ -1,5 +1,7 @@
 // The verdict, the list of sets and the planner's calls with a relay (#113): those on the table split at it. The split table is looked at
 // as any other, and has a cut. Totals, standings and bits are those of split rows.
+#![tactic(auto)]
+
 ghost use Rattle.rules.specs.TableFile.{file_table};
 ghost use Rattle.rules.specs.Relay.{split};
 ghost use Rattle.rules.specs.Refusals.{relayed_line_checks, relayed_checks};

@@ -1,6 +1,8 @@
 // What the program prints, written to lent bytes (document 01, "The program and one whole output").
 //
 // Each `put_` function writes lines from place `at` on, as far as there is room, and returns the place after them.
+#![tactic(auto)]
+
 pub mod meetings;
 pub mod raised;
 

@@ -1,6 +1,8 @@
 // From ring to line: the elements a row goes through, each ring's cut, and the rows' ends on the line. Rows are routes between two elements
 // here, one way or the other: what they cost, when they come and which file they came from is not known. What runs counterclockwise is
 // mirrored first, and then all is as on the other ring.
+#![tactic(auto)]
+
 ghost use Rattle.std.specs.Prelude.{◌≡◌, not, ◌&&◌, ℕ, ◌+◌, ◌*◌, ◌≤◌, ◌<◌, eqb};
 ghost use Rattle.numbers.specs.Lists.{at};
 ghost use Rattle.numbers.specs.Word.{bit};
@@ -15,7 +17,7 @@ ghost use Rattle.ring.specs.Rows.{Routes, on_ring, cut_of, Renumbered};
 use table::Table;
 
 // The rows' ends on the line, 0 past the last row.
-#[derive(Drop)]
+#[derive(Clone, Copy)]
 pub struct Line {
     pub first: [u8; Table::ROWS],
     pub second: [u8; Table::ROWS],

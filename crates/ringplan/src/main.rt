@@ -5,6 +5,8 @@
 // (#108), `meet I J` and `set K` (#102), `raise` and `raised` (#111), `element E` (#101) or `text`; `list` prints a list file, and `table`
 // makes a table file of a text. It writes nothing for any other word. The crates of reports say which bytes all these are. An argument
 // that is no number counts as 0.
+#![tactic(auto)]
+
 use check::same;
 use limited::Limits;
 use table::Answer;

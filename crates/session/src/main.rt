@@ -9,6 +9,8 @@
 //
 // The words are parted by spaces. Any other line, and one with a number that its place can't hold, is answered `no such line`. Until a live
 // table is made it is all zeros, which breaks the rules: 15.
+#![tactic(auto)]
+
 ghost use Rattle.std.specs.Prelude.{◌≤◌, length};
 
 use cases::{find, number_at};

@@ -2,6 +2,8 @@
 //
 // An overlap set is the rows across its least second end (proofs/Overlap), and the rows across a second end are an overlap set just when
 // some row has started since the second end before it. So a word and a bool find the sets, in their order, and nothing is sorted.
+#![tactic(auto)]
+
 mod chains;
 
 ghost use Rattle.std.specs.Prelude.{◌≡◌, ◌≢◌, true, ◌<◌};
@@ -13,7 +15,7 @@ pub use chains::{HEADS, chain};
 use table::Table;
 
 // The words of the overlap sets, by ascending least second end; those from `count` on are 0.
-#[derive(Drop)]
+#[derive(Clone, Copy)]
 pub struct Sets {
     pub count: usize,
     pub words: [u64; Table::ROWS],

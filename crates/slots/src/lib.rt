@@ -8,6 +8,8 @@
 // Slots are scanned by stretches: neighbouring slots that hold the same rows. A row takes a stretch whole, or parts it where its load is
 // used up inside, so there is at most one stretch more than rows, however long the interval is. Of the rows that start at one element each
 // scans on from where the row before it stopped: every slot up to there has a last end past the element.
+#![tactic(auto)]
+
 mod parting;
 mod plain;
 

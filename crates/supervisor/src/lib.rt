@@ -1,6 +1,8 @@
 // The functions for the supervisor, a C program: verdict, its values, shared segments, list of sets, whole plan and raised file, and
 // verdict and whole plan with limits and with a relay, each answering 256 × number + place; and the list of one element
 // (include/ringplan.h).
+#![tactic(auto)]
+
 ghost use Rattle.std.specs.Prelude.{◌≡◌, ◌≤◌, length};
 ghost use Rattle.rules.specs.Refusals.{last_number};
 ghost use Rattle.rules.proofs.Small.{last_place};

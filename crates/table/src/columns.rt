@@ -8,7 +8,7 @@ ghost use Rattle.table.specs.Columns.{HasRow, no_columns};
 use crate::{Row, Table, wide};
 
 // Every column has 0 past the last row.
-#[derive(Drop)]
+#[derive(Clone, Copy)]
 pub struct Columns {
     pub elements: usize,
     pub rows: usize,

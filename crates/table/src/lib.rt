@@ -1,4 +1,6 @@
 // A table: its bounds, its columns in memory, and the checks that its reader and its writer share.
+#![tactic(auto)]
+
 mod checks;
 mod columns;
 mod marks;
@@ -16,7 +18,7 @@ pub use marks::{begins, is_no_mark, is_plain, is_strange, mark_byte, put_start, 
 pub use versions::{is_unknown, label_in, last_of, row_bytes, row_place, version_of, way_in};
 
 // A table: how many elements the ring has, and how many rows.
-#[derive(Drop)]
+#[derive(Clone, Copy)]
 pub struct Table {
     pub elements: usize,
     pub rows: usize,
@@ -111,7 +113,7 @@ impl Table {
 }
 
 // One periodic transfer, with its direction: 0 where there is one ring; and its label: 0 in version 1, and where there are two.
-#[derive(Drop)]
+#[derive(Clone, Copy)]
 pub struct Row {
     pub cost: u16,
     pub period: u16,
@@ -122,7 +124,7 @@ pub struct Row {
 }
 
 // What a call answers: a refusal number and its place, or twice 0.
-#[derive(Drop)]
+#[derive(Clone, Copy)]
 pub struct Answer {
     pub number: u32,
     pub place: u32,

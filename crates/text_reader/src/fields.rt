@@ -8,7 +8,7 @@ ghost use Rattle.grammar.specs.TableText as grammar;
 ghost use Rattle.text_reader.specs.Walk.{is_sign, blank_is, IsNext, IsField, IsLine, IsNextLine, IsCell, IsSpot, most, stepped};
 
 // What is refused of a text, beside the numbers of `table::Answer`.
-#[derive(Drop)]
+#[derive(Clone, Copy)]
 pub struct Fault {
     pub number: u32,
 }
@@ -30,7 +30,7 @@ impl Fault {
 // ---- fields
 
 // A stretch of bytes: its first place, and the place after it.
-#[derive(Drop)]
+#[derive(Clone, Copy)]
 pub struct Span {
     pub start: usize,
     pub end: usize,
@@ -108,7 +108,7 @@ pub fn has_field(line: &[u8], k: usize) -> bool
 // ---- lines
 
 // A line as far as its comment, and the place where the next one starts.
-#[derive(Drop)]
+#[derive(Clone, Copy)]
 pub struct Line {
     pub start: usize,
     pub end: usize,
@@ -168,7 +168,7 @@ pub fn next_line(text: &[u8], from: usize) -> Line
 // ---- numbers
 
 // What a field holds: a number, or a fault and its place.
-#[derive(Drop)]
+#[derive(Clone, Copy)]
 pub struct Cell {
     pub number: u32,
     pub place: usize,
@@ -232,7 +232,7 @@ pub fn number(digits: &[u8], place: usize) -> Cell
 // ---- places
 
 // A line and a column, counted from 1.
-#[derive(Drop)]
+#[derive(Clone, Copy)]
 pub struct Spot {
     pub line: usize,
     pub column: usize,

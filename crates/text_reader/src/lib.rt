@@ -1,6 +1,8 @@
 // The reader of tables in text: from a text to numbers in memory.
 //
 // A line is lent as far as its comment, and `from` is the place of the text where it starts.
+#![tactic(auto)]
+
 mod fields;
 
 ghost use Rattle.std.specs.Prelude.{◌≡◌, ◌||◌, [], ◌∷◌, ℕ, ◌+◌, ◌*◌, ◌≤◌, ◌<◌, length};
@@ -43,7 +45,7 @@ fn cell_at(line: &[u8], from: usize, k: usize) -> Cell
 }
 
 // A fault of a text and its place, or twice 0.
-#[derive(Drop)]
+#[derive(Clone, Copy)]
 pub struct FaultAt {
     pub number: u32,
     pub place: usize,
@@ -76,7 +78,7 @@ fn shape_fault(line: &[u8], from: usize, needed: usize, spare: usize) -> FaultAt
 // ---- the heading
 
 // What the heading says, or a fault and its place.
-#[derive(Drop)]
+#[derive(Clone, Copy)]
 pub struct Heading {
     pub number: u32,
     pub place: usize,
@@ -172,7 +174,7 @@ fn heading_of(line: &[u8], from: usize) -> Heading
 // ---- a row
 
 // The first four numbers of a row, or a fault and its place.
-#[derive(Drop)]
+#[derive(Clone, Copy)]
 pub struct Cells {
     pub number: u32,
     pub place: usize,
@@ -205,7 +207,7 @@ fn first_cells(line: &[u8], from: usize) -> Cells
 }
 
 // A row, with its last number for a label, or a fault and its place.
-#[derive(Drop)]
+#[derive(Clone, Copy)]
 pub struct Form {
     pub number: u32,
     pub place: usize,
@@ -345,7 +347,7 @@ fn row_at(line: &[u8], from: usize, rings: usize, elements: usize, i: usize) -> 
 // ---- all rows
 
 // How many rows a text has and whether one has a last field, or a fault and its place.
-#[derive(Drop)]
+#[derive(Clone, Copy)]
 pub struct Rows {
     pub number: u32,
     pub place: usize,
@@ -399,7 +401,7 @@ fn read_rows(text: &[u8], from: usize, rings: usize, elements: usize, numbers: &
 // ---- the text
 
 // What the reader returns beside the numbers that it fills in. The place of a fault is a place of the text.
-#[derive(Drop)]
+#[derive(Clone, Copy)]
 pub struct TextReading {
     pub number: u32,
     pub place: usize,

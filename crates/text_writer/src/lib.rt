@@ -1,6 +1,8 @@
 // The writer of tables in text: from numbers in memory to a text.
 //
 // Each `put_` function writes from place `at` on, as far as there is room, and returns the place after what it wrote.
+#![tactic(auto)]
+
 ghost use Rattle.std.specs.Prelude.{◌≡◌, [], ◌∷◌, ◌+◌, ◌*◌, ◌≤◌, length};
 ghost use Rattle.numbers.specs.Lists.{each};
 ghost use Rattle.rules.specs.Bounds.{max_rows};
@@ -102,7 +104,7 @@ fn text_size(rings: usize, version: u64, elements: u64, rows: usize, numbers: &[
 }
 
 // What the writer returns: its answer, and how many bytes the text has.
-#[derive(Drop)]
+#[derive(Clone, Copy)]
 pub struct TextWriting {
     pub answer: Answer,
     pub size: usize,

@@ -1,4 +1,6 @@
 // The time of a table: its hyperperiod, and how that is cut into planning intervals.
+#![tactic(auto)]
+
 ghost use Rattle.std.specs.Prelude.{◌≡◌, not, ℕ, ◌+◌, ◌*◌, ◌/◌, ◌<◌, ◌≤◌, min, eqb};
 ghost use Rattle.numbers.specs.Finite.{any};
 ghost use Rattle.numbers.specs.Lists.{at};
@@ -120,7 +122,7 @@ fn multiple_past(count: usize, period: &[u16; Table::ROWS], slot: u64) -> u64
 }
 
 // h, L, and the leading periods with their count, from which it is known where the intervals end.
-#[derive(Drop)]
+#[derive(Clone, Copy)]
 pub struct Time {
     pub hyper: u64,
     pub interval: u64,

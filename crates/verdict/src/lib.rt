@@ -1,4 +1,6 @@
 // The verdict: whether the bus can carry a table (document 01, "Loads and bound"), and what is found of a table that is planned.
+#![tactic(auto)]
+
 mod weights;
 
 ghost use Rattle.std.specs.Prelude.{◌≡◌};
@@ -21,7 +23,7 @@ pub use weights::put_rates;
 // ---- the analysis
 
 // What rows and sets weigh: the first refusal of 13 and 14, or the reported load and how many sets there are.
-#[derive(Drop)]
+#[derive(Clone, Copy)]
 pub struct Loaded {
     pub answer: Answer,
     pub load: u64,
@@ -68,7 +70,7 @@ pub fn weigh<'a>(
 
 // A table analysed: its outline, its reported load, and its rows' rates in units of 1 / h. All is 0 but the outline's answer where it is
 // refused.
-#[derive(Drop)]
+#[derive(Clone, Copy)]
 pub struct Analysis {
     pub outline: Outline,
     pub load: u64,
@@ -171,7 +173,7 @@ pub fn analyse(file: &[u8]) -> Analysis
 
 // The verdict on a table: what it is on the line and in time, or why it is refused. `other` is the cut of the other ring, 0 where there is
 // one ring.
-#[derive(Drop)]
+#[derive(Clone, Copy)]
 pub enum Verdict {
     Admitted {
         cut: u32,

@@ -96,7 +96,7 @@ fn larger(a: u64, b: u64) -> u64
 }
 
 // What is found of sets: how many there are, the lowest over its bound (their number where none is), and the largest load.
-#[derive(Drop)]
+#[derive(Clone, Copy)]
 pub struct Weights {
     pub sets: usize,
     pub over: usize,

@@ -1,4 +1,6 @@
 // The writer: from numbers in memory to a file.
+#![tactic(auto)]
+
 mod memory;
 
 ghost use Rattle.std.specs.Prelude.{◌≡◌, [], ◌∷◌, ◌++◌, ◌+◌, ◌*◌, ◌<◌, ◌≤◌, length, take};

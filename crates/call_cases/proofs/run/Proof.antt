@@ -6,19 +6,19 @@ use lib.Seq.{length-take-le}
 use Rattle.call_cases.proofs.run.Statement.{statement}
 use Rattle.call_cases.proofs.run.Tie as tie
 
-print-word-requires : tie.Need-print-word-requires
+print-word-requires : tie.Need-print_word-requires
 print-word-requires c κs = search rules
 
-leading-requires : tie.Need-leading-requires
+leading-requires : tie.Need-leading-lead-requires
 leading-requires c κs = search rules
 
-slice-aggregate-call : tie.Need-slice-aggregate-call
+slice-aggregate-call : tie.Need-slice_bounds-call-end
 slice-aggregate-call c = sym (length-take-le _ _ (omega arith))
 
-mul-call : tie.Need-overflow-mul-call
+mul-call : tie.Need-offset_bounds-given-lead
 mul-call c = search rules
 
-sub-call : tie.Need-overflow-sub-call
+sub-call : tie.Need-slice_bounds-call-count
 sub-call c = search rules
 
 part-call-start : tie.Need-slice-bounds-call-start
@@ -33,7 +33,7 @@ call-requires c κs = search rules
 slice-aggregate-print-word : tie.Need-slice-aggregate-print-word
 slice-aggregate-print-word c = search rules
 
-print-word-requires-2 : tie.Need-print-word-requires-2
+print-word-requires-2 : tie.Need-print_word-requires-2
 print-word-requires-2 c κs = search rules
 
 returns : tie.Need-returns

@@ -11,49 +11,49 @@ use Rattle.numbers.proofs.Finite.{below}
 use Rattle.cases.proofs.find.Statement.{statement}
 use Rattle.cases.proofs.find.Tie as tie
 
-abbrev invariant-loop : tie.invariant-loop
+abbrev invariant-loop : tie.invariant-loop-i
 invariant-loop text from byte i₀ i =
     (min from (length text) ≤ i) × (i ≤ length text) × ((k : ℕ) → from ≤ k → k < i → at text k ≢ byte)
 
-abbrev decreases-loop : tie.decreases-loop
+abbrev decreases-loop : tie.decreases-loop-i
 decreases-loop text from byte i₀ i = length text - i
 
-least-requires : tie.Need-least-requires invariant-loop decreases-loop
+least-requires : tie.Need-least-i-requires invariant-loop decreases-loop
 least-requires c κs = search rules
 
-loop-holds : tie.Need-loop-init invariant-loop decreases-loop
+loop-holds : tie.Need-loop-i-init invariant-loop decreases-loop
 loop-holds c = (omega arith, omega arith, λ k l h. absurd (let z : ⊥ = omega arith in z))
 
-shared-slice-read-if1 : tie.Need-shared-slice-read-if1 invariant-loop decreases-loop
+shared-slice-read-if1 : tie.Need-bounds-text-i invariant-loop decreases-loop
 shared-slice-read-if1 c = omega arith
 
-returns : tie.Need-returns invariant-loop decreases-loop
+returns : tie.Need-returns-then-text-i invariant-loop decreases-loop
 returns c =
-    let z = c.before.before.before.loop in
+    let z = c.before.before.before.loop-i in
     record {
       low = z.invariant.0;
       high = z.invariant.1;
       none = z.invariant.2;
-      there = λ l. c.if1.true;
+      there = λ l. c.if-text-i.true;
     }
 
-add-i : tie.Need-overflow-add-i invariant-loop decreases-loop
+add-i : tie.Need-overflow_add-i invariant-loop decreases-loop
 add-i c = omega arith
 
-loop-less : tie.Need-loop-smaller invariant-loop decreases-loop
+loop-less : tie.Need-loop-i-smaller invariant-loop decreases-loop
 loop-less c = omega arith
 
-loop-again : tie.Need-loop-preserved invariant-loop decreases-loop
+loop-again : tie.Need-loop-i-preserved invariant-loop decreases-loop
 loop-again c =
-    let z = c.before.before.before.loop in (
+    let z = c.before.before.before.loop-i in (
       omega arith,
       omega arith,
-      λ k l h. ⊎_elim (λ (e : k ≡ z.i). rw e c.if1.false) (λ m. z.invariant.2 k l m) (below (rw add-one at h)),
+      λ k l h. ⊎_elim (λ (e : k ≡ z.i). rw e c.if-text-i.false) (λ m. z.invariant.2 k l m) (below (rw add-one at h)),
     )
 
-returns-2 : tie.Need-returns-2 invariant-loop decreases-loop
+returns-2 : tie.Need-returns invariant-loop decreases-loop
 returns-2 c =
-    let z = c.before.loop in
+    let z = c.before.loop-i in
     record {
       low = z.invariant.0;
       high = z.invariant.1;

@@ -5,30 +5,30 @@ use borrow.Author.Rules.{rules}
 use Rattle.cases.proofs.grow.Statement.{statement}
 use Rattle.cases.proofs.grow.Tie as tie
 
-returns : tie.Need-returns
-returns c = grown-low _ _ c.if1.true
+returns : tie.Need-returns-then-byte-lt48
+returns c = grown-low _ _ c.if-byte-lt48.true
 
-returns-2 : tie.Need-returns-2
-returns-2 c = grown-high _ _ c.if2.true
+returns-2 : tie.Need-returns-then-byte-gt57
+returns-2 c = grown-high _ _ c.if-byte-gt57.true
 
-cast-digit : tie.Need-overflow-cast-digit
+cast-digit : tie.Need-overflow_cast-digit
 cast-digit c = search rules
 
-sub-if3 : tie.Need-overflow-sub-if3
+sub-if3 : tie.Need-overflow_sub-digit-2
 sub-if3 c = search rules
 
-returns-3 : tie.Need-returns-3
+returns-3 : tie.Need-returns-then-x-digit
 returns-3 c =
     let a = c.before.before.before.args in
     omega (arith, grown-more a.byte a.x (omega arith) (omega arith))
 
-mul-result : tie.Need-overflow-mul-result
+mul-result : tie.Need-overflow_mul-result
 mul-result c = search rules
 
-add-result : tie.Need-overflow-add-result
+add-result : tie.Need-overflow_add-result
 add-result c = search rules
 
-returns-4 : tie.Need-returns-4
+returns-4 : tie.Need-returns
 returns-4 c =
     let a = c.before.before.before.args in
     omega (arith, grown-more a.byte a.x (omega arith) (omega arith))

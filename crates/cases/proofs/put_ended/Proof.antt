@@ -8,14 +8,14 @@ use Rattle.cases.proofs.put_ended.Tie as tie
 put-requires : tie.Need-put-requires
 put-requires c κs = search rules
 
-same_length : tie.Need-same-length
+same_length : tie.Need-shape_of-out-then-has
 same_length c = search rules
 
-returns : tie.Need-returns
-returns c = ended_here _ _ c.before.before.before.before.if1.true c.before.before.put.ensures
+returns : tie.Need-returns-then-has
+returns c = ended_here _ _ c.before.before.before.before.if-has.true c.before.before.put.ensures
 
-returns-2 : tie.Need-returns-2
-returns-2 c = ended-not _ _ c.if1.false (puts_none _ _)
+returns-2 : tie.Need-returns
+returns-2 c = ended-not _ _ c.if-has.false (puts_none _ _)
 
-pub put-ended-spec : {M : Type 1} → statement M
-put-ended-spec = tie.close (tie.spec put-requires same_length returns returns-2)
+pub put_ended_spec : {M : Type 1} → statement M
+put_ended_spec = tie.close (tie.spec put-requires same_length returns returns-2)

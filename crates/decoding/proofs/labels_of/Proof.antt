@@ -10,38 +10,38 @@ use Rattle.decoding.proofs.Decoding.{last_end, labelless, label_at, labels-none-
 use Rattle.decoding.proofs.labels_of.Statement.{statement}
 use Rattle.decoding.proofs.labels_of.Tie as tie
 
-abbrev invariant-loop : tie.invariant-loop
+abbrev invariant-loop : tie.invariant-loop-i
 invariant-loop file labels₀ rows i₀ labels i =
     (i ≤ rows) × ByRow i (file_labelled file).label labels
 
-abbrev decreases-loop : tie.decreases-loop
+abbrev decreases-loop : tie.decreases-loop-i
 decreases-loop file labels₀ rows i₀ labels i = rows - i
 
-rings-of-requires : tie.Need-rings-of-requires invariant-loop decreases-loop
+rings-of-requires : tie.Need-rings_of-requires invariant-loop decreases-loop
 rings-of-requires c κs = omega arith
 
-returns : tie.Need-returns invariant-loop decreases-loop
-returns c = labels-none-way c.before.before.before.args.file.now (rw c.before.rings-of.ensures at c.if1.true)
+returns : tie.Need-returns-then-rings_of-eq-RINGS invariant-loop decreases-loop
+returns c = labels-none-way c.before.before.before.args.file.now (rw c.before.rings_of.ensures at c.if-rings_of-eq-RINGS.true)
 
-version-of-requires : tie.Need-version-of-requires invariant-loop decreases-loop
+version-of-requires : tie.Need-version_of-requires invariant-loop decreases-loop
 version-of-requires c κs = omega arith
 
-returns-2 : tie.Need-returns-2 invariant-loop decreases-loop
+returns-2 : tie.Need-returns-then-version_of-ne-VERSION_2 invariant-loop decreases-loop
 returns-2 c =
     let y = c.before.before in
-    labels-none y.before.before.before.args.file.now (rw y.before.rings-of.ensures at y.if1.false)
-    (rw c.before.version_of.ensures at c.if2.true)
+    labels-none y.before.before.before.args.file.now (rw y.before.rings_of.ensures at y.if-rings_of-eq-RINGS.false)
+    (rw c.before.version_of.ensures at c.if-version_of-ne-VERSION_2.true)
 
-of-requires : tie.Need-of-requires invariant-loop decreases-loop
+of-requires : tie.Need-of-rows-requires invariant-loop decreases-loop
 of-requires c κs = omega arith
 
-loop-holds : tie.Need-loop-init invariant-loop decreases-loop
+loop-holds : tie.Need-loop-i-init invariant-loop decreases-loop
 loop-holds c = (omega arith, by_row_start _)
 
-row-in-requires : tie.Need-row-in-requires invariant-loop decreases-loop
+row-in-requires : tie.Need-row_in-requires invariant-loop decreases-loop
 row-in-requires c κs = (c.before.before.before.before.before.before.before.before.requires, omega arith)
 
-add-read16 : tie.Need-overflow-add-read16 invariant-loop decreases-loop
+add-read16 : tie.Need-overflow_add-row_in invariant-loop decreases-loop
 add-read16 c = omega arith
 
 read16-requires : tie.Need-read16-requires invariant-loop decreases-loop
@@ -50,45 +50,45 @@ read16-requires c κs =
     let y = e.before.before in
     omega (
       arith,
-      last_label (version y.before.before.before.args.file.now) (rw y.before.rings-of.ensures at y.if1.false),
-      label_two (sym e.before.version_of.ensures ∙ e.if2.false),
+      last_label (version y.before.before.before.args.file.now) (rw y.before.rings_of.ensures at y.if-rings_of-eq-RINGS.false),
+      label_two (sym e.before.version_of.ensures ∙ e.if-version_of-ne-VERSION_2.false),
     )
 
-mul-labels : tie.Need-overflow-mul-labels invariant-loop decreases-loop
+mul-labels : tie.Need-offset_bounds-labels-i invariant-loop decreases-loop
 mul-labels c = omega arith
 
-array-write-labels : tie.Need-array-write-labels invariant-loop decreases-loop
+array-write-labels : tie.Need-bounds-labels-i invariant-loop decreases-loop
 array-write-labels c = omega arith
 
-add-i : tie.Need-overflow-add-i invariant-loop decreases-loop
+add-i : tie.Need-overflow_add-i invariant-loop decreases-loop
 add-i c = omega arith
 
-loop-less : tie.Need-loop-smaller invariant-loop decreases-loop
+loop-less : tie.Need-loop-i-smaller invariant-loop decreases-loop
 loop-less c = omega arith
 
-loop-again : tie.Need-loop-preserved invariant-loop decreases-loop
+loop-again : tie.Need-loop-i-preserved invariant-loop decreases-loop
 loop-again c =
     let e = c.before.before.before.before.before in
     let y = e.before.before in
     let f = y.before.before.before.args.file.now in
-    let one = rw y.before.rings-of.ensures at y.if1.false in
-    let two = sym e.before.version_of.ensures ∙ e.if2.false in
-    let u = c.before.before.before.loop in (
+    let one = rw y.before.rings_of.ensures at y.if-rings_of-eq-RINGS.false in
+    let two = sym e.before.version_of.ensures ∙ e.if-version_of-ne-VERSION_2.false in
+    let u = c.before.before.before.loop-i in (
       omega arith,
       by_row_put _ u.invariant.1 (omega arith)
           (c.read16.ensures ∙ ap (λ (k : ℕ). read16 f (k + 6)) c.before.row_in.ensures.0 ∙ sym (label_at f u.i one two)),
     )
 
-returns-3 : tie.Need-returns-3 invariant-loop decreases-loop
+returns-3 : tie.Need-returns invariant-loop decreases-loop
 returns-3 c =
     let of = c.before.before.of in
-    let e : c.before.loop.i ≡ of.result.rows = omega arith in
+    let e : c.before.loop-i.i ≡ of.result.rows = omega arith in
     let z = c.before.before.before.before.before.before.before.before in
     last_end z.args.file.now z.requires (label_in (file_rings z.args.file.now)) (labelless (file_rings z.args.file.now))
-    of.ensures.rows (rw e at c.before.loop.invariant.1)
+    of.ensures.rows (rw e at c.before.loop-i.invariant.1)
 
-pub labels-of-spec : {M : Type 1} → statement M
-labels-of-spec =
+pub labels_of_spec : {M : Type 1} → statement M
+labels_of_spec =
     tie.close
     (tie.spec
     invariant-loop

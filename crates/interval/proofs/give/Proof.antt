@@ -14,96 +14,96 @@ use Rattle.interval.proofs.Fill.{giving_none, giving_next}
 use Rattle.interval.proofs.give.Statement.{statement}
 use Rattle.interval.proofs.give.Tie as tie
 
-abbrev invariant-loop : tie.invariant-loop
+abbrev invariant-loop : tie.invariant-loop-i
 invariant-loop top rows load₀ totals₀ i₀ load totals i =
     (i ≤ rows) × (length load ≡ max_rows) × (length totals ≡ max_rows) × Given i top (at load₀) (at totals₀) (at load) (at totals)
     × ((j : ℕ) → i ≤ j → at load j ≡ at load₀ j)
 
-abbrev decreases-loop : tie.decreases-loop
+abbrev decreases-loop : tie.decreases-loop-i
 decreases-loop top rows load₀ totals₀ i₀ load totals i = rows - i
 
 -- the row's whole slots and its total are as they were, and fit
-as_is : (l : tie.In-loop invariant-loop decreases-loop)
-    → (let u = l.before.loop in
+as_is : (l : tie.In-loop-i invariant-loop decreases-loop)
+    → (let u = l.before.loop-i in
     let z = l.before.before in
-    (at u.load u.i ≡ at z.args.load.now u.i) × (at u.totals u.i ≡ at z.args.totals.now u.i)
-    × (at z.args.totals.now u.i ≤ at z.args.load.now u.i) × (at z.args.load.now u.i ≤ max_slots))
+    (at u.load u.i ≡ at z.args.load-1.now u.i) × (at u.totals u.i ≡ at z.args.totals.now u.i)
+    × (at z.args.totals.now u.i ≤ at z.args.load-1.now u.i) × (at z.args.load-1.now u.i ≤ max_slots))
 as_is l =
-    let u = l.before.loop in
+    let u = l.before.loop-i in
     let z = l.before.before in
-    let f = z.requires.1 u.i l.loop-test.true in
+    let f = z.requires.1 u.i l.loop-i-test.true in
     (u.invariant.4 u.i (omega arith), u.invariant.3.spare u.i (omega arith), f.0, f.1)
 
-loop-holds : tie.Need-loop-init invariant-loop decreases-loop
+loop-holds : tie.Need-loop-i-init invariant-loop decreases-loop
 loop-holds c = (omega arith, c.requires.2, c.requires.3, giving_none _ _ _ _, λ j l. refl)
 
-mul-all : tie.Need-overflow-mul-all invariant-loop decreases-loop
+mul-all : tie.Need-offset_bounds-load-i invariant-loop decreases-loop
 mul-all c = search rules
 
-element-copy-out-all : tie.Need-element-copy-out-all invariant-loop decreases-loop
+element-copy-out-all : tie.Need-bounds-load-i invariant-loop decreases-loop
 element-copy-out-all c = search rules
 
-cast-all : tie.Need-overflow-cast-all invariant-loop decreases-loop
+cast-all : tie.Need-overflow_cast-all invariant-loop decreases-loop
 cast-all c = omega (arith, as_is c.before)
 
-shr-all : tie.Need-overflow-shr-all invariant-loop decreases-loop
+shr-all : tie.Need-overflow_shr-all invariant-loop decreases-loop
 shr-all c = omega (arith, c.before.before.before.requires.0)
 
-add-all : tie.Need-overflow-add-all invariant-loop decreases-loop
+add-all : tie.Need-overflow_add-all invariant-loop decreases-loop
 add-all c = omega (arith, as_is c.before)
 
-mul-load : tie.Need-overflow-mul-load invariant-loop decreases-loop
+mul-load : tie.Need-offset_bounds-totals-i invariant-loop decreases-loop
 mul-load c = search rules
 
-element-copy-out-load : tie.Need-element-copy-out-load invariant-loop decreases-loop
+element-copy-out-load : tie.Need-bounds-totals-i invariant-loop decreases-loop
 element-copy-out-load c = search rules
 
-sub-load : tie.Need-overflow-sub-load invariant-loop decreases-loop
+sub-load : tie.Need-overflow_sub-load invariant-loop decreases-loop
 sub-load c = omega (arith, as_is c.before.before)
 
-cast-load : tie.Need-overflow-cast-load invariant-loop decreases-loop
+cast-load : tie.Need-overflow_cast-load invariant-loop decreases-loop
 cast-load c = omega (arith, as_is c.before.before)
 
-mul-load-2 : tie.Need-overflow-mul-load-2 invariant-loop decreases-loop
+mul-load-2 : tie.Need-offset_bounds-load-i-in-loop-i invariant-loop decreases-loop
 mul-load-2 c = search rules
 
-element-write-load : tie.Need-element-write-load invariant-loop decreases-loop
+element-write-load : tie.Need-bounds-load-i-in-loop-i invariant-loop decreases-loop
 element-write-load c = search rules
 
-mul-totals : tie.Need-overflow-mul-totals invariant-loop decreases-loop
+mul-totals : tie.Need-offset_bounds-totals-i-in-loop-i invariant-loop decreases-loop
 mul-totals c = search rules
 
-element-write-totals : tie.Need-element-write-totals invariant-loop decreases-loop
+element-write-totals : tie.Need-bounds-totals-i-in-loop-i invariant-loop decreases-loop
 element-write-totals c = search rules
 
-add-i : tie.Need-overflow-add-i invariant-loop decreases-loop
+add-i : tie.Need-overflow_add-i invariant-loop decreases-loop
 add-i c = search rules
 
-loop-less : tie.Need-loop-smaller invariant-loop decreases-loop
+loop-less : tie.Need-loop-i-smaller invariant-loop decreases-loop
 loop-less c = search rules
 
-loop-again : tie.Need-loop-preserved invariant-loop decreases-loop
+loop-again : tie.Need-loop-i-preserved invariant-loop decreases-loop
 loop-again c =
     let l = c.before.before in
-    let u = l.before.loop in
+    let u = l.before.loop-i in
     let z = l.before.before in
     let a = z.args in
     let d : ℕ = a.top / 2 ^ u.i % 2 in
     let e : d ≡ digit a.top u.i = sym (digit_is a.top u.i) in
     let s = as_is l in
-    let k : u.i < length u.load = omega (arith, u.invariant.1, z.requires.0, l.loop-test.true) in (
-      omega (arith, l.loop-test.true),
+    let k : u.i < length u.load = omega (arith, u.invariant.1, z.requires.0, l.loop-i-test.true) in (
+      omega (arith, l.loop-i-test.true),
       simp length-set u.invariant.1,
       simp length-set u.invariant.2,
-      giving_next u.i a.top _ _ _ _ _ _ u.invariant.3 (z.requires.1 u.i l.loop-test.true).0
+      giving_next u.i a.top _ _ _ _ _ _ u.invariant.3 (z.requires.1 u.i l.loop-i-test.true).0
           (put_set_is u.load u.i _ _ k (omega (arith, s, e)))
-          (put_set_is u.totals u.i _ _ (omega (arith, u.invariant.2, z.requires.0, l.loop-test.true)) (omega (arith, s, e))),
+          (put_set_is u.totals u.i _ _ (omega (arith, u.invariant.2, z.requires.0, l.loop-i-test.true)) (omega (arith, s, e))),
       λ j m. (put_set u.load u.i _ k).1 j (omega arith) ∙ u.invariant.4 j (omega arith),
     )
 
 returns : tie.Need-returns invariant-loop decreases-loop
 returns c =
-    let u = c.before.loop in
+    let u = c.before.loop-i in
     let e : u.i ≡ c.before.before.args.rows = omega (arith, u.invariant.0) in
     (u.invariant.1, u.invariant.2, rw e at u.invariant.3)
 

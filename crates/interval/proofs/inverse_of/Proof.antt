@@ -5,13 +5,13 @@ use Rattle.numbers.proofs.Rounding.{up-over, up-under}
 use Rattle.interval.proofs.inverse_of.Statement.{statement}
 use Rattle.interval.proofs.inverse_of.Tie as tie
 
-sub-result : tie.Need-overflow-sub-result
+sub-result : tie.Need-overflow_sub-result
 sub-result c = c.requires.0
 
-add-result : tie.Need-overflow-add-result
+add-result : tie.Need-overflow_add-result
 add-result c = omega (arith, c.requires.1)
 
-div-result : tie.Need-nonzero-div-result
+div-result : tie.Need-nonzero_div-result
 div-result c = omega (arith, c.requires.0)
 
 returns : tie.Need-returns
@@ -19,5 +19,5 @@ returns c =
     let h = c.args.h in
     record { least = up-over (2 ^ 36) h c.requires.0; most = up-under (2 ^ 36) h c.requires.0 }
 
-pub inverse-of-spec : {M : Type 1} → statement M
-inverse-of-spec = tie.close (tie.spec sub-result add-result div-result returns)
+pub inverse_of_spec : {M : Type 1} → statement M
+inverse_of_spec = tie.close (tie.spec sub-result add-result div-result returns)

@@ -24,20 +24,20 @@ high true true = refl
 high true false = refl
 high false u = refl
 
-returns : tie.Need-returns
+returns : tie.Need-returns-then-d-eq0
 returns c i =
     let a = c.before.args in
-    rw c.if1.true (
+    rw c.if-d-eq0.true (
     bit_xor_lem a.rows (bit_and a.rows a.upper) i
     ∙ ap (λ (b : Bool). cond b (not (bit a.rows i)) (bit a.rows i)) (bit_and_lem a.rows a.upper i)
     ∙ low (bit a.rows i) (bit a.upper i)
     )
 
-returns-2 : tie.Need-returns-2
+returns-2 : tie.Need-returns
 returns-2 c i =
     let a = c.before.args in
-    let e : a.d ≡ 1 = omega (arith, c.before.requires, c.if1.false) in
+    let e : a.d ≡ 1 = omega (arith, c.before.requires, c.if-d-eq0.false) in
     rw e (bit_and_lem a.rows a.upper i ∙ high (bit a.rows i) (bit a.upper i))
 
-pub on-ring-spec : {M : Type 1} → statement M
-on-ring-spec = tie.close (tie.spec returns returns-2)
+pub on_ring_spec : {M : Type 1} → statement M
+on_ring_spec = tie.close (tie.spec returns returns-2)

@@ -19,88 +19,88 @@ use Rattle.interval.proofs.Product.{greatest-parts, rings_few, chosen-start, cho
 use Rattle.interval.proofs.round_rows.Statement.{statement}
 use Rattle.interval.proofs.round_rows.Tie as tie
 
-abbrev invariant-loop : tie.invariant-loop
+abbrev invariant-loop : tie.invariant-loop-d
 invariant-loop upper tail head out into size part parted rings rounded₀ d₀ rounded d =
     (d ≤ rings) × Chosen size.rows size.sets (at tail) (last head) size.hyper upper (at part) d rounded
 
-abbrev decreases-loop : tie.decreases-loop
+abbrev decreases-loop : tie.decreases-loop-d
 decreases-loop upper tail head out into size part parted rings rounded₀ d₀ rounded d = rings - d
 
-abbrev start : tie.At-loop invariant-loop decreases-loop → tie.Start invariant-loop decreases-loop
+abbrev start : tie.At-loop-d invariant-loop decreases-loop → tie.Start invariant-loop decreases-loop
 start l = l.before.before
 
-ring-count-requires : tie.Need-ring-count-requires invariant-loop decreases-loop
+ring-count-requires : tie.Need-ring_count-rings-requires invariant-loop decreases-loop
 ring-count-requires c κs = search rules
 
-loop-holds : tie.Need-loop-init invariant-loop decreases-loop
+loop-holds : tie.Need-loop-d-init invariant-loop decreases-loop
 loop-holds c = (omega arith, chosen-start _ _ _ _ _ _ _ c.before.requires.1.some)
 
 -- the ring is one of those that there are
-ring-here : (n : tie.In-loop invariant-loop decreases-loop) → n.before.loop.d < max_rings
+ring-here : (n : tie.In-loop-d invariant-loop decreases-loop) → n.before.loop-d.d < max_rings
 ring-here n =
     let l = n.before in
-    rings_few (start l).args.upper l.loop.d (rw l.before.ring-count.ensures at n.loop-test.true)
+    rings_few (start l).args.upper l.loop-d.d (rw l.before.ring_count-rings.ensures at n.loop-d-test.true)
 
-on-ring-requires : tie.Need-on-ring-requires invariant-loop decreases-loop
+on-ring-requires : tie.Need-on_ring-rows-requires invariant-loop decreases-loop
 on-ring-requires c κs = ring-here c
 
 -- its rows with a part
-module _ (r : tie.After-on-ring invariant-loop decreases-loop) where
+module _ (r : tie.After-on_ring-rows invariant-loop decreases-loop) where
   abbrev entry : tie.Start invariant-loop decreases-loop
   entry = start r.before.before
 
   abbrev part : ℕ → ℕ
   part = at entry.args.part.now
 
-  parted-there : (i : ℕ) → bit r.on-ring.result i ≡ true → (i < entry.args.size.rows) × (0 < part i)
+  parted-there : (i : ℕ) → bit r.on_ring-rows.result i ≡ true → (i < entry.args.size.rows) × (0 < part i)
   parted-there i e =
-      let t = and_both _ _ (sym (r.on-ring.ensures i) ∙ e) in
-      let q = and_both _ _ (sym (entry.pre.2 i) ∙ t.0) in
+      let t = and_both _ _ (sym (r.on_ring-rows.ensures i) ∙ e) in
+      let q = and_both _ _ (sym (entry.requires.2 i) ∙ t.0) in
       (ltb-true i _ q.0, ltb-true 0 _ q.1)
 
   -- their parts are all of the ring's
   own : (i : ℕ) → i < entry.args.size.rows
-      → among r.on-ring.result part i ≡ on_ring r.before.before.loop.d entry.args.upper part i
+      → among r.on_ring-rows.result part i ≡ on_ring r.before.before.loop-d.d entry.args.upper part i
   own i l =
-      ap (λ (b : Bool). only b (part i)) (r.on-ring.ensures i ∙ ap (λ (b : Bool). b && on) (entry.pre.2 i)
+      ap (λ (b : Bool). only b (part i)) (r.on_ring-rows.ensures i ∙ ap (λ (b : Bool). b && on) (entry.requires.2 i)
       ∙ ap (λ (b : Bool). (b && ltb 0 (part i)) && on) (lt-ltb i entry.args.size.rows l))
       ∙ go (part i) (dec_lt 0 (part i))
     where
       on : Bool
-      on = eqb (digit entry.args.upper i) r.before.before.loop.d
+      on = eqb (digit entry.args.upper i) r.before.before.loop-d.d
 
       go : (x : ℕ) → Dec (0 < x) → only (ltb 0 x && on) x ≡ only on x
       go x (yes p) = rw (lt-ltb 0 x p) refl
       go x (no p) = let z : x ≡ 0 = omega arith in rw z (only_zero (ltb 0 0 && on) ∙ sym (only_zero on))
 
-choose-requires : tie.Need-choose-requires invariant-loop decreases-loop
+choose-requires : tie.Need-choose-rounded-requires invariant-loop decreases-loop
 choose-requires c κs = let p = (entry c).requires in (p.0, p.1, parted-there c)
 
-add-d : tie.Need-overflow-add-d invariant-loop decreases-loop
+add-d : tie.Need-overflow_add-d invariant-loop decreases-loop
 add-d c = omega (arith, ring-here c.before.before)
 
-loop-less : tie.Need-loop-smaller invariant-loop decreases-loop
+loop-less : tie.Need-loop-d-smaller invariant-loop decreases-loop
 loop-less c = omega arith
 
-loop-again : tie.Need-loop-preserved invariant-loop decreases-loop
+loop-again : tie.Need-loop-d-preserved invariant-loop decreases-loop
 loop-again c =
     let r = c.before in
     let n = r.before in
-    let l = n.before.loop in (
-      omega (arith, n.loop-test.true),
-      chosen-next _ _ _ _ _ _ _ (entry r).requires.1.some l.d l.rounded c.choose.result (ring-here n) l.invariant.1
-          (greatest-parts _ _ _ _ _ _ _ (digit c.choose.result) (own r) c.choose.ensures),
+    let l = n.before.loop-d in (
+      omega (arith, n.loop-d-test.true),
+      chosen-next _ _ _ _ _ _ _ (entry r).requires.1.some l.d l.rounded c.choose-rounded.result (ring-here n) l.invariant.1
+          (greatest-parts _ _ _ _ _ _ _ (digit c.choose-rounded.result) (own r) c.choose-rounded.ensures),
     )
 
 returns : tie.Need-returns invariant-loop decreases-loop
 returns c =
     let l = c.before in
     let z = start l in
-    let e : l.loop.d ≡ ring_count z.args.upper = omega (arith, l.loop.invariant.0, c.loop-test.false, l.before.ring-count.ensures) in
-    chosen-end _ _ _ _ _ _ _ z.pre.1.some l.loop.d _ e l.loop.invariant.1
+    let e : l.loop-d.d ≡ ring_count z.args.upper = omega (arith, l.loop-d.invariant.0, c.loop-d-test.false, l.before.ring_count-rings.ensures) in
+    chosen-end _ _ _ _ _ _ _ z.requires.1.some l.loop-d.d _ e l.loop-d.invariant.1
 
-pub round-rows-spec : {M : Type 1} → statement M
-round-rows-spec =
+pub round_rows_spec : {M : Type 1} → statement M
+round_rows_spec =
     tie.close
     (tie.spec
     invariant-loop

@@ -4,7 +4,7 @@ use Rattle.interval.proofs.Shares.{whole_is, product_small}
 use Rattle.interval.proofs.whole_of.Statement.{statement}
 use Rattle.interval.proofs.whole_of.Tie as tie
 
-mul-result : tie.Need-overflow-mul-result
+mul-result : tie.Need-overflow_mul-result
 mul-result c =
     let p = c.requires.0 in
     omega (arith, product_small p.0 c.args.inverse c.args.share p.1 p.2 p.3 c.requires.1)
@@ -12,5 +12,5 @@ mul-result c =
 returns : tie.Need-returns
 returns c h some short I = whole_is h c.args.inverse c.args.share some short I c.requires.1
 
-pub whole-of-spec : {M : Type 1} → statement M
-whole-of-spec = tie.close (tie.spec mul-result returns)
+pub whole_of_spec : {M : Type 1} → statement M
+whole_of_spec = tie.close (tie.spec mul-result returns)

@@ -13,5 +13,5 @@ told-requires c κs = add_small c.add.ensures
 returns : tie.Need-returns
 returns c = search rules
 
-pub added-spec : {M : Type 1} → statement M
-added-spec = tie.close (tie.spec add-requires told-requires returns)
+pub added_spec : {M : Type 1} → statement M
+added_spec = tie.close (tie.spec add-requires told-requires returns)

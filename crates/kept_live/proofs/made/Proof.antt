@@ -13,5 +13,5 @@ told-requires c κs = new_small c.new.ensures
 returns : tie.Need-returns
 returns c = search rules
 
-pub made-spec : {M : Type 1} → statement M
-made-spec = tie.close (tie.spec new-requires told-requires returns)
+pub made_spec : {M : Type 1} → statement M
+made_spec = tie.close (tie.spec new-requires told-requires returns)

@@ -13,5 +13,5 @@ told-requires c κs = remove_small c.remove.ensures
 returns : tie.Need-returns
 returns c = search rules
 
-pub removed-spec : {M : Type 1} → statement M
-removed-spec = tie.close (tie.spec remove-requires told-requires returns)
+pub removed_spec : {M : Type 1} → statement M
+removed_spec = tie.close (tie.spec remove-requires told-requires returns)

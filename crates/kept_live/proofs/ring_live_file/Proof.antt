@@ -110,7 +110,7 @@ module _
       ‵ (flft κ q) ∷ ‵ (fres γ ((T.the_row).coded.code h)) ∷ ‵ (fshr_bor κ (λ s. part_at T.the_row s h b o)) ∷ ‵ (flft κ₁ q₁)
       ∷ ‵ (finally u8 γ' zs) ∷ []
 
-  goes : Is T.the_row h (mach h ∷ []) → ent 𝓤 (sep 𝓤 (A.lft κ₁ q₁) (sem 𝓛 Bytes)) ((Cited 𝓛 at_mem run).pre to-callee)
+  goes : Is T.the_row h (mach h ∷ []) → ent 𝓤 (sep 𝓤 (A.lft κ₁ q₁) (sem 𝓛 Bytes)) ((Cited 𝓛 at_mem run).requires to-callee)
   goes was =
       qed 𝓛 ((‵ (flft κ₁ q₁) ⊛ ‵ Bytes) ∷ []) ∵ split ! $ nothing ! $ move ! (1 ∷ 0 ∷ []) $ join ! $ nothing ! $
       move ! (2 ∷ 0 ∷ []) $ fjoin ! $
@@ -166,7 +166,7 @@ module _
         (from ! (stop !)) (init ! 5 refl (tt, (tt, (record { fits = room.0 }, tt)))) $
         -- the callee is handed the bytes and their token
         move ! (4 ∷ []) $ fsplit ! $ drop ! $ fsplit ! $ move ! (4 ∷ []) $ split ! $ move ! (0 ∷ 2 ∷ []) $ join ! $
-        use1 𝓛 (raw ((Cited 𝓛 at_mem run).pre to-callee)) (goes was) $
+        use1 𝓛 (raw ((Cited 𝓛 at_mem run).requires to-callee)) (goes was) $
         -- [what the callee asks; true; true; the token; the fractured borrow; res; _6; …; _1; …; room for _0; …]
         calls_at ! fm (Cited 𝓛 at_mem run) known to-callee
         (and_then ! (load ! (from ! (stop !)) (look ! 10 refl)) (and_then ! (load ! (from ! (stop !)) (look ! 14 refl))
@@ -224,9 +224,9 @@ meets {𝓤 = 𝓤} 𝓛 at_mem run 𝓣 known =
     (WpFn 𝓤 𝓛.H 𝓣.C 𝓣.Λ code.function) (WpFn-mono 𝓤 𝓛.H 𝓛.laws 𝓣 code.function)
     (walks 𝓛 at_mem run 𝓣.C 𝓣.Λ (fm_of 𝓤 𝓛.H 𝓛.laws 𝓣) known)
 
-pub ring-live-file-spec : {M : Type 1} → stated.statement M
+pub ring_live_file_spec : {M : Type 1} → stated.statement M
 unfolding code.routine tables_of
-ring-live-file-spec 𝓤 𝓛 𝓜 𝓡 =
+ring_live_file_spec 𝓤 𝓛 𝓜 𝓡 =
     entered 𝓤 𝓛.H (triple_of 𝓛 here.signature (here.spec 𝓛 𝓜.mem 𝓡.run))
     (tables 𝓤 𝓛.H 𝓜 𝓡 code.env).C (tables 𝓤 𝓛.H 𝓜 𝓡 code.env).Λ #here code.function (code.unfolded 𝓤 𝓛.H 𝓜 𝓡)
     (meets 𝓛 𝓜.mem 𝓡.run (tables_of 𝓤 𝓛.H 𝓜 (tables 𝓤 𝓛.H 𝓜 𝓡 code.env))

@@ -38,18 +38,18 @@ use denote.Triple.Table.{entered, cited}
 use denote.Triple.Walked.{says, Stays, stay_ref, stay_none, walk_of, AllGo, Goes-ref, Goes-none, Walks, ends_at, walked, walk_Meets}
 use denote.Exit.{yes}
 use denote.Signature.{plain}
-use Rattle.live.specs.declared.Live.{Live}
-use Rattle.live.specs.contracts.Live as T
-use Rattle.live.proofs.Live.TheLaws as T'
+use Rattle.live-1.specs.declared.Live.{Live}
+use Rattle.live-1.specs.contracts.Live as T
+use Rattle.live-1.proofs.Live.TheLaws as T'
 use Rattle.kept_live.specs.declared.Kept.{Kept}
 use Rattle.kept_live.specs.InPlace.{NewInPlace}
 use Rattle.kept_live.proofs.Walks.{live_in, code_in, Left, opened, closed, answered}
 use Rattle.kept_live.specs.contracts.Kept as S
 use Rattle.kept_live.proofs.Kept.TheLaws as S'
 use Rattle.kept_live.specs.contracts.made as callee
-use Rattle.kept_live.proofs.made.Symbol as callee-def
-use Rattle.kept_live.proofs.made.Symbol.{name as #callee}
-use Rattle.kept_live.proofs.made.Met as callee-thm
+use Rattle.kept_live.proofs.made-after.Symbol as callee-def
+use Rattle.kept_live.proofs.made-after.Symbol.{name as #callee}
+use Rattle.kept_live.proofs.made-after.Met as callee-thm
 use Rattle.kept_live.specs.contracts.ring_live_new.Key.{name as #here}
 use Rattle.kept_live.specs.contracts.ring_live_new as here
 use Rattle.kept_live.proofs.ring_live_new.Statement as stated
@@ -89,7 +89,7 @@ module _
   abbrev Said : Kept → Type 0
   Said r = NewInPlace elements r.live r.code
 
-  goes : ent 𝓤 (sem 𝓛 ftrue) ((Cited 𝓛 at_mem run).pre to-callee)
+  goes : ent 𝓤 (sem 𝓛 ftrue) ((Cited 𝓛 at_mem run).requires to-callee)
   goes =
       qed 𝓛 (‵ ftrue ∷ []) ∵ nothing ! $
       owned ! u64 (Is u64) (uint_Makes 𝓛 w64) elements _ (refl, f-elements) $ fjoin ! $
@@ -124,7 +124,7 @@ module _
         move ! (9 ∷ []) $ fsplit ! $ fsplit3 ! $ drop ! $ move ! (11 ∷ []) $ split ! $ move ! (2 ∷ 3 ∷ 0 ∷ []) $
         opened ! tt h b o (λ was.
         -- [the live table's cell; what it owns; the open borrow; obs; auth; true; what the number owns; the locals; …]
-        nothing ! $ use1 𝓛 (raw ((Cited 𝓛 at_mem run).pre to-callee)) goes $
+        nothing ! $ use1 𝓛 (raw ((Cited 𝓛 at_mem run).requires to-callee)) goes $
         -- [what the callee asks; the live table's cell; what it owns; the open borrow; obs; auth; …; the locals; …]
         calls_at ! fm (Cited 𝓛 at_mem run) known to-callee (and_then ! (load ! (from ! (stop !)) (look ! 10 refl)) (no_more !)) (λ w.
         answered ! tt w Said (λ (zs : Unit {0} × Unit {0}). lasts callee.ended tt (elements, tt) zs) (id⊢ 𝓤 _) (λ r e is.
@@ -171,9 +171,9 @@ meets {𝓤 = 𝓤} 𝓛 at_mem run 𝓣 known =
     (WpFn 𝓤 𝓛.H 𝓣.C 𝓣.Λ code.function) (WpFn-mono 𝓤 𝓛.H 𝓛.laws 𝓣 code.function)
     (walks 𝓛 at_mem run 𝓣.C 𝓣.Λ (fm_of 𝓤 𝓛.H 𝓛.laws 𝓣) known)
 
-pub ring-live-new-spec : {M : Type 1} → stated.statement M
+pub ring_live_new_spec : {M : Type 1} → stated.statement M
 unfolding code.routine tables_of
-ring-live-new-spec 𝓤 𝓛 𝓜 𝓡 =
+ring_live_new_spec 𝓤 𝓛 𝓜 𝓡 =
     entered 𝓤 𝓛.H (triple_of 𝓛 here.signature (here.spec 𝓛 𝓜.mem 𝓡.run))
     (tables 𝓤 𝓛.H 𝓜 𝓡 code.env).C (tables 𝓤 𝓛.H 𝓜 𝓡 code.env).Λ #here code.function (code.unfolded 𝓤 𝓛.H 𝓜 𝓡)
     (meets 𝓛 𝓜.mem 𝓡.run (tables_of 𝓤 𝓛.H 𝓜 (tables 𝓤 𝓛.H 𝓜 𝓡 code.env))

@@ -39,18 +39,18 @@ use denote.Triple.Table.{entered, cited}
 use denote.Triple.Walked.{says, Stays, stay_ref, stay_none, walk_of, AllGo, Goes-ref, Goes-none, Walks, ends_at, walked, walk_Meets}
 use denote.Exit.{yes}
 use denote.Signature.{plain}
-use Rattle.live.specs.declared.Live.{Live}
-use Rattle.live.specs.contracts.Live as T
-use Rattle.live.proofs.Live.TheLaws as T'
+use Rattle.live-1.specs.declared.Live.{Live}
+use Rattle.live-1.specs.contracts.Live as T
+use Rattle.live-1.proofs.Live.TheLaws as T'
 use Rattle.kept_live.specs.declared.Kept.{Kept}
 use Rattle.kept_live.specs.InPlace.{RemoveInPlace}
 use Rattle.kept_live.proofs.Walks.{mach, live_in, code_in, Left, opened, closed, answered}
 use Rattle.kept_live.specs.contracts.Kept as S
 use Rattle.kept_live.proofs.Kept.TheLaws as S'
 use Rattle.kept_live.specs.contracts.removed as callee
-use Rattle.kept_live.proofs.removed.Symbol as callee-def
-use Rattle.kept_live.proofs.removed.Symbol.{name as #callee}
-use Rattle.kept_live.proofs.removed.Met as callee-thm
+use Rattle.kept_live.proofs.removed-after.Symbol as callee-def
+use Rattle.kept_live.proofs.removed-after.Symbol.{name as #callee}
+use Rattle.kept_live.proofs.removed-after.Met as callee-thm
 use Rattle.kept_live.specs.contracts.ring_live_remove.Key.{name as #here}
 use Rattle.kept_live.specs.contracts.ring_live_remove as here
 use Rattle.kept_live.proofs.ring_live_remove.Statement as stated
@@ -90,7 +90,7 @@ module _
   abbrev Said : Kept → Type 0
   Said r = RemoveInPlace h place r.live r.code
 
-  goes : Is T.the_row h (mach h ∷ []) → ent 𝓤 (sem 𝓛 ftrue) ((Cited 𝓛 at_mem run).pre to-callee)
+  goes : Is T.the_row h (mach h ∷ []) → ent 𝓤 (sem 𝓛 ftrue) ((Cited 𝓛 at_mem run).requires to-callee)
   goes was =
       qed 𝓛 (‵ ftrue ∷ []) ∵ nothing ! $
       owned ! u64 (Is u64) (uint_Makes 𝓛 w64) place _ (refl, f-place) $ fjoin ! $
@@ -128,7 +128,7 @@ module _
         -- [the live table's cell; what it owns; the open borrow; obs; auth; true; what the numbers own; the locals; …]
         assigns ! (of_opd ! (load ! (from ! (hop ! (look ! 13 refl) (stop !))) (look_raw ! 0 refl))) (from ! (stop !))
         (init ! 7 refl ((LL.lawful T.the_type T'.the_laws 𝓛).typed h _ was).0) $
-        nothing ! $ use1 𝓛 (raw ((Cited 𝓛 at_mem run).pre to-callee)) (goes was) $
+        nothing ! $ use1 𝓛 (raw ((Cited 𝓛 at_mem run).requires to-callee)) (goes was) $
         -- [what the callee asks; the live table's cell; what it owns; the open borrow; obs; auth; …; the locals; …]
         calls_at ! fm (Cited 𝓛 at_mem run) known to-callee
         (and_then ! (load ! (from ! (stop !)) (look ! 8 refl)) (and_then ! (load ! (from ! (stop !)) (look ! 12 refl)) (no_more !))) (λ w.
@@ -176,9 +176,9 @@ meets {𝓤 = 𝓤} 𝓛 at_mem run 𝓣 known =
     (WpFn 𝓤 𝓛.H 𝓣.C 𝓣.Λ code.function) (WpFn-mono 𝓤 𝓛.H 𝓛.laws 𝓣 code.function)
     (walks 𝓛 at_mem run 𝓣.C 𝓣.Λ (fm_of 𝓤 𝓛.H 𝓛.laws 𝓣) known)
 
-pub ring-live-remove-spec : {M : Type 1} → stated.statement M
+pub ring_live_remove_spec : {M : Type 1} → stated.statement M
 unfolding code.routine tables_of
-ring-live-remove-spec 𝓤 𝓛 𝓜 𝓡 =
+ring_live_remove_spec 𝓤 𝓛 𝓜 𝓡 =
     entered 𝓤 𝓛.H (triple_of 𝓛 here.signature (here.spec 𝓛 𝓜.mem 𝓡.run))
     (tables 𝓤 𝓛.H 𝓜 𝓡 code.env).C (tables 𝓤 𝓛.H 𝓜 𝓡 code.env).Λ #here code.function (code.unfolded 𝓤 𝓛.H 𝓜 𝓡)
     (meets 𝓛 𝓜.mem 𝓡.run (tables_of 𝓤 𝓛.H 𝓜 (tables 𝓤 𝓛.H 𝓜 𝓡 code.env))

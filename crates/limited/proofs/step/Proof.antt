@@ -15,10 +15,10 @@ size c = search rules
 analyse-requires : tie.Need-analyse-requires
 analyse-requires c κs = search rules
 
-step-on-requires : tie.Need-step-on-requires
+step-on-requires : tie.Need-step_on-requires
 step-on-requires c κs = usable (limited_ask _ _ _) c.before.analyse.ensures
 
-same_length : tie.Need-same-length
+same_length : tie.Need-shape_of-out
 same_length c = search rules
 
 returns : tie.Need-returns
@@ -29,8 +29,8 @@ returns c =
     let f = S.args.file.now in
     let our = S.args.limits.ours in
     let their = S.args.limits.theirs in
-    step-asked (limited_ask f our their) (limited-numbered f our their) A.analyse.ensures S.args.p O.step-on.result
-    S.args.out.now _ (size S) O.step-on.ensures
+    step-asked (limited_ask f our their) (limited-numbered f our their) A.analyse.ensures S.args.p O.step_on.result
+    S.args.out-1.now _ (size S) O.step_on.ensures
 
 pub step_spec : {M : Type 1} → statement M
 step_spec = tie.close (tie.spec analyse-requires step-on-requires same_length returns)

@@ -16,53 +16,53 @@ wrong w = record { wrong = λ e. w; right = λ n. absurd (n refl); next = λ n. 
 wide-requires : tie.Need-wide-requires
 wide-requires c κs = search rules
 
-returns : tie.Need-returns
-returns c = wrong (inl (omega (arith, c.before.wide.ensures, c.if1.true)))
+returns : tie.Need-returns-then-wide-hyper
+returns c = wrong (inl (omega (arith, c.before.wide.ensures, c.if-wide-hyper.true)))
 
-cast-if2 : tie.Need-overflow-cast-if2
+cast-if2 : tie.Need-overflow_cast-entry
 cast-if2 c = search rules
 
-returns-2 : tie.Need-returns-2
-returns-2 c = wrong (inr (inl (omega (arith, c.if2.true))))
+returns-2 : tie.Need-returns-then-entry-ge-ROWS
+returns-2 c = wrong (inr (inl (omega (arith, c.if-entry-ge-ROWS.true))))
 
-returns-3 : tie.Need-returns-3
-returns-3 c = wrong (inr (inr (inl (omega (arith, c.if3.true)))))
+returns-3 : tie.Need-returns-then-entry-gt-SEND
+returns-3 c = wrong (inr (inr (inl (omega (arith, c.if-entry-gt-SEND.true)))))
 
 wide-requires-2 : tie.Need-wide-requires-2
 wide-requires-2 c κs = search rules
 
-mul-rank : tie.Need-overflow-mul-rank
+mul-rank : tie.Need-overflow_mul-rank
 mul-rank c = search rules
 
 wide-requires-3 : tie.Need-wide-requires-3
 wide-requires-3 c κs = search rules
 
-add-rank : tie.Need-overflow-add-rank
+add-rank : tie.Need-overflow_add-rank
 add-rank c = search rules
 
-returns-4 : tie.Need-returns-4
-returns-4 c = wrong (inr (inr (inr (omega (arith, c.before.before.wide2.ensures, c.before.wide3.ensures, c.if4.true)))))
+returns-4 : tie.Need-returns-then-rank-least
+returns-4 c = wrong (inr (inr (inr (omega (arith, c.before.before.wide-2.ensures, c.before.wide-3.ensures, c.if-rank-least.true)))))
 
-add-result : tie.Need-overflow-add-result
+add-result : tie.Need-overflow_add-result
 add-result c = search rules
 
-returns-5 : tie.Need-returns-5
+returns-5 : tie.Need-returns
 returns-5 c =
-    let s = c.before.before.wide2.ensures in
-    let w = c.before.wide3.ensures in
+    let s = c.before.before.wide-2.ensures in
+    let w = c.before.wide-3.ensures in
     let e = c.before.before.before in
     let f = e.before.before in
     record {
       wrong = λ z. absurd (let y : ⊥ = omega arith in y);
       right = λ n v.
-          ⊎_elim (λ a. omega (arith, f.before.before.before.wide.ensures, f.before.before.if1.false))
-          (λ v. ⊎_elim (λ a. omega (arith, f.if2.false)) (λ v. ⊎_elim (λ a. omega (arith, e.if3.false))
-          (λ a. omega (arith, s, w, c.if4.false)) v) v) v;
+          ⊎_elim (λ a. omega (arith, f.before.before.before.wide.ensures, f.before.before.if-wide-hyper.false))
+          (λ v. ⊎_elim (λ a. omega (arith, f.if-entry-ge-ROWS.false)) (λ v. ⊎_elim (λ a. omega (arith, e.if-entry-gt-SEND.false))
+          (λ a. omega (arith, s, w, c.if-rank-least.false)) v) v) v;
       next = λ n. omega (arith, s, w);
     }
 
-pub least-after-spec : {M : Type 1} → statement M
-least-after-spec =
+pub least_after_spec : {M : Type 1} → statement M
+least_after_spec =
     tie.close
     (tie.spec
     wide-requires

@@ -14,64 +14,64 @@ use Rattle.lists.proofs.Calls.{file_entry_lem}
 use Rattle.lists.proofs.put_all_bytes.Statement.{statement}
 use Rattle.lists.proofs.put_all_bytes.Tie as tie
 
-abbrev invariant-loop : tie.invariant-loop
+abbrev invariant-loop : tie.invariant-loop-k
 invariant-loop numbers entries out₀ k₀ out k =
     (k ≤ entries) × Filled out₀ out (list_header + entry_size * k) (take list_header out₀ ++ each k (λ j. in_file (memory_entry numbers j)))
 
-abbrev decreases-loop : tie.decreases-loop
+abbrev decreases-loop : tie.decreases-loop-k
 decreases-loop numbers entries out₀ k₀ out k = entries - k
 
-loop-holds : tie.Need-loop-init invariant-loop decreases-loop
+loop-holds : tie.Need-loop-k-init invariant-loop decreases-loop
 loop-holds c = (omega arith, filled_rows _ _ (filled_front _ list_header (omega (arith, c.before.before.requires.1))))
 
-entry-of-requires : tie.Need-entry-of-requires invariant-loop decreases-loop
+entry-of-requires : tie.Need-entry_of-requires invariant-loop decreases-loop
 entry-of-requires c κs = omega (arith, c.before.before.before.before.requires.0)
 
-mul-put-bytes : tie.Need-overflow-mul-put-bytes invariant-loop decreases-loop
+mul-put-bytes : tie.Need-overflow_mul-k invariant-loop decreases-loop
 mul-put-bytes c = search rules
 
-add-put-bytes : tie.Need-overflow-add-put-bytes invariant-loop decreases-loop
+add-put-bytes : tie.Need-overflow_add-k invariant-loop decreases-loop
 add-put-bytes c = search rules
 
-put-bytes-requires : tie.Need-put-bytes-requires invariant-loop decreases-loop
+put-bytes-requires : tie.Need-put_bytes-requires invariant-loop decreases-loop
 put-bytes-requires c κs =
     let z = c.before.before.before.before.before.before in
-    let u = c.before.before.before.loop in
+    let u = c.before.before.before.loop-k in
     let q = c.before.entry_of.ensures in (
       omega (arith, z.requires.1, u.invariant.1.same),
-      rw q.row (z.requires.2.row u.k c.before.before.loop-test.true),
-      rw q.way (z.requires.2.way u.k c.before.before.loop-test.true),
+      rw q.row (z.requires.2.row u.k c.before.before.loop-k-test.true),
+      rw q.way (z.requires.2.way u.k c.before.before.loop-k-test.true),
     )
 
-add-k : tie.Need-overflow-add-k invariant-loop decreases-loop
+add-k : tie.Need-overflow_add-k-in-loop-k invariant-loop decreases-loop
 add-k c = search rules
 
-loop-less : tie.Need-loop-smaller invariant-loop decreases-loop
+loop-less : tie.Need-loop-k-smaller invariant-loop decreases-loop
 loop-less c = search rules
 
-loop-again : tie.Need-loop-preserved invariant-loop decreases-loop
+loop-again : tie.Need-loop-k-preserved invariant-loop decreases-loop
 loop-again c =
     let z = c.before.before.before.before.before.before.before.before.before in
     let a = z.args in
-    let u = c.before.before.before.before.before.before.loop in
+    let u = c.before.before.before.before.before.before.loop-k in
     let q = file_entry_lem c.before.before.before.before.entry_of.ensures in
-    let room : list_header + entry_size * (u.k + 1) ≤ length a.out.now = omega (arith, z.requires.1) in
-    let e = c.before.before.put-bytes.ensures in (
+    let room : list_header + entry_size * (u.k + 1) ≤ length a.out-1.now = omega (arith, z.requires.1) in
+    let e = c.before.before.put_bytes.ensures in (
       omega arith,
-      filled_row {i = u.k} (take list_header a.out.now) (λ j. in_file (memory_entry a.numbers.now j)) _ _ u.invariant.1 e q
+      filled_row {i = u.k} (take list_header a.out-1.now) (λ j. in_file (memory_entry a.numbers.now j)) _ _ u.invariant.1 e q
           (omega arith) room,
     )
 
-same_length : tie.Need-same-length invariant-loop decreases-loop
-same_length c = c.before.loop.invariant.1.same
+same_length : tie.Need-shape_of-out invariant-loop decreases-loop
+same_length c = c.before.loop-k.invariant.1.same
 
 returns : tie.Need-returns invariant-loop decreases-loop
 returns c =
-    let e : c.before.loop.k ≡ c.before.before.before.before.args.entries = omega (arith, c.before.loop.invariant.0) in
-    rw e at (filled_lent c.before.loop.invariant.1)
+    let e : c.before.loop-k.k ≡ c.before.before.before.before.args.entries = omega (arith, c.before.loop-k.invariant.0) in
+    rw e at (filled_lent c.before.loop-k.invariant.1)
 
-pub put-all-bytes-spec : {M : Type 1} → statement M
-put-all-bytes-spec =
+pub put_all_bytes_spec : {M : Type 1} → statement M
+put_all_bytes_spec =
     tie.close
     (tie.spec
     invariant-loop

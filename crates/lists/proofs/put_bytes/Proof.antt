@@ -18,37 +18,37 @@ four l k slot x y = simp towards_suc
 put16-requires : tie.Need-put16-requires
 put16-requires c κs = search rules
 
-cast-out : tie.Need-overflow-cast-out
+cast-out : tie.Need-overflow_cast-out
 cast-out c = search rules
 
-add-out : tie.Need-overflow-add-out
+add-out : tie.Need-overflow_add-out
 add-out c = search rules
 
-slice-write-out : tie.Need-slice-write-out
+slice-write-out : tie.Need-bounds-out-at
 slice-write-out c = search rules
 
-cast-out-2 : tie.Need-overflow-cast-out-2
+cast-out-2 : tie.Need-overflow_cast-out-2
 cast-out-2 c = search rules
 
-add-out-2 : tie.Need-overflow-add-out-2
+add-out-2 : tie.Need-overflow_add-out-2
 add-out-2 c = search rules
 
-slice-write-out-2 : tie.Need-slice-write-out-2
+slice-write-out-2 : tie.Need-bounds-out-at-2
 slice-write-out-2 c = simp length-set (omega arith)
 
-same_length : tie.Need-same-length
+same_length : tie.Need-shape_of-out
 same_length c = search rules
 
 returns : tie.Need-returns
 returns c =
     let p = c.before.before.before.before in
     let a = p.before.before.before.args in
-    let e : p.put16.new.1.1.0 ≡ sets a.out.now a.at (write16 a.entry.slot) = p.put16.ensures in
+    let e : p.put16.new.1.1.0 ≡ sets a.out-1.now a.at (write16 a.entry.slot) = p.put16.ensures in
     ap (λ (l : List ℕ). set (set l (a.at + 2) a.entry.row) (a.at + 3) a.entry.way) e
-    ∙ four a.out.now a.at a.entry.slot a.entry.row a.entry.way
+    ∙ four a.out-1.now a.at a.entry.slot a.entry.row a.entry.way
 
-pub put-bytes-spec : {M : Type 1} → statement M
-put-bytes-spec =
+pub put_bytes_spec : {M : Type 1} → statement M
+put_bytes_spec =
     tie.close
     (tie.spec
     put16-requires

@@ -9,44 +9,44 @@ use Rattle.live.proofs.Seated.{Upto, upto-start, upto_next, upto-end, upto-stop}
 use Rattle.live.proofs.are_same.Statement.{statement}
 use Rattle.live.proofs.are_same.Tie as tie
 
-abbrev invariant-loop : tie.invariant-loop
+abbrev invariant-loop : tie.invariant-loop-s
 invariant-loop a b s₀ s = Upto max_elements (λ j. at a j ≡ at b j) s
 
-abbrev decreases-loop : tie.decreases-loop
+abbrev decreases-loop : tie.decreases-loop-s
 decreases-loop a b s₀ s = max_elements - s
 
-loop-holds : tie.Need-loop-init invariant-loop decreases-loop
+loop-holds : tie.Need-loop-s-init invariant-loop decreases-loop
 loop-holds c = upto-start
 
-mul-if1 : tie.Need-overflow-mul-if1 invariant-loop decreases-loop
+mul-if1 : tie.Need-offset_bounds-a-s invariant-loop decreases-loop
 mul-if1 c = search rules
 
-element-copy-out-if1 : tie.Need-element-copy-out-if1 invariant-loop decreases-loop
+element-copy-out-if1 : tie.Need-bounds-a-s invariant-loop decreases-loop
 element-copy-out-if1 c = search rules
 
-mul-if1-2 : tie.Need-overflow-mul-if1-2 invariant-loop decreases-loop
+mul-if1-2 : tie.Need-offset_bounds-b-s invariant-loop decreases-loop
 mul-if1-2 c = search rules
 
-element-copy-out-if1-2 : tie.Need-element-copy-out-if1-2 invariant-loop decreases-loop
+element-copy-out-if1-2 : tie.Need-bounds-b-s invariant-loop decreases-loop
 element-copy-out-if1-2 c = search rules
 
-returns : tie.Need-returns invariant-loop decreases-loop
-returns c = upto-stop c.before.before.before.before.loop.s (omega arith) c.if1.true
+returns : tie.Need-returns-then-a-s invariant-loop decreases-loop
+returns c = upto-stop c.before.before.before.before.loop-s.s (omega arith) c.if-a-s.true
 
-add-s : tie.Need-overflow-add-s invariant-loop decreases-loop
+add-s : tie.Need-overflow_add-s invariant-loop decreases-loop
 add-s c = search rules
 
-loop-less : tie.Need-loop-smaller invariant-loop decreases-loop
+loop-less : tie.Need-loop-s-smaller invariant-loop decreases-loop
 loop-less c = search rules
 
-loop-again : tie.Need-loop-preserved invariant-loop decreases-loop
-loop-again c = upto_next c.before.before.before.before.loop.invariant (omega arith) c.if1.false
+loop-again : tie.Need-loop-s-preserved invariant-loop decreases-loop
+loop-again c = upto_next c.before.before.before.before.loop-s.invariant (omega arith) c.if-a-s.false
 
-returns-2 : tie.Need-returns-2 invariant-loop decreases-loop
-returns-2 c = upto-end c.before.loop.invariant (omega arith)
+returns-2 : tie.Need-returns invariant-loop decreases-loop
+returns-2 c = upto-end c.before.loop-s.invariant (omega arith)
 
-pub are-same-spec : {M : Type 1} → statement M
-are-same-spec =
+pub are_same_spec : {M : Type 1} → statement M
+are_same_spec =
     tie.close
     (tie.spec
     invariant-loop

@@ -12,45 +12,45 @@ use Rattle.rules.specs.Bounds.{max_rows}
 use Rattle.live.proofs.lowest_free.Statement.{statement}
 use Rattle.live.proofs.lowest_free.Tie as tie
 
-abbrev invariant-loop : tie.invariant-loop
+abbrev invariant-loop : tie.invariant-loop-i
 invariant-loop period i₀ i = Sought max_rows (λ j. not (ltb 0 (at period j))) i
 
-abbrev decreases-loop : tie.decreases-loop
+abbrev decreases-loop : tie.decreases-loop-i
 decreases-loop period i₀ i = max_rows - i
 
-loop-holds : tie.Need-loop-init invariant-loop decreases-loop
+loop-holds : tie.Need-loop-i-init invariant-loop decreases-loop
 loop-holds c = sought-start
 
-slots-at-requires : tie.Need-slots-at-requires invariant-loop decreases-loop
+slots-at-requires : tie.Need-slots_at-requires invariant-loop decreases-loop
 slots-at-requires c κs = search rules
 
-returns : tie.Need-returns invariant-loop decreases-loop
+returns : tie.Need-returns-then-slots_at-eq0 invariant-loop decreases-loop
 returns c =
     let d = c.before in
     let u = d.before.before in
-    let p = at u.before.args.period.now u.loop.i in
-    sought-found u.loop.invariant (omega arith)
-    (ap not (is_false (ltb 0 p) (λ t. omega (arith, ltb→lt 0 p t, d.slots_at.ensures, c.if1.true))))
+    let p = at u.before.args.period.now u.loop-i.i in
+    sought-found u.loop-i.invariant (omega arith)
+    (ap not (is_false (ltb 0 p) (λ t. omega (arith, ltb→lt 0 p t, d.slots_at.ensures, c.if-slots_at-eq0.true))))
 
-add-i : tie.Need-overflow-add-i invariant-loop decreases-loop
+add-i : tie.Need-overflow_add-i invariant-loop decreases-loop
 add-i c = search rules
 
-loop-less : tie.Need-loop-smaller invariant-loop decreases-loop
+loop-less : tie.Need-loop-i-smaller invariant-loop decreases-loop
 loop-less c = search rules
 
-loop-again : tie.Need-loop-preserved invariant-loop decreases-loop
+loop-again : tie.Need-loop-i-preserved invariant-loop decreases-loop
 loop-again c =
     let d = c.before in
     let u = d.before.before in
-    let p = at u.before.args.period.now u.loop.i in
-    sought-next u.loop.invariant (omega arith)
-    (ap not (is_true (ltb 0 p) (lt→ltb 0 p (omega (arith, d.slots_at.ensures, c.if1.false)))))
+    let p = at u.before.args.period.now u.loop-i.i in
+    sought-next u.loop-i.invariant (omega arith)
+    (ap not (is_true (ltb 0 p) (lt→ltb 0 p (omega (arith, d.slots_at.ensures, c.if-slots_at-eq0.false)))))
 
-returns-2 : tie.Need-returns-2 invariant-loop decreases-loop
-returns-2 c = sought-end c.before.loop.invariant (omega arith)
+returns-2 : tie.Need-returns invariant-loop decreases-loop
+returns-2 c = sought-end c.before.loop-i.invariant (omega arith)
 
-pub lowest-free-spec : {M : Type 1} → statement M
-lowest-free-spec =
+pub lowest_free_spec : {M : Type 1} → statement M
+lowest_free_spec =
     tie.close
     (tie.spec
     invariant-loop

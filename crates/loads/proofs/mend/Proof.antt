@@ -20,79 +20,79 @@ use Rattle.loads.proofs.Turning.{low-yes, others, mend-narrow, mend-shown, mend-
 use Rattle.loads.proofs.mend.Statement.{statement}
 use Rattle.loads.proofs.mend.Tie as tie
 
-abbrev invariant-loop : tie.invariant-loop
+abbrev invariant-loop : tie.invariant-loop-low
 invariant-loop tail head out into sums size s₀ low₀ s low =
     (low ≡ s.low)
     × ((f : ℕ → ℕ) → Asked size.rows size.sets size.hyper tail head out into sums f
     → State size.rows size.sets size.hyper tail head f s₀ → State size.rows size.sets size.hyper tail head f s)
 
-abbrev decreases-loop : tie.decreases-loop
+abbrev decreases-loop : tie.decreases-loop-low
 decreases-loop tail head out into sums size s₀ low₀ s low =
     sum size.sets (λ k. at sums k / size.hyper - ones (bit_and s.top (over (at out) (at into) (suc k))))
 
-abbrev entry : tie.After-pick invariant-loop decreases-loop → tie.Start invariant-loop decreases-loop
+abbrev entry : tie.After-pick-q invariant-loop decreases-loop → tie.Start invariant-loop decreases-loop
 entry p = p.before.before.before
 
 -- the state, for parts f
-module _ (p : tie.After-pick invariant-loop decreases-loop) (f : ℕ → ℕ)
+module _ (p : tie.After-pick-q invariant-loop decreases-loop) (f : ℕ → ℕ)
     (A : Asked (entry p).args.size.rows (entry p).args.size.sets (entry p).args.size.hyper (entry p).args.tail.now
     (entry p).args.head.now (entry p).args.out.now (entry p).args.into.now (entry p).args.sum.now f)
     (B : State (entry p).args.size.rows (entry p).args.size.sets (entry p).args.size.hyper (entry p).args.tail.now
     (entry p).args.head.now f (entry p).args.start) where
   abbrev now : State (entry p).args.size.rows (entry p).args.size.sets (entry p).args.size.hyper (entry p).args.tail.now
-      (entry p).args.head.now f p.before.before.loop.s
-  now = p.before.before.loop.invariant.1 f A B
+      (entry p).args.head.now f p.before.before.loop-low.s
+  now = p.before.before.loop-low.invariant.1 f A B
 
-  lacking : bit p.before.before.loop.s.low p.pick.result ≡ true
+  lacking : bit p.before.before.loop-low.s.low p.pick-q.result ≡ true
   lacking =
-      ap (λ (w : ℕ). bit w p.pick.result) (sym p.before.before.loop.inv.0)
-      ∙ (in_first _ _ p.pick.ensures.1 (λ q. absurd (false≢true (sym (bit_zero p.pick.result) ∙ q)))).0
+      ap (λ (w : ℕ). bit w p.pick-q.result) (sym p.before.before.loop-low.invariant.0)
+      ∙ (in_first _ _ p.pick-q.ensures.1 (λ q. absurd (false≢true (sym (bit_zero p.pick-q.result) ∙ q)))).0
 
-  set-in : p.pick.result < (entry p).args.size.sets
-  set-in = (low-yes now.compared p.pick.result lacking).0
+  set-in : p.pick-q.result < (entry p).args.size.sets
+  set-in = (low-yes now.compared p.pick-q.result lacking).0
 
-  small : p.pick.result < 63
+  small : p.pick-q.result < 63
   small = omega (arith, set-in, A.ends.spans.few_sets)
 
-loop-holds : tie.Need-loop-init invariant-loop decreases-loop
+loop-holds : tie.Need-loop-low-init invariant-loop decreases-loop
 loop-holds c = (refl, λ f A B. B)
 
-pick-requires : tie.Need-pick-requires invariant-loop decreases-loop
-pick-requires c κs = c.loop-test.true
+pick-requires : tie.Need-pick-q-requires invariant-loop decreases-loop
+pick-requires c κs = c.loop-low-test.true
 
 -- the pick, from where the arcs are made
-given : (p : tie.After-pick invariant-loop decreases-loop) → p.pick.result < 63
+given : (p : tie.After-pick-q invariant-loop decreases-loop) → p.pick-q.result < 63
 given p = let q = (entry p).requires in small p q.0 q.1 q.2
 
-add-t15 : tie.Need-overflow-add-t15 invariant-loop decreases-loop
+add-t15 : tie.Need-overflow_add-arcs invariant-loop decreases-loop
 add-t15 c = omega (arith, given c.before)
 
-shl-t17 : tie.Need-overflow-shl-t17 invariant-loop decreases-loop
+shl-t17 : tie.Need-overflow_shl-arcs invariant-loop decreases-loop
 shl-t17 c = omega (arith, given c.before)
 
-add-find-way : tie.Need-overflow-add-find-way invariant-loop decreases-loop
+add-find-way : tie.Need-overflow_add-q invariant-loop decreases-loop
 add-find-way c = omega (arith, given c.before.before)
 
 -- the arcs that are handed over
-narrow : (p : tie.After-pick invariant-loop decreases-loop) (f : ℕ → ℕ)
+narrow : (p : tie.After-pick-q invariant-loop decreases-loop) (f : ℕ → ℕ)
     (A : Asked (entry p).args.size.rows (entry p).args.size.sets (entry p).args.size.hyper (entry p).args.tail.now
     (entry p).args.head.now (entry p).args.out.now (entry p).args.into.now (entry p).args.sum.now f)
     (B : State (entry p).args.size.rows (entry p).args.size.sets (entry p).args.size.hyper (entry p).args.tail.now
     (entry p).args.head.now f (entry p).args.start)
     → Narrow (entry p).args.size.sets
     (record {
-      up = bit_xor p.before.before.loop.s.parted p.before.before.loop.s.top;
-      down = p.before.before.loop.s.top;
-      more = bit_xor p.before.before.loop.s.more (1 * 2 ^ (p.pick.result + 1) % 2 ^ 64);
-      less = p.before.before.loop.s.less;
+      up = bit_xor p.before.before.loop-low.s.parted p.before.before.loop-low.s.top;
+      down = p.before.before.loop-low.s.top;
+      more = bit_xor p.before.before.loop-low.s.more (1 * 2 ^ (p.pick-q.result + 1) % 2 ^ 64);
+      less = p.before.before.loop-low.s.less;
     })
 narrow p f A B =
     let M = now p f A B in
     mend-narrow _ _ _ _ _ (at (entry p).args.head.now) f (heads_are A.ends) A.ends.spans A.parts
-    p.before.before.loop.s.parted p.before.before.loop.s.top _ _ _ M.parted_is M.upper M.compared
-    p.pick.result (small p f A B) (lacking p f A B)
+    p.before.before.loop-low.s.parted p.before.before.loop-low.s.top _ _ _ M.parted_is M.upper M.compared
+    p.pick-q.result (small p f A B) (lacking p f A B)
 
-find-way-requires : tie.Need-find-way-requires invariant-loop decreases-loop
+find-way-requires : tie.Need-find_way-way-requires invariant-loop decreases-loop
 find-way-requires c κs =
     let p = c.before.before in
     let q = (entry p).requires in
@@ -105,13 +105,13 @@ find-way-requires c κs =
       omega (arith, l),
     )
 
-compare-requires : tie.Need-compare-requires invariant-loop decreases-loop
+compare-requires : tie.Need-compare-s-requires invariant-loop decreases-loop
 compare-requires c κs =
-    let q = (entry c.before.before.before.before.before).pre in
+    let q = (entry c.before.before.before.before.before).requires in
     (q.1.ends.spans.few_sets, q.1.parts.fits, sums-most q.1)
 
 -- the way, and what it leaves
-module _ (w : tie.After-find-way invariant-loop decreases-loop) (f : ℕ → ℕ)
+module _ (w : tie.After-find_way-way invariant-loop decreases-loop) (f : ℕ → ℕ)
     (A : Asked (entry w.before.before.before).args.size.rows (entry w.before.before.before).args.size.sets
     (entry w.before.before.before).args.size.hyper (entry w.before.before.before).args.tail.now
     (entry w.before.before.before).args.head.now (entry w.before.before.before).args.out.now
@@ -120,7 +120,7 @@ module _ (w : tie.After-find-way invariant-loop decreases-loop) (f : ℕ → ℕ
     (B : State (entry w.before.before.before).args.size.rows (entry w.before.before.before).args.size.sets
     (entry w.before.before.before).args.size.hyper (entry w.before.before.before).args.tail.now
     (entry w.before.before.before).args.head.now f (entry w.before.before.before).args.start) where
-  abbrev picked : tie.After-pick invariant-loop decreases-loop
+  abbrev picked : tie.After-pick-q invariant-loop decreases-loop
   picked = w.before.before.before
 
   -- the search, with the way that there must be
@@ -132,27 +132,27 @@ module _ (w : tie.After-find-way invariant-loop decreases-loop) (f : ℕ → ℕ
       (at (entry picked).args.tail.now)
       (last (entry picked).args.head.now) (at (entry picked).args.head.now) f (heads_are A.ends) A.ends.spans
       A.parts
-      picked.before.before.loop.s.parted picked.before.before.loop.s.top picked.before.before.loop.s.more
-      picked.before.before.loop.s.less picked.before.before.loop.s.low (now picked f A B).parted_is (now picked f A B).upper
-      (now picked f A B).compared picked.pick.result (small picked f A B) (lacking picked f A B))
+      picked.before.before.loop-low.s.parted picked.before.before.loop-low.s.top picked.before.before.loop-low.s.more
+      picked.before.before.loop-low.s.less picked.before.before.loop-low.s.low (now picked f A B).parted_is (now picked f A B).upper
+      (now picked f A B).compared picked.pick-q.result (small picked f A B) (lacking picked f A B))
       (carried (entry picked).args.size.rows (at (entry picked).args.tail.now) (last (entry picked).args.head.now)
-      (digit picked.before.before.loop.s.top)) picked.pick.result (picked.pick.result + 1) w.find-way.result.rows true
+      (digit picked.before.before.loop-low.s.top)) picked.pick-q.result (picked.pick-q.result + 1) w.find_way-way.result.rows true
   sought =
       let p = picked in
       let a = (entry p).args in
       let M = now p f A B in
       let S = A.ends.spans in
       let l = set-in p f A B in
-      let s = w.find-way.ensures a.size.rows a.size.sets _ _ _ A.ends.wired (narrow p f A B) (omega (arith, l))
+      let s = w.find_way-way.ensures a.size.rows a.size.sets _ _ _ A.ends.wired (narrow p f A B) (omega (arith, l))
       (omega (arith, l))
-      (mend-shown _ _ _ _ _ (at a.head.now) f (heads_are A.ends) S A.parts p.before.before.loop.s.parted
-      p.before.before.loop.s.top _ _ _ M.parted_is M.upper M.compared p.pick.result (small p f A B) (lacking p f A B))
-      (carried-circ _ _ _ _ _ f S A.parts (digit p.before.before.loop.s.top)) in
-      mend-found _ _ _ _ _ (at a.head.now) f (heads_are A.ends) S A.parts p.before.before.loop.s.parted
-      p.before.before.loop.s.top _ _ _ M.parted_is M.upper M.compared p.pick.result (small p f A B) (lacking p f A B)
-      w.find-way.result.rows w.find-way.result.found s
+      (mend-shown _ _ _ _ _ (at a.head.now) f (heads_are A.ends) S A.parts p.before.before.loop-low.s.parted
+      p.before.before.loop-low.s.top _ _ _ M.parted_is M.upper M.compared p.pick-q.result (small p f A B) (lacking p f A B))
+      (carried-circ _ _ _ _ _ f S A.parts (digit p.before.before.loop-low.s.top)) in
+      mend-found _ _ _ _ _ (at a.head.now) f (heads_are A.ends) S A.parts p.before.before.loop-low.s.parted
+      p.before.before.loop-low.s.top _ _ _ M.parted_is M.upper M.compared p.pick-q.result (small p f A B) (lacking p f A B)
+      w.find_way-way.result.rows w.find_way-way.result.found s
 
-loop-less : tie.Need-loop-smaller invariant-loop decreases-loop
+loop-less : tie.Need-loop-low-smaller invariant-loop decreases-loop
 loop-less c =
     let w = c.before.before.before in
     let p = w.before.before.before in
@@ -160,19 +160,19 @@ loop-less c =
     let a = (entry p).args in
     let M = now p q.0 q.1 q.2 in
     let t = mend-less _ _ _ _ _ (at a.head.now) q.0 (heads_are q.1.ends) q.1.ends.spans q.1.parts
-    p.before.before.loop.s.parted p.before.before.loop.s.top _ _ _ M.parted_is M.upper M.compared p.pick.result
-    (small p q.0 q.1 q.2) (lacking p q.0 q.1 q.2) w.find-way.result.rows (sought w q.0 q.1 q.2) in
-    let top' : ℕ = bit_xor p.before.before.loop.s.top w.find-way.result.rows in
+    p.before.before.loop-low.s.parted p.before.before.loop-low.s.top _ _ _ M.parted_is M.upper M.compared p.pick-q.result
+    (small p q.0 q.1 q.2) (lacking p q.0 q.1 q.2) w.find_way-way.result.rows (sought w q.0 q.1 q.2) in
+    let top' : ℕ = bit_xor p.before.before.loop-low.s.top w.find_way-way.result.rows in
     omega (
       arith,
       t,
-      need-is q.1 p.before.before.loop.s.top,
+      need-is q.1 p.before.before.loop-low.s.top,
       need-is q.1 top',
       ap (λ (z : ℕ). sum a.size.sets (λ k. at a.sum.now k / a.size.hyper
-          - ones (bit_and z (over (at a.out.now) (at a.into.now) (suc k))))) c.compare.ensures.1,
+          - ones (bit_and z (over (at a.out.now) (at a.into.now) (suc k))))) c.compare-s.ensures.1,
     )
 
-loop-again : tie.Need-loop-preserved invariant-loop decreases-loop
+loop-again : tie.Need-loop-low-preserved invariant-loop decreases-loop
 loop-again c =
     let w = c.before.before.before in
     let p = w.before.before.before in
@@ -180,22 +180,22 @@ loop-again c =
       refl,
       λ f A B.
           let M = now p f A B in
-          state-of A c.compare.result p.before.before.loop.s.parted
-          (bit_xor p.before.before.loop.s.top w.find-way.result.rows) M.parted_is
+          state-of A c.compare-s.result p.before.before.loop-low.s.parted
+          (bit_xor p.before.before.loop-low.s.top w.find_way-way.result.rows) M.parted_is
           (mend-upper _ _ _ _ _ (at a.head.now) f (heads_are A.ends) A.ends.spans A.parts
-          p.before.before.loop.s.parted p.before.before.loop.s.top _ _ _ M.parted_is M.upper M.compared
-          p.pick.result
-          (small p f A B) (lacking p f A B) w.find-way.result.rows (sought w f A B))
-          c.compare.ensures.0 c.compare.ensures.1 c.compare.ensures.2,
+          p.before.before.loop-low.s.parted p.before.before.loop-low.s.top _ _ _ M.parted_is M.upper M.compared
+          p.pick-q.result
+          (small p f A B) (lacking p f A B) w.find_way-way.result.rows (sought w f A B))
+          c.compare-s.ensures.0 c.compare-s.ensures.1 c.compare-s.ensures.2,
     )
 
 returns : tie.Need-returns invariant-loop decreases-loop
 returns c f A B =
-    let u = c.before.loop in
+    let u = c.before.loop-low in
     mended-of A u.s (u.invariant.1 f A B) (sym u.invariant.0 ∙ omega arith)
 
-pub mend-spec : {M : Type 1} → statement M
-mend-spec =
+pub mend_spec : {M : Type 1} → statement M
+mend_spec =
     tie.close
     (tie.spec
     invariant-loop

@@ -18,7 +18,7 @@ use Rattle.loads.proofs.States.{sums-most, after_next, after_step, raised-next, 
 use Rattle.loads.proofs.raise_rows.Statement.{statement}
 use Rattle.loads.proofs.raise_rows.Tie as tie
 
-abbrev invariant-loop : tie.invariant-loop
+abbrev invariant-loop : tie.invariant-loop-i
 invariant-loop tail head out into sums size s₀ later₀ i₀ s later i =
     (i ≤ size.rows) × ((j : ℕ) → j < size.rows → bit later j ≡ (leb i j && bit s.parted j))
     × ((f : ℕ → ℕ) → Asked size.rows size.sets size.hyper tail head out into sums f
@@ -27,19 +27,19 @@ invariant-loop tail head out into sums size s₀ later₀ i₀ s later i =
     × Settled i (line size.rows size.sets (at tail) (last head) size.hyper f)
     (carried size.rows (at tail) (last head) (digit s.top)))
 
-abbrev decreases-loop : tie.decreases-loop
+abbrev decreases-loop : tie.decreases-loop-i
 decreases-loop tail head out into sums size s₀ later₀ i₀ s later i = size.rows - i
 
-abbrev entry : tie.Then1 invariant-loop decreases-loop → tie.Start invariant-loop decreases-loop
+abbrev entry : tie.In-loop-i invariant-loop decreases-loop → tie.Start invariant-loop decreases-loop
 entry t = t.before.before.before
 
-abbrev state : tie.Then1 invariant-loop decreases-loop → tie.At-loop invariant-loop decreases-loop
+abbrev state : tie.In-loop-i invariant-loop decreases-loop → tie.At-loop-i invariant-loop decreases-loop
 state t = t.before.before
 
-low-row : (t : tie.Then1 invariant-loop decreases-loop) → (state t).loop.i < 64
-low-row t = omega (arith, t.if1.true, (entry t).requires.1.ends.spans.few_rows)
+low-row : (t : tie.In-loop-i invariant-loop decreases-loop) → (state t).loop-i.i < 64
+low-row t = omega (arith, t.loop-i-test.true, (entry t).requires.1.ends.spans.few_rows)
 
-loop-holds : tie.Need-loop-init invariant-loop decreases-loop
+loop-holds : tie.Need-loop-i-init invariant-loop decreases-loop
 loop-holds c = (
   omega arith,
   λ j l. sym (ap (λ (b : Bool). b && bit c.args.start.parted j) (le-leb 0 j (omega arith))),
@@ -50,11 +50,11 @@ loop-holds c = (
   ),
 )
 
-without-requires : tie.Need-without-requires invariant-loop decreases-loop
+without-requires : tie.Need-without-later-requires invariant-loop decreases-loop
 without-requires c κs = low-row c
 
 -- the row's turn
-turn : (w : tie.After-without invariant-loop decreases-loop) (f : ℕ → ℕ)
+turn : (w : tie.After-without-later invariant-loop decreases-loop) (f : ℕ → ℕ)
     → Asked (entry w.before).args.size.rows (entry w.before).args.size.sets (entry w.before).args.size.hyper
     (entry w.before).args.tail.now (entry w.before).args.head.now (entry w.before).args.out.now
     (entry w.before).args.into.now (entry w.before).args.sum.now f
@@ -62,75 +62,75 @@ turn : (w : tie.After-without invariant-loop decreases-loop) (f : ℕ → ℕ)
     (entry w.before).args.tail.now (entry w.before).args.head.now f (entry w.before).args.start
     → Turn (entry w.before).args.size.rows (entry w.before).args.size.sets (entry w.before).args.size.hyper
     (entry w.before).args.tail.now (entry w.before).args.head.now (entry w.before).args.out.now
-    (entry w.before).args.into.now f (state w.before).loop.s w.without.result (state w.before).loop.i
+    (entry w.before).args.into.now f (state w.before).loop-i.s w.without-later.result (state w.before).loop-i.i
 turn w f A M =
-    let u = (state w.before).loop in
-    let r = u.inv.2 f A M in record {
+    let u = (state w.before).loop-i in
+    let r = u.invariant.2 f A M in record {
       ends = A.ends;
       parts = A.parts;
       mended = record { state = r.0; within = r.1.within };
-      row = w.before.if1.true;
-      after = after_next _ u.i u.later w.without.result (bit u.s.parted) u.inv.1 w.without.ensures;
+      row = w.before.loop-i-test.true;
+      after = after_next _ u.i u.later w.without-later.result (bit u.s.parted) u.invariant.1 w.without-later.ensures;
     }
 
-seek-requires : tie.Need-seek-requires invariant-loop decreases-loop
+seek-requires : tie.Need-seek-way-requires invariant-loop decreases-loop
 seek-requires c κs =
-    let q = (entry c.before).pre in
+    let q = (entry c.before).requires in
     let n = (entry c.before).args.size in
     (n.rows, n.sets, n.hyper, q.0, turn c q.0 q.1 q.2)
 
-compare-requires : tie.Need-compare-requires invariant-loop decreases-loop
+compare-requires : tie.Need-compare-s-requires invariant-loop decreases-loop
 compare-requires c κs =
-    let q = (entry c.before.before.before.before).pre in
+    let q = (entry c.before.before.before.before).requires in
     (q.1.ends.spans.few_sets, q.1.parts.fits, sums-most q.1)
 
 -- the rows that are left
-rest : (w : tie.After-without invariant-loop decreases-loop) (j : ℕ) → j < (entry w.before).args.size.rows
-    → bit w.without.result j ≡ (leb ((state w.before).loop.i + 1) j && bit (state w.before).loop.s.parted j)
+rest : (w : tie.After-without-later invariant-loop decreases-loop) (j : ℕ) → j < (entry w.before).args.size.rows
+    → bit w.without-later.result j ≡ (leb ((state w.before).loop-i.i + 1) j && bit (state w.before).loop-i.s.parted j)
 rest w =
-    let u = (state w.before).loop in
-    after_step _ u.i w.without.result (bit u.s.parted)
-    (after_next _ u.i u.later w.without.result (bit u.s.parted) u.inv.1 w.without.ensures)
+    let u = (state w.before).loop-i in
+    after_step _ u.i w.without-later.result (bit u.s.parted)
+    (after_next _ u.i u.later w.without-later.result (bit u.s.parted) u.invariant.1 w.without-later.ensures)
 
-add-i : tie.Need-overflow-add-i invariant-loop decreases-loop
+add-i : tie.Need-overflow_add-i invariant-loop decreases-loop
 add-i c = omega (arith, low-row c.before.before.before)
 
-loop-less : tie.Need-loop-smaller invariant-loop decreases-loop
-loop-less c = omega (arith, c.before.before.before.if1.true)
+loop-less : tie.Need-loop-i-smaller invariant-loop decreases-loop
+loop-less c = omega (arith, c.before.before.before.loop-i-test.true)
 
-loop-again : tie.Need-loop-preserved invariant-loop decreases-loop
+loop-again : tie.Need-loop-i-preserved invariant-loop decreases-loop
 loop-again c =
     let k = c.before in
     let w = k.before in
     let t = w.before in
-    let u = (state t).loop in
+    let u = (state t).loop-i in
     ⊎_elim
     (λ z. rw z.3 (
-      omega (arith, t.if1.true),
+      omega (arith, t.loop-i-test.true),
       λ j l. rest w j l ∙ ap (λ (b : ℕ). leb (u.i + 1) j && bit b j) (sym z.2.ensures.0),
       λ f A M.
-          let r = u.inv.2 f A M in
-          raised-next A u.s k.seek.result u.i r.0 r.1 (k.seek.ensures _ _ _ f (turn w f A M)) z.2.result
+          let r = u.invariant.2 f A M in
+          raised-next A u.s k.seek-way.result u.i r.0 r.1 (k.seek-way.ensures _ _ _ f (turn w f A M)) z.2.result
           z.2.ensures.0 z.2.ensures.1 z.2.ensures.2,
     ))
     (λ z. rw z.1 (
-      omega (arith, t.if1.true),
+      omega (arith, t.loop-i-test.true),
       rest w,
       λ f A M.
-          let r = u.inv.2 f A M in
-          raised-same A u.s k.seek.result u.i r.0 r.1 (k.seek.ensures _ _ _ f (turn w f A M)) (omega (arith, z.0.left)),
+          let r = u.invariant.2 f A M in
+          raised-same A u.s k.seek-way.result u.i r.0 r.1 (k.seek-way.ensures _ _ _ f (turn w f A M)) (omega (arith, z.0.left)),
     ))
-    c.if2.branch
+    c.if-way-ne0.branch
 
 returns : tie.Need-returns invariant-loop decreases-loop
 returns c f A M =
-    let u = c.before.before.loop in
+    let u = c.before.before.loop-i in
     let r = u.invariant.2 f A M in
-    let e : u.i ≡ c.before.before.before.args.size.rows = omega (arith, c.if1.false, u.invariant.0) in
+    let e : u.i ≡ c.before.before.before.args.size.rows = omega (arith, c.loop-i-test.false, u.invariant.0) in
     settled-greatest _ _ _ _ _ f A.ends.spans A.parts (digit u.s.top) (rw e at r.1)
 
-pub raise-rows-spec : {M : Type 1} → statement M
-raise-rows-spec =
+pub raise_rows_spec : {M : Type 1} → statement M
+raise_rows_spec =
     tie.close
     (tie.spec
     invariant-loop

@@ -5,22 +5,22 @@ use Rattle.outline.proofs.Cuts.{there, not_there, board-idle, board-busy}
 use Rattle.outline.proofs.board_cut.Statement.{statement}
 use Rattle.outline.proofs.board_cut.Tie as tie
 
-returns : tie.Need-returns
-returns c = let z = c.before.args in rw (not_there {d = z.d} {r = z.rings} c.if1.true)
+returns : tie.Need-returns-then-d-rings
+returns c = let z = c.before.args in rw (not_there {d = z.d} {r = z.rings} c.if-d-rings.true)
 
-is-idle-requires : tie.Need-is-idle-requires
+is-idle-requires : tie.Need-is_idle-requires
 is-idle-requires c κs = search rules
 
-returns-2 : tie.Need-returns-2
-returns-2 c = board-idle _ _ (there c.before.before.if1.false) (sym c.before.is-idle.ensures ∙ c.if2.true)
+returns-2 : tie.Need-returns-then-is_idle
+returns-2 c = board-idle _ _ (there c.before.before.if-d-rings.false) (sym c.before.is_idle.ensures ∙ c.if-is_idle.true)
 
 mirrored-requires : tie.Need-mirrored-requires
 mirrored-requires c κs = search rules
 
-returns-3 : tie.Need-returns-3
+returns-3 : tie.Need-returns
 returns-3 c =
     let e = c.before in
-    c.mirrored.ensures.0 ∙ board-busy _ _ (there e.before.before.if1.false) (sym e.before.is-idle.ensures ∙ e.if2.false)
+    c.mirrored.ensures.0 ∙ board-busy _ _ (there e.before.before.if-d-rings.false) (sym e.before.is_idle.ensures ∙ e.if-is_idle.false)
 
-pub board-cut-spec : {M : Type 1} → statement M
-board-cut-spec = tie.close (tie.spec returns is-idle-requires returns-2 mirrored-requires returns-3)
+pub board_cut_spec : {M : Type 1} → statement M
+board_cut_spec = tie.close (tie.spec returns is-idle-requires returns-2 mirrored-requires returns-3)

@@ -11,41 +11,41 @@ use Rattle.outline.proofs.Cuts.{some-row, no_row}
 use Rattle.outline.proofs.is_idle.Statement.{statement}
 use Rattle.outline.proofs.is_idle.Tie as tie
 
-abbrev invariant-loop : tie.invariant-loop
+abbrev invariant-loop : tie.invariant-loop-i
 invariant-loop rows way d i₀ i = Sought rows (λ j. eqb (at way j) d) i
 
-abbrev decreases-loop : tie.decreases-loop
+abbrev decreases-loop : tie.decreases-loop-i
 decreases-loop rows way d i₀ i = rows - i
 
-loop-holds : tie.Need-loop-init invariant-loop decreases-loop
+loop-holds : tie.Need-loop-i-init invariant-loop decreases-loop
 loop-holds c = sought-start
 
-end-at-requires : tie.Need-end-at-requires invariant-loop decreases-loop
+end-at-requires : tie.Need-end_at-requires invariant-loop decreases-loop
 end-at-requires c κs = omega arith
 
-returns : tie.Need-returns invariant-loop decreases-loop
+returns : tie.Need-returns-then-end_at-d invariant-loop decreases-loop
 returns c =
     let u = c.before.before.before in
     let z = u.before.args in
-    some-row z.rows (λ j. eqb (at z.way.now j) z.d) u.loop.i (omega arith)
-    (eqb_of _ _ (sym c.before.end-at.ensures ∙ c.if1.true))
+    some-row z.rows (λ j. eqb (at z.way.now j) z.d) u.loop-i.i (omega arith)
+    (eqb_of _ _ (sym c.before.end_at.ensures ∙ c.if-end_at-d.true))
 
-add-i : tie.Need-overflow-add-i invariant-loop decreases-loop
+add-i : tie.Need-overflow_add-i invariant-loop decreases-loop
 add-i c = omega arith
 
-loop-less : tie.Need-loop-smaller invariant-loop decreases-loop
+loop-less : tie.Need-loop-i-smaller invariant-loop decreases-loop
 loop-less c = omega arith
 
-loop-again : tie.Need-loop-preserved invariant-loop decreases-loop
+loop-again : tie.Need-loop-i-preserved invariant-loop decreases-loop
 loop-again c =
     let u = c.before.before.before in
-    sought-next u.loop.invariant (omega arith) (ne_eqb _ _ (λ e. c.if1.false (c.before.end-at.ensures ∙ e)))
+    sought-next u.loop-i.invariant (omega arith) (ne_eqb _ _ (λ e. c.if-end_at-d.false (c.before.end_at.ensures ∙ e)))
 
-returns-2 : tie.Need-returns-2 invariant-loop decreases-loop
-returns-2 c = no_row _ _ c.before.loop.invariant (omega arith)
+returns-2 : tie.Need-returns invariant-loop decreases-loop
+returns-2 c = no_row _ _ c.before.loop-i.invariant (omega arith)
 
-pub is-idle-spec : {M : Type 1} → statement M
-is-idle-spec =
+pub is_idle_spec : {M : Type 1} → statement M
+is_idle_spec =
     tie.close
     (tie.spec
     invariant-loop

@@ -6,13 +6,13 @@ use Rattle.outline.proofs.Listed.{traced, list_asked}
 use Rattle.outline.proofs.list_of_sets.Statement.{statement}
 use Rattle.outline.proofs.list_of_sets.Tie as tie
 
-outline-file-requires : tie.Need-outline-file-requires
+outline-file-requires : tie.Need-outline_file-requires
 outline-file-requires c κs = search rules
 
-list-on-requires : tie.Need-list-on-requires
-list-on-requires c κs = traced (line_ask _) c.before.outline-file.ensures
+list-on-requires : tie.Need-list_on-requires
+list-on-requires c κs = traced (line_ask _) c.before.outline_file.ensures
 
-same_length : tie.Need-same-length
+same_length : tie.Need-shape_of-out
 same_length c = search rules
 
 returns : tie.Need-returns
@@ -20,8 +20,8 @@ returns c =
     let L = c.before.before in
     let O = L.before.before in
     let a = O.before.before.before.args in
-    list_asked (line_ask a.file.now) (outline-numbered a.file.now) O.outline-file.ensures L.list_on.result a.out.now _
+    list_asked (line_ask a.file.now) (outline-numbered a.file.now) O.outline_file.ensures L.list_on.result a.out-1.now _
     L.list_on.ensures
 
-pub list-of-sets-spec : {M : Type 1} → statement M
-list-of-sets-spec = tie.close (tie.spec outline-file-requires list-on-requires same_length returns)
+pub list_of_sets_spec : {M : Type 1} → statement M
+list_of_sets_spec = tie.close (tie.spec outline-file-requires list-on-requires same_length returns)

@@ -9,50 +9,50 @@ use Rattle.outline.proofs.Listed.{on-refused, on-short, on-done}
 use Rattle.outline.proofs.list_on.Statement.{statement}
 use Rattle.outline.proofs.list_on.Tie as tie
 
-abbrev entry : tie.Else1 → tie.Start
+abbrev entry : tie.Else-answer-ne-DONE → tie.Start
 entry c = c.before.before.before.before
 
-found : (c : tie.Else1) → (t : Table) × Found t (entry c).args.o
-found c = (entry c).requires c.if1.false
+found : (c : tie.Else-answer-ne-DONE) → (t : Table) × Found t (entry c).args.o
+found c = (entry c).requires c.if-answer-ne-DONE.false
 
-returns : tie.Need-returns
-returns c = let a = c.before.before.before.before.args in on-refused a.out.now c.if1.true
+returns : tie.Need-returns-then-answer-ne-DONE
+returns c = let a = c.before.before.before.before.args in on-refused a.out-1.now c.if-answer-ne-DONE.true
 
 at-requires : tie.Need-at-requires
 at-requires c κs = search rules
 
-returns-2 : tie.Need-returns-2
+returns-2 : tie.Need-returns-then-out-sets
 returns-2 c =
     let e = c.before.before in
-    on-short (entry e).args.out.now e.if1.false _ c.at.ensures refl c.before.if2.true
+    on-short (entry e).args.out-1.now e.if-answer-ne-DONE.false _ c.at.ensures refl c.before.if-out-sets.true
 
-array-share-prefix-words : tie.Need-array-share-prefix-words
+array-share-prefix-words : tie.Need-slice_bounds-words-end
 array-share-prefix-words c = let F = (found c.before.before).1 in omega (arith, found_few F, F.size)
 
-slice-aggregate-write-front : tie.Need-slice-aggregate-write-front
+slice-aggregate-write-front : tie.Need-slice_bounds-write_front-end
 slice-aggregate-write-front c = sym (found_count (found c.before.before.before).1)
 
-write-front-requires : tie.Need-write-front-requires
-write-front-requires c κs = omega (arith, found_count (found c.before.before.before.before).1, c.before.before.before.if2.false)
+write-front-requires : tie.Need-write_front-requires
+write-front-requires c κs = omega (arith, found_count (found c.before.before.before.before).1, c.before.before.before.if-out-sets.false)
 
 done-requires : tie.Need-done-requires
 done-requires c κs = search rules
 
-cast-t15 : tie.Need-overflow-cast-t15
+cast-t15 : tie.Need-overflow_cast-result
 cast-t15 c = omega (arith, found_few (found c.before.before.before.before.before.before.before.before).1)
 
-same_length : tie.Need-same-length
+same_length : tie.Need-shape_of-out
 same_length c = search rules
 
-returns-3 : tie.Need-returns-3
+returns-3 : tie.Need-returns
 returns-3 c =
     let w = c.before.before.before in
     let e = w.before.before.before.before in
-    on-done (entry e.before).args.out.now e.before.if1.false _ w.write-front.new.1.0 c.done.ensures refl
-    e.if2.false w.write-front.ensures
+    on-done (entry e.before).args.out-1.now e.before.if-answer-ne-DONE.false _ w.write_front.new.1.0 c.done.ensures refl
+    e.if-out-sets.false w.write_front.ensures
 
-pub list-on-spec : {M : Type 1} → statement M
-list-on-spec =
+pub list_on_spec : {M : Type 1} → statement M
+list_on_spec =
     tie.close
     (tie.spec
     returns

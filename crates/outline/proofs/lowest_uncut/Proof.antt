@@ -3,18 +3,18 @@ use Rattle.outline.proofs.Cuts.{uncut-first, uncut-other, uncut-none}
 use Rattle.outline.proofs.lowest_uncut.Statement.{statement}
 use Rattle.outline.proofs.lowest_uncut.Tie as tie
 
-returns : tie.Need-returns
-returns c = let z = c.before.args in uncut-first z.elements z.cut z.other c.if1.true
+returns : tie.Need-returns-then-cut-elements
+returns c = let z = c.before.args in uncut-first z.elements z.cut z.other c.if-cut-elements.true
 
-returns-2 : tie.Need-returns-2
+returns-2 : tie.Need-returns-then-other-elements
 returns-2 c =
     let z = c.before.before.args in
-    uncut-other z.elements z.cut z.other c.before.if1.false c.if2.true
+    uncut-other z.elements z.cut z.other c.before.if-cut-elements.false c.if-other-elements.true
 
-returns-3 : tie.Need-returns-3
+returns-3 : tie.Need-returns
 returns-3 c =
     let z = c.before.before.args in
-    uncut-none z.elements z.cut z.other c.before.if1.false c.if2.false
+    uncut-none z.elements z.cut z.other c.before.if-cut-elements.false c.if-other-elements.false
 
-pub lowest-uncut-spec : {M : Type 1} → statement M
-lowest-uncut-spec = tie.close (tie.spec returns returns-2 returns-3)
+pub lowest_uncut_spec : {M : Type 1} → statement M
+lowest_uncut_spec = tie.close (tie.spec returns returns-2 returns-3)

@@ -13,40 +13,40 @@ use Rattle.outline.proofs.Outlined.{answers_zero, outlined-given, outlined-past}
 use Rattle.outline.proofs.outline_file.Statement.{statement}
 use Rattle.outline.proofs.outline_file.Tie as tie
 
-abbrev taken : tie.Else1 → tie.After-given
+abbrev taken : tie.Else-answer-ne-DONE → tie.After-given-found
 taken c = c.before.before.before
 
-abbrev bytes : tie.Else1 → List ℕ
+abbrev bytes : tie.Else-answer-ne-DONE → List ℕ
 bytes c = (taken c).before.before.args.file.now
 
-checked : (c : tie.Else1) → Answers (given_checks (bytes c)) 0 (taken c).given.result.answer.place
-checked c = answers_zero (given_checks (bytes c)) (taken c).given.result.answer c.if1.false (taken c).given.ensures.answers
+checked : (c : tie.Else-answer-ne-DONE) → Answers (given_checks (bytes c)) 0 (taken c).given-found.result.answer-1.place
+checked c = answers_zero (given_checks (bytes c)) (taken c).given-found.result.answer c.if-answer-ne-DONE.false (taken c).given-found.ensures.answers
 
-held : (c : tie.Else1) → table_of (taken c).given.result.columns ≡ file_table (bytes c)
-held c = ((taken c).given.ensures.passed c.if1.false).table
+held : (c : tie.Else-answer-ne-DONE) → table_of (taken c).given-found.result.columns ≡ file_table (bytes c)
+held c = ((taken c).given-found.ensures.passed c.if-answer-ne-DONE.false).table
 
-sound : (c : tie.Else1) → Sound (table_of (taken c).given.result.columns)
+sound : (c : tie.Else-answer-ne-DONE) → Sound (table_of (taken c).given-found.result.columns)
 sound c = rw (held c) (given-of (bytes c) _ (checked c)).sound
 
-given-requires : tie.Need-given-requires
+given-requires : tie.Need-given-found-requires
 given-requires c κs = search rules
 
 refused-requires : tie.Need-refused-requires
 refused-requires c κs = search rules
 
-returns : tie.Need-returns
+returns : tie.Need-returns-then-answer-ne-DONE
 returns c =
     let a = c.before.before.before.before.given in
-    rw c.refused.ensures (outlined-given _ a.result.answer c.before.if1.true a.ensures.answers)
+    rw c.refused.ensures (outlined-given _ a.result.answer c.before.if-answer-ne-DONE.true a.ensures.answers)
 
-outline-of-requires : tie.Need-outline-of-requires
-outline-of-requires c κs = let e = c.before.before.before.before.before in (at (taken e).given.result.columns.cost, sound e)
+outline-of-requires : tie.Need-outline_of-requires
+outline-of-requires c κs = let e = c.before.before.before.before.before in (at (taken e).given-found.result.columns.cost, sound e)
 
-returns-2 : tie.Need-returns-2
+returns-2 : tie.Need-returns
 returns-2 c =
     let e = c.before.before.before.before.before.before in
     outlined-past (bytes e) _ (checked e)
-    (rw (held e) at (c.outline-of.ensures (at (taken e).given.result.columns.cost) (sound e)))
+    (rw (held e) at (c.outline_of.ensures (at (taken e).given-found.result.columns.cost) (sound e)))
 
-pub outline-file-spec : {M : Type 1} → statement M
-outline-file-spec = tie.close (tie.spec given-requires refused-requires returns outline-of-requires returns-2)
+pub outline_file_spec : {M : Type 1} → statement M
+outline_file_spec = tie.close (tie.spec given-requires refused-requires returns outline-of-requires returns-2)

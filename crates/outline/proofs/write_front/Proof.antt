@@ -10,53 +10,53 @@ use Rattle.rules.specs.Calls.{lent}
 use Rattle.outline.proofs.write_front.Statement.{statement}
 use Rattle.outline.proofs.write_front.Tie as tie
 
-abbrev invariant-loop : tie.invariant-loop
+abbrev invariant-loop : tie.invariant-loop-k
 invariant-loop words out₀ k₀ k-end out k = (k ≤ length words) × Filled out₀ out k (take k words)
 
-abbrev decreases-loop : tie.decreases-loop
+abbrev decreases-loop : tie.decreases-loop-k
 decreases-loop words out₀ k₀ k-end out k = length words - k
 
-loop-holds : tie.Need-loop-init invariant-loop decreases-loop
+loop-holds : tie.Need-loop-k-init invariant-loop decreases-loop
 loop-holds c = (omega arith, filled_start c.args.out.now)
 
-mul-out : tie.Need-overflow-mul-out invariant-loop decreases-loop
+mul-out : tie.Need-offset_bounds-words-k invariant-loop decreases-loop
 mul-out c = omega arith
 
-shared-slice-read-out : tie.Need-shared-slice-read-out invariant-loop decreases-loop
+shared-slice-read-out : tie.Need-bounds-words-k invariant-loop decreases-loop
 shared-slice-read-out c = omega arith
 
-mul-out-2 : tie.Need-overflow-mul-out-2 invariant-loop decreases-loop
+mul-out-2 : tie.Need-offset_bounds-out-k invariant-loop decreases-loop
 mul-out-2 c = omega arith
 
-slice-write-out : tie.Need-slice-write-out invariant-loop decreases-loop
+slice-write-out : tie.Need-bounds-out-k invariant-loop decreases-loop
 slice-write-out c = omega arith
 
-add-k : tie.Need-overflow-add-k invariant-loop decreases-loop
+add-k : tie.Need-overflow_step-k invariant-loop decreases-loop
 add-k c = omega arith
 
-loop-less : tie.Need-loop-smaller invariant-loop decreases-loop
+loop-less : tie.Need-loop-k-smaller invariant-loop decreases-loop
 loop-less c = omega arith
 
-loop-again : tie.Need-loop-preserved invariant-loop decreases-loop
+loop-again : tie.Need-loop-k-preserved invariant-loop decreases-loop
 loop-again c =
-    let u = c.before.before.loop in
+    let u = c.before.before.loop-k in
     let z = c.before.before.before.args in
     (omega arith, rw (take_next z.words.now u.k (omega arith)) (filled_put (at z.words.now u.k) u.invariant.1 (omega arith)))
 
-same_length : tie.Need-same-length invariant-loop decreases-loop
-same_length c = c.before.loop.invariant.1.same
+same_length : tie.Need-shape_of-out invariant-loop decreases-loop
+same_length c = c.before.loop-k.invariant.1.same
 
 returns : tie.Need-returns invariant-loop decreases-loop
 unfolding lent
 returns c =
     let z = c.before.before.args in
-    let u = c.before.loop in
+    let u = c.before.loop-k in
     let e : take u.k z.words.now ≡ z.words.now = take_all u.k z.words.now (omega arith) in
     let q : length z.words.now ≡ u.k = omega arith in
     rw q (rw e at u.invariant.1.holds)
 
-pub write-front-spec : {M : Type 1} → statement M
-write-front-spec =
+pub write_front_spec : {M : Type 1} → statement M
+write_front_spec =
     tie.close
     (tie.spec
     invariant-loop

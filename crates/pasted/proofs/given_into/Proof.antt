@@ -11,74 +11,74 @@ use Rattle.pasted.proofs.AsGiven.{given-stopped, given-ends, given-pasted, given
 use Rattle.pasted.proofs.given_into.Statement.{statement}
 use Rattle.pasted.proofs.given_into.Tie as tie
 
-abbrev columns : tie.After-decode-into → Columns
+abbrev columns : tie.After-decode_into-head → Columns
 columns d =
-    let xs = d.decode-into.new in
-    columns_by d.decode-into.result xs.1.0 xs.1.1.0 xs.1.1.1.0 xs.1.1.1.1.0 xs.1.1.1.1.1.0
+    let xs = d.decode_into-head.new in
+    columns_by d.decode_into-head.result xs.1.0 xs.1.1.0 xs.1.1.1.0 xs.1.1.1.1.0 xs.1.1.1.1.1.0
 
-abbrev bytes : tie.After-decode-into → List ℕ
+abbrev bytes : tie.After-decode_into-head → List ℕ
 bytes d = d.before.before.before.before.before.before.before.args.file.now
 
-abbrev decoded : tie.Else1 → tie.After-decode-into
+abbrev decoded : tie.Else-answer-ne-DONE → tie.After-decode_into-head
 decoded e = e.before.before.before
 
 -- the way back from 18 to the other checks
-abbrev passed : tie.After-lowest-pasted → tie.Else1
+abbrev passed : tie.After-lowest_pasted-row → tie.Else-answer-ne-DONE
 passed p = p.before.before.before.before.before
 
-ends : (e : tie.Else1)
+ends : (e : tie.Else-answer-ne-DONE)
     → (let k = columns (decoded e) in
     (k.rows ≤ max_rows) × ((i : ℕ) → i < k.rows → at k.first i ≤ max_elements))
 ends e =
     let d = decoded e in
-    let D = d.decode-into.ensures in
-    given-ends (bytes d) d.decode-into.result.answer (columns d) D.answers D.passed e.if1.false
+    let D = d.decode_into-head.ensures in
+    given-ends (bytes d) d.decode_into-head.result.answer (columns d) D.answers D.passed e.if-answer-ne-DONE.false
 
-decode-into-requires : tie.Need-decode-into-requires
+decode-into-requires : tie.Need-decode_into-head-requires
 decode-into-requires c κs = search rules
 
-returns : tie.Need-returns
+returns : tie.Need-returns-then-answer-ne-DONE
 returns c =
     let d = c.before.before.before in
-    let D = d.decode-into.ensures in
-    into-as D (given-stopped (bytes d) d.decode-into.result.answer (columns d) D.answers D.passed c.if1.true)
+    let D = d.decode_into-head.ensures in
+    into-as D (given-stopped (bytes d) d.decode_into-head.result.answer (columns d) D.answers D.passed c.if-answer-ne-DONE.true)
 
-lowest-pasted-requires : tie.Need-lowest-pasted-requires
+lowest-pasted-requires : tie.Need-lowest_pasted-row-requires
 lowest-pasted-requires c κs = ends c.before.before.before.before
 
 at-requires : tie.Need-at-requires
-at-requires c κs = omega (arith, c.if2.true, (ends (passed c.before.before)).0)
+at-requires c κs = omega (arith, c.if-row-head.true, (ends (passed c.before.before)).0)
 
 refused-requires : tie.Need-refused-requires
 refused-requires c κs = search rules
 
-returns-2 : tie.Need-returns-2
+returns-2 : tie.Need-returns-then-row-head
 returns-2 c =
     let t = c.before.before in
     let p = t.before.before in
     let e = passed p in
     let d = decoded e in
-    let D = d.decode-into.ensures in
+    let D = d.decode_into-head.ensures in
     let k = columns d in
     let a = c.before.at in
     rw c.refused.ensures
     (into-refusal a.result (λ z. omega (arith, a.ensures.0))
     (rw (a.ensures.0, a.ensures.1)
-    (given-pasted (bytes d) d.decode-into.result.answer k D.answers D.passed e.if1.left _
-    (p.lowest-pasted.ensures k.elements k.rings k.cost) t.if2.true)))
+    (given-pasted (bytes d) d.decode_into-head.result.answer k D.answers D.passed e.if-answer-ne-DONE.left _
+    (p.lowest_pasted-row.ensures k.elements k.rings k.cost) t.if-row-head.true)))
 
-returns-3 : tie.Need-returns-3
+returns-3 : tie.Need-returns
 returns-3 c =
     let p = c.before.before in
     let e = passed p in
     let d = decoded e in
-    let D = d.decode-into.ensures in
+    let D = d.decode_into-head.ensures in
     let k = columns d in
     into-as D
-    (given-whole (bytes d) d.decode-into.result.answer k D.answers D.passed e.if1.left _
-    (p.lowest-pasted.ensures k.elements k.rings k.cost) (omega (arith, c.if2.false)))
+    (given-whole (bytes d) d.decode_into-head.result.answer k D.answers D.passed e.if-answer-ne-DONE.left _
+    (p.lowest_pasted-row.ensures k.elements k.rings k.cost) (omega (arith, c.if-row-head.false)))
 
-pub given-into-spec : {M : Type 1} → statement M
-given-into-spec =
+pub given_into_spec : {M : Type 1} → statement M
+given_into_spec =
     tie.close
     (tie.spec decode-into-requires returns lowest-pasted-requires at-requires refused-requires returns-2 returns-3)

@@ -27,49 +27,49 @@ second_fails r d e = rw (d, e)
 third_decides : {p q r s : Bool} → p ≡ true → q ≡ true → s ≡ r → s ≡ (p && q && r)
 third_decides d e f = rw (d, e, f)
 
-end-at-requires : tie.Need-end-at-requires
+end-at-requires : tie.Need-end_at-requires
 end-at-requires c κs = search rules
 
-end-at-requires-2 : tie.Need-end-at-requires-2
+end-at-requires-2 : tie.Need-end_at-requires-2
 end-at-requires-2 c κs = search rules
 
-returns : tie.Need-returns
+returns : tie.Need-returns-then-end_at
 returns c =
     let d = c.before in
-    first_fails _ _ (unlike d.before.end-at.ensures d.end-at2.ensures c.if1.true)
+    first_fails _ _ (unlike d.before.end_at.ensures d.end_at-2.ensures c.if-end_at.true)
 
-slots-at-requires : tie.Need-slots-at-requires
+slots-at-requires : tie.Need-slots_at-requires
 slots-at-requires c κs = search rules
 
-slots-at-requires-2 : tie.Need-slots-at-requires-2
+slots-at-requires-2 : tie.Need-slots_at-requires-2
 slots-at-requires-2 c κs = search rules
 
-returns-2 : tie.Need-returns-2
+returns-2 : tie.Need-returns-then-slots_at
 returns-2 c =
     let p = c.before in
     let e = p.before.before in
     let d = e.before in
-    second_fails _ (like d.before.end-at.ensures d.end-at2.ensures e.if1.false)
-    (unlike p.before.slots_at.ensures p.slots-at2.ensures c.if2.true)
+    second_fails _ (like d.before.end_at.ensures d.end_at-2.ensures e.if-end_at.false)
+    (unlike p.before.slots_at.ensures p.slots_at-2.ensures c.if-slots_at.true)
 
-end-at-requires-3 : tie.Need-end-at-requires-3
+end-at-requires-3 : tie.Need-end_at-requires-3
 end-at-requires-3 c κs = search rules
 
-end-at-requires-4 : tie.Need-end-at-requires-4
+end-at-requires-4 : tie.Need-end_at-requires-4
 end-at-requires-4 c κs = search rules
 
-returns-3 : tie.Need-returns-3
+returns-3 : tie.Need-returns
 returns-3 c =
     let f = c.before.before in
     let p = f.before in
     let e = p.before.before in
     let d = e.before in
-    third_decides (like d.before.end-at.ensures d.end-at2.ensures e.if1.false)
-    (like p.before.slots_at.ensures p.slots-at2.ensures f.if2.false)
-    (ap₂ eqb c.before.end-at3.ensures c.end-at4.ensures)
+    third_decides (like d.before.end_at.ensures d.end_at-2.ensures e.if-end_at.false)
+    (like p.before.slots_at.ensures p.slots_at-2.ensures f.if-slots_at.false)
+    (ap₂ eqb c.before.end_at-3.ensures c.end_at-4.ensures)
 
-pub is-alike-spec : {M : Type 1} → statement M
-is-alike-spec =
+pub is_alike_spec : {M : Type 1} → statement M
+is_alike_spec =
     tie.close
     (tie.spec
     end-at-requires

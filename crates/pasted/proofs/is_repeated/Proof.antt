@@ -16,61 +16,61 @@ use Rattle.pasted.proofs.AsGiven.{left_out}
 use Rattle.pasted.proofs.is_repeated.Statement.{statement}
 use Rattle.pasted.proofs.is_repeated.Tie as tie
 
-abbrev invariant-loop : tie.invariant-loop
+abbrev invariant-loop : tie.invariant-loop-left
 invariant-loop rows period second way i left₀ left =
     any max_rows (λ j. bit left j && alike (at period) (at second) (at way) i j)
     ≡ any max_rows (λ j. bit rows j && alike (at period) (at second) (at way) i j)
 
-abbrev decreases-loop : tie.decreases-loop
+abbrev decreases-loop : tie.decreases-loop-left
 decreases-loop rows period second way i left₀ left = count 64 (bit left)
 
-loop-holds : tie.Need-loop-init invariant-loop decreases-loop
+loop-holds : tie.Need-loop-left-init invariant-loop decreases-loop
 loop-holds c = refl
 
-lowest-row-requires : tie.Need-lowest-row-requires invariant-loop decreases-loop
-lowest-row-requires c κs = c.loop-test.true
+lowest-row-requires : tie.Need-lowest_row-j-requires invariant-loop decreases-loop
+lowest-row-requires c κs = c.loop-left-test.true
 
-is-alike-requires : tie.Need-is-alike-requires invariant-loop decreases-loop
-is-alike-requires c κs = (omega (arith, c.lowest-row.ensures.0), c.before.before.before.requires)
+is-alike-requires : tie.Need-is_alike-requires invariant-loop decreases-loop
+is-alike-requires c κs = (omega (arith, c.lowest_row-j.ensures.0), c.before.before.before.requires)
 
-returns : tie.Need-returns invariant-loop decreases-loop
+returns : tie.Need-returns-then-is_alike invariant-loop decreases-loop
 returns c =
     let d = c.before.before in
     let z = d.before.before in
-    let e = d.lowest-row.ensures in
-    sym (is_true _ (any_of max_rows _ d.lowest-row.result (omega (arith, e.0))
-    (both (bit z.loop.left d.lowest-row.result) _ (of_true e.1) (of_true (sym c.before.is-alike.ensures ∙ c.if1.true)))))
-    ∙ z.loop.invariant
+    let e = d.lowest_row-j.ensures in
+    sym (is_true _ (any_of max_rows _ d.lowest_row-j.result (omega (arith, e.0))
+    (both (bit z.loop-left.left d.lowest_row-j.result) _ (of_true e.1) (of_true (sym c.before.is_alike.ensures ∙ c.if-is_alike.true)))))
+    ∙ z.loop-left.invariant
 
-shl-left : tie.Need-overflow-shl-left invariant-loop decreases-loop
-shl-left c = omega (arith, c.before.before.lowest-row.ensures.0)
+shl-left : tie.Need-overflow_shl-left invariant-loop decreases-loop
+shl-left c = omega (arith, c.before.before.lowest_row-j.ensures.0)
 
-loop-less : tie.Need-loop-smaller invariant-loop decreases-loop
+loop-less : tie.Need-loop-left-smaller invariant-loop decreases-loop
 loop-less c =
     let d = c.before.before in
-    let e = d.lowest-row.ensures in
-    let s = sum-without d.before.before.loop.left d.lowest-row.result e.0 (λ j. 1) 64 e.0 e.1 in
+    let e = d.lowest_row-j.ensures in
+    let s = sum-without d.before.before.loop-left.left d.lowest_row-j.result e.0 (λ j. 1) 64 e.0 e.1 in
     omega (arith, s)
 
-loop-again : tie.Need-loop-preserved invariant-loop decreases-loop
+loop-again : tie.Need-loop-left-preserved invariant-loop decreases-loop
 loop-again c =
     let d = c.before.before in
     let z = d.before.before in
     let a = z.before.args in
-    left_out z.loop.left d.lowest-row.result
-    (alike (at a.period.now) (at a.second.now) (at a.way.now) a.i) d.lowest-row.ensures.0
-    (sym c.before.is-alike.ensures ∙ c.if1.false)
-    ∙ z.loop.invariant
+    left_out z.loop-left.left d.lowest_row-j.result
+    (alike (at a.period.now) (at a.second.now) (at a.way.now) a.i) d.lowest_row-j.ensures.0
+    (sym c.before.is_alike.ensures ∙ c.if-is_alike.false)
+    ∙ z.loop-left.invariant
 
-returns-2 : tie.Need-returns-2 invariant-loop decreases-loop
+returns-2 : tie.Need-returns invariant-loop decreases-loop
 returns-2 c =
     let z = c.before in
     sym (any_none max_rows _
-    (λ j l t. of_false (ap (λ (v : ℕ). bit v j) c.loop-test.false ∙ bit_zero j) (fst (bit z.loop.left j) _ t)))
-    ∙ z.loop.invariant
+    (λ j l t. of_false (ap (λ (v : ℕ). bit v j) c.loop-left-test.false ∙ bit_zero j) (fst (bit z.loop-left.left j) _ t)))
+    ∙ z.loop-left.invariant
 
-pub is-repeated-spec : {M : Type 1} → statement M
-is-repeated-spec =
+pub is_repeated_spec : {M : Type 1} → statement M
+is_repeated_spec =
     tie.close
     (tie.spec
     invariant-loop

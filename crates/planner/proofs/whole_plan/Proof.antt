@@ -8,10 +8,10 @@ use Rattle.planner.proofs.whole_plan.Tie as tie
 analyse-requires : tie.Need-analyse-requires
 analyse-requires c κs = search rules
 
-plan-on-requires : tie.Need-plan-on-requires
+plan-on-requires : tie.Need-plan_on-requires
 plan-on-requires c κs = usable (file_ask _) c.before.analyse.ensures
 
-same_length : tie.Need-same-length
+same_length : tie.Need-shape_of-plan
 same_length c = search rules
 
 returns : tie.Need-returns
@@ -20,7 +20,7 @@ returns c =
     let A = O.before.before in
     let S = A.before.before.before in
     let f = S.args.file.now in
-    plan-asked (file_ask f) (file_proper f).numbered A.analyse.ensures O.plan-on.result S.args.plan.now _ O.plan-on.ensures
+    plan-asked (file_ask f) (file_proper f).numbered A.analyse.ensures O.plan_on.result S.args.plan-1.now _ O.plan_on.ensures
 
-pub whole-plan-spec : {M : Type 1} → statement M
-whole-plan-spec = tie.close (tie.spec analyse-requires plan-on-requires same_length returns)
+pub whole_plan_spec : {M : Type 1} → statement M
+whole_plan_spec = tie.close (tie.spec analyse-requires plan-on-requires same_length returns)

@@ -11,75 +11,75 @@ use Rattle.raising.proofs.Costs.{up_within}
 use Rattle.raising.proofs.raised_costs.Statement.{statement}
 use Rattle.raising.proofs.raised_costs.Tie as tie
 
-abbrev invariant-loop : tie.invariant-loop
+abbrev invariant-loop : tie.invariant-loop-i
 invariant-loop rows cost period interval raised₀ i₀ raised i = (i ≤ rows) × ByRow i (λ k. max (at cost k) (up (at period k) interval)) raised
 
-abbrev decreases-loop : tie.decreases-loop
+abbrev decreases-loop : tie.decreases-loop-i
 decreases-loop rows cost period interval raised₀ i₀ raised i = rows - i
 
-loop-holds : tie.Need-loop-init invariant-loop decreases-loop
+loop-holds : tie.Need-loop-i-init invariant-loop decreases-loop
 loop-holds c = (omega arith, by_row_start _)
 
-slots-at-requires : tie.Need-slots-at-requires invariant-loop decreases-loop
+slots-at-requires : tie.Need-slots_at-requires invariant-loop decreases-loop
 slots-at-requires c κs = omega arith
 
-slots-at-requires-2 : tie.Need-slots-at-requires-2 invariant-loop decreases-loop
+slots-at-requires-2 : tie.Need-slots_at-requires-in-loop-i invariant-loop decreases-loop
 slots-at-requires-2 c κs = omega arith
 
-raised-cost-requires : tie.Need-raised-cost-requires invariant-loop decreases-loop
+raised-cost-requires : tie.Need-raised_cost-requires invariant-loop decreases-loop
 raised-cost-requires c κs =
     let u = c.before.before.before in
     let p = u.before.requires in
-    (p.1, p.2, omega (arith, c.slots-at2.ensures, p.0.period_high u.loop.i (omega arith)))
+    (p.1, p.2, omega (arith, c.slots_at-in-loop-i.ensures, p.0.period_high u.loop-i.i (omega arith)))
 
 -- a row has no more than its period
-low : (c : tie.After-raised-cost invariant-loop decreases-loop) → c.raised-cost.result ≤ max_slots
+low : (c : tie.After-raised_cost invariant-loop decreases-loop) → c.raised_cost.result ≤ max_slots
 low c =
     let s = c.before in
     let u = s.before.before.before in
     let p = u.before.requires in
     omega (
       arith,
-      c.raised-cost.ensures,
-      s.slots-at2.ensures,
+      c.raised_cost.ensures,
+      s.slots_at-in-loop-i.ensures,
       s.before.slots_at.ensures,
-      up_within s.slots-at2.result u.before.args.interval p.1,
-      p.0.period_high u.loop.i (omega arith),
-      p.0.cost_high u.loop.i (omega arith),
+      up_within s.slots_at-in-loop-i.result u.before.args.interval p.1,
+      p.0.period_high u.loop-i.i (omega arith),
+      p.0.cost_high u.loop-i.i (omega arith),
     )
 
-cast-raised : tie.Need-overflow-cast-raised invariant-loop decreases-loop
+cast-raised : tie.Need-overflow_cast-raised invariant-loop decreases-loop
 cast-raised c = omega (arith, low c)
 
-mul-raised : tie.Need-overflow-mul-raised invariant-loop decreases-loop
+mul-raised : tie.Need-offset_bounds-raised-i invariant-loop decreases-loop
 mul-raised c = omega arith
 
-array-write-raised : tie.Need-array-write-raised invariant-loop decreases-loop
+array-write-raised : tie.Need-bounds-raised-i invariant-loop decreases-loop
 array-write-raised c = omega arith
 
-add-i : tie.Need-overflow-add-i invariant-loop decreases-loop
+add-i : tie.Need-overflow_add-i invariant-loop decreases-loop
 add-i c = omega arith
 
-loop-less : tie.Need-loop-smaller invariant-loop decreases-loop
+loop-less : tie.Need-loop-i-smaller invariant-loop decreases-loop
 loop-less c = omega arith
 
-loop-again : tie.Need-loop-preserved invariant-loop decreases-loop
+loop-again : tie.Need-loop-i-preserved invariant-loop decreases-loop
 loop-again c =
     let s = c.before in
     let u = s.before.before.before in (
       omega arith,
-      by_row_put _ u.loop.invariant.1 (omega arith)
-          (c.raised-cost.ensures
-          ∙ ap₂ (λ (x y : ℕ). max x (up y u.before.args.interval)) s.before.slots_at.ensures s.slots-at2.ensures),
+      by_row_put _ u.loop-i.invariant.1 (omega arith)
+          (c.raised_cost.ensures
+          ∙ ap₂ (λ (x y : ℕ). max x (up y u.before.args.interval)) s.before.slots_at.ensures s.slots_at-in-loop-i.ensures),
     )
 
 returns : tie.Need-returns invariant-loop decreases-loop
 returns c =
-    let e : c.before.loop.i ≡ c.before.before.args.rows = omega arith in
-    rw e at c.before.loop.invariant.1
+    let e : c.before.loop-i.i ≡ c.before.before.args.rows = omega arith in
+    rw e at c.before.loop-i.invariant.1
 
-pub raised-costs-spec : {M : Type 1} → statement M
-raised-costs-spec =
+pub raised_costs_spec : {M : Type 1} → statement M
+raised_costs_spec =
     tie.close
     (tie.spec
     invariant-loop

@@ -4,54 +4,54 @@ use borrow.Author.Rules.{rules}
 use Rattle.reader.proofs.read_version_1.Statement.{statement}
 use Rattle.reader.proofs.read_version_1.Tie as tie
 
-has-other-mark-requires : tie.Need-has-other-mark-requires
+has-other-mark-requires : tie.Need-has_other_mark-requires
 has-other-mark-requires c κs = search rules
 
 at-requires : tie.Need-at-requires
 at-requires c κs = search rules
 
-refuse-read-requires : tie.Need-refuse-read-requires
+refuse-read-requires : tie.Need-refuse_read-requires
 refuse-read-requires c κs = search rules
 
-returns : tie.Need-returns
+returns : tie.Need-returns-then-has_other_mark
 returns c =
-    let e = c.refuse-read.ensures in
+    let e = c.refuse_read.ensures in
     let a = c.before.at.ensures in
     let z = c.before.before in
-    rw (e.0, e.1, e.2, e.3, e.4, a.0, a.1) (other-refused _ _ (z.before.has-other-mark.ensures.holds z.if1.true))
+    rw (e.0, e.1, e.2, e.3, e.4, a.0, a.1) (other-refused _ _ (z.before.has_other_mark.ensures.holds z.if-has_other_mark.true))
 
-is-labelled-requires : tie.Need-is-labelled-requires
+is-labelled-requires : tie.Need-is_labelled-requires
 is-labelled-requires c κs = search rules
 
-at-requires-2 : tie.Need-at-requires-2
+at-requires-2 : tie.Need-at-requires-then-is_labelled
 at-requires-2 c κs = search rules
 
-refuse-read-requires-2 : tie.Need-refuse-read-requires-2
+refuse-read-requires-2 : tie.Need-refuse_read-requires-then-is_labelled
 refuse-read-requires-2 c κs = search rules
 
-returns-2 : tie.Need-returns-2
+returns-2 : tie.Need-returns-then-is_labelled
 returns-2 c =
-    let e = c.refuse-read2.ensures in
-    let a = c.before.at2.ensures in
+    let e = c.refuse_read-then-is_labelled.ensures in
+    let a = c.before.at-then-is_labelled.ensures in
     let z = c.before.before in
-    rw (e.0, e.1, e.2, e.3, e.4, a.0, a.1) (version-1-refused _ _ (z.before.is-labelled.ensures.holds z.if2.true))
+    rw (e.0, e.1, e.2, e.3, e.4, a.0, a.1) (version-1-refused _ _ (z.before.is_labelled.ensures.holds z.if-is_labelled.true))
 
 read-requires : tie.Need-read-requires
 read-requires c κs = search rules
 
-same_length : tie.Need-same-length
+same_length : tie.Need-shape_of-out
 same_length c = search rules
 
-returns-3 : tie.Need-returns-3
+returns-3 : tie.Need-returns
 returns-3 c =
     let w = c.before.before in
     let z = w.before.before in
     let y = z.before.before in
-    version-1-else _ _ _ _ _ _ _ _ _ (y.before.has-other-mark.ensures.fails y.if1.false)
-    (z.before.is-labelled.ensures.fails z.if2.false) w.read.ensures
+    version-1-else _ _ _ _ _ _ _ _ _ (y.before.has_other_mark.ensures.fails y.if-has_other_mark.false)
+    (z.before.is_labelled.ensures.fails z.if-is_labelled.false) w.read.ensures
 
-pub read-version-1-spec : {M : Type 1} → statement M
-read-version-1-spec =
+pub read_version_1_spec : {M : Type 1} → statement M
+read_version_1_spec =
     tie.close
     (tie.spec
     has-other-mark-requires

@@ -6,5 +6,5 @@ use Rattle.relay.proofs.no_rows.Tie as tie
 returns : tie.Need-returns
 returns c = holds_none c.args.elements c.args.rings
 
-pub no-rows-spec : {M : Type 1} → statement M
-no-rows-spec = tie.close (tie.spec returns)
+pub no_rows_spec : {M : Type 1} → statement M
+no_rows_spec = tie.close (tie.spec returns)

@@ -12,55 +12,55 @@ use Rattle.relay.proofs.Columns.{fits-row, room_for}
 use Rattle.relay.proofs.split_at.Statement.{statement}
 use Rattle.relay.proofs.split_at.Tie as tie
 
-abbrev invariant-loop : tie.invariant-loop
+abbrev invariant-loop : tie.invariant-loop-i
 invariant-loop given relay split₀ i₀ split i =
     (i ≤ given.rows) × Holds (of_rows given.elements given.rings (split_rows (table_of given) relay i)) split
 
-abbrev decreases-loop : tie.decreases-loop
+abbrev decreases-loop : tie.decreases-loop-i
 decreases-loop given relay split₀ i₀ split i = given.rows - i
 
-no-rows-requires : tie.Need-no-rows-requires invariant-loop decreases-loop
+no-rows-requires : tie.Need-no_rows-split-requires invariant-loop decreases-loop
 no-rows-requires c κs = search rules
 
-loop-holds : tie.Need-loop-init invariant-loop decreases-loop
+loop-holds : tie.Need-loop-i-init invariant-loop decreases-loop
 loop-holds c =
     let a = c.before.args in
     let g = a.given in (
       omega arith,
-      subst (λ (xs : List Row). Holds (of_rows g.elements g.rings xs) c.no_rows.result) (sym (rows_none (table_of g) a.relay))
-          c.no_rows.ensures,
+      subst (λ (xs : List Row). Holds (of_rows g.elements g.rings xs) c.no_rows-split.result) (sym (rows_none (table_of g) a.relay))
+          c.no_rows-split.ensures,
     )
 
-row-of-requires : tie.Need-row-of-requires invariant-loop decreases-loop
+row-of-requires : tie.Need-row_of-row-requires invariant-loop decreases-loop
 row-of-requires c κs = let S = c.before.before.before.before.requires in omega (arith, S.0.rows_high)
 
-goes-requires : tie.Need-goes-requires invariant-loop decreases-loop
+goes-requires : tie.Need-goes-through-requires invariant-loop decreases-loop
 goes-requires c κs = let S = c.before.before.before.before.before.requires in (S.0, S.1, omega arith)
 
-cast-with-parts : tie.Need-overflow-cast-with-parts invariant-loop decreases-loop
+cast-with-parts : tie.Need-overflow_cast-relay invariant-loop decreases-loop
 cast-with-parts c =
     let S = c.before.before.before.before.before.before.requires in
     omega (arith, S.0.elements_high, S.1.high)
 
-with-parts-requires : tie.Need-with-parts-requires invariant-loop decreases-loop
+with-parts-requires : tie.Need-with_parts-split-requires invariant-loop decreases-loop
 with-parts-requires c κs =
     let R = c.before in
     let L = R.before.before.before in
     let S = L.before.before in
     let t = table_of S.args.given in
-    let row = numbers_of R.row_of.result in (
-      room_for t S.args.relay L.loop.i row (omega arith) S.requires.2 c.goes.ensures L.loop.invariant.1,
-      fits-row t S.requires.0 {i = L.loop.i} (omega arith) R.row_of.ensures,
+    let row = numbers_of R.row_of-row.result in (
+      room_for t S.args.relay L.loop-i.i row (omega arith) S.requires.2 c.goes-through.ensures L.loop-i.invariant.1,
+      fits-row t S.requires.0 {i = L.loop-i.i} (omega arith) R.row_of-row.ensures,
       omega (arith, S.requires.0.elements_high, S.requires.1.high),
     )
 
-add-i : tie.Need-overflow-add-i invariant-loop decreases-loop
+add-i : tie.Need-overflow_add-i invariant-loop decreases-loop
 add-i c = omega arith
 
-loop-less : tie.Need-loop-smaller invariant-loop decreases-loop
+loop-less : tie.Need-loop-i-smaller invariant-loop decreases-loop
 loop-less c = omega arith
 
-loop-again : tie.Need-loop-preserved invariant-loop decreases-loop
+loop-again : tie.Need-loop-i-preserved invariant-loop decreases-loop
 loop-again c =
     let G = c.before in
     let R = G.before in
@@ -69,21 +69,21 @@ loop-again c =
     let g = S.args.given in
     let t = table_of g in
     let r = S.args.relay in
-    let i = L.loop.i in
-    let e = rows_next t r i G.goes.ensures R.row_of.ensures in (
+    let i = L.loop-i.i in
+    let e = rows_next t r i G.goes-through.ensures R.row_of-row.ensures in (
       omega arith,
-      subst (λ (xs : List Row). Holds (of_rows g.elements g.rings xs) c.with-parts.result) (sym e)
-          (c.with-parts.ensures g.elements g.rings (split_rows t r i) L.loop.invariant.1),
+      subst (λ (xs : List Row). Holds (of_rows g.elements g.rings xs) c.with_parts-split.result) (sym e)
+          (c.with_parts-split.ensures g.elements g.rings (split_rows t r i) L.loop-i.invariant.1),
     )
 
 returns : tie.Need-returns invariant-loop decreases-loop
 returns c =
     let L = c.before.before in
-    let all : L.loop.i ≡ L.before.before.args.given.rows = omega arith in
-    rw all at L.loop.invariant.1
+    let all : L.loop-i.i ≡ L.before.before.args.given.rows = omega arith in
+    rw all at L.loop-i.invariant.1
 
-pub split-at-spec : {M : Type 1} → statement M
-split-at-spec =
+pub split_at_spec : {M : Type 1} → statement M
+split_at_spec =
     tie.close
     (tie.spec
     invariant-loop

@@ -13,72 +13,72 @@ use Rattle.relay.proofs.Given.{splits-given, splits-relay, splits-done}
 use Rattle.relay.proofs.split_file.Statement.{statement}
 use Rattle.relay.proofs.split_file.Tie as tie
 
-abbrev taken : tie.Else1 → tie.After-given-one-ring
+abbrev taken : tie.Else-answer-ne-DONE → tie.After-given_one_ring-found
 taken z = z.before.before.before
 
-abbrev bytes : tie.Else1 → List ℕ
+abbrev bytes : tie.Else-answer-ne-DONE → List ℕ
 bytes z = (taken z).before.before.args.file.now
 
-abbrev relay : tie.Else1 → ℕ
+abbrev relay : tie.Else-answer-ne-DONE → ℕ
 relay z = (taken z).before.before.args.relay
 
-none : (z : tie.Else1) → None (one_ring_checks (bytes z) (given_checks (bytes z)))
-none z = given-zero (bytes z) (relay z) (taken z).given-one-ring.result.answer z.if1.false (taken z).given-one-ring.ensures.answers
+none : (z : tie.Else-answer-ne-DONE) → None (one_ring_checks (bytes z) (given_checks (bytes z)))
+none z = given-zero (bytes z) (relay z) (taken z).given_one_ring-found.result.answer z.if-answer-ne-DONE.false (taken z).given_one_ring-found.ensures.answers
 
-held : (z : tie.Else1) → table_of (taken z).given-one-ring.result.columns ≡ file_table (bytes z)
-held z = ((taken z).given-one-ring.ensures.passed z.if1.false).table
+held : (z : tie.Else-answer-ne-DONE) → table_of (taken z).given_one_ring-found.result.columns ≡ file_table (bytes z)
+held z = ((taken z).given_one_ring-found.ensures.passed z.if-answer-ne-DONE.false).table
 
-sound : (z : tie.Else1) → Sound (table_of (taken z).given-one-ring.result.columns)
+sound : (z : tie.Else-answer-ne-DONE) → Sound (table_of (taken z).given_one_ring-found.result.columns)
 sound z = columns-sound (bytes z) (relay z) _ (none z) (held z)
 
 -- past 27 and 28
-none-relay : (z : tie.Else2)
+none-relay : (z : tie.Else-number-ne-DONE)
     → let e = z.before.before in
-    None (relay_checks (table_of (taken e).given-one-ring.result.columns) (relay e))
-none-relay z = relay-zero _ _ _ z.if2.false z.before.relay-fault.ensures
+    None (relay_checks (table_of (taken e).given_one_ring-found.result.columns) (relay e))
+none-relay z = relay-zero _ _ _ z.if-number-ne-DONE.false z.before.relay_fault-number.ensures
 
-given-one-ring-requires : tie.Need-given-one-ring-requires
+given-one-ring-requires : tie.Need-given_one_ring-found-requires
 given-one-ring-requires c κs = search rules
 
 refused-requires : tie.Need-refused-requires
 refused-requires c κs = search rules
 
-returns : tie.Need-returns
+returns : tie.Need-returns-then-answer-ne-DONE
 returns c =
     let g = c.before.before.before.before in
     let a = g.before.before.args in
     let o = g.given-one-ring in
     rw c.refused.ensures
-    (splits-given a.file.now a.relay o.result.answer c.before.if1.true o.ensures.answers)
+    (splits-given a.file.now a.relay o.result.answer c.before.if-answer-ne-DONE.true o.ensures.answers)
 
-relay-fault-requires : tie.Need-relay-fault-requires
+relay-fault-requires : tie.Need-relay_fault-number-requires
 relay-fault-requires c κs = sound c
 
 at-requires : tie.Need-at-requires
 at-requires c κs = search rules
 
-refused-requires-2 : tie.Need-refused-requires-2
+refused-requires-2 : tie.Need-refused-requires-then-number-ne-DONE
 refused-requires-2 c κs = search rules
 
-returns-2 : tie.Need-returns-2
+returns-2 : tie.Need-returns-then-number-ne-DONE
 returns-2 c =
     let h = c.before.before.before in
     let e = h.before in
     let r = relay e in
-    rw c.refused2.ensures
-    (splits-relay (bytes e) r c.before.at.result (none e) (relay-held (bytes e) r _ (held e) _ h.relay-fault.ensures)
-    c.before.before.if2.true c.before.at.ensures)
+    rw c.refused-then-number-ne-DONE.ensures
+    (splits-relay (bytes e) r c.before.at.result (none e) (relay-held (bytes e) r _ (held e) _ h.relay_fault-number.ensures)
+    c.before.before.if-number-ne-DONE.true c.before.at.ensures)
 
 done-requires : tie.Need-done-requires
 done-requires c κs = search rules
 
-split-at-requires : tie.Need-split-at-requires
+split-at-requires : tie.Need-split_at-requires
 split-at-requires c κs =
     let z = c.before in
     let n = none-relay z in
     (sound z.before.before, relay-element _ _ n, few_rows _ _ n)
 
-returns-3 : tie.Need-returns-3
+returns-3 : tie.Need-returns
 returns-3 c =
     let z = c.before.before in
     let e = z.before.before in
@@ -86,8 +86,8 @@ returns-3 c =
     splits-done (bytes e) r c.before.done.result (none e) (none_held (bytes e) r _ (held e) (none-relay z)) c.before.done.ensures
     (split-held (bytes e) r _ (held e) c.split_at.ensures)
 
-pub split-file-spec : {M : Type 1} → statement M
-split-file-spec =
+pub split_file_spec : {M : Type 1} → statement M
+split_file_spec =
     tie.close
     (tie.spec
     given-one-ring-requires

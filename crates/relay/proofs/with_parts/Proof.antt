@@ -14,51 +14,51 @@ use Rattle.relay.proofs.with_parts.Statement.{statement}
 use Rattle.relay.proofs.with_parts.Tie as tie
 
 -- there is room for both halves, and for one row
-two : (z : tie.Then1) → z.before.args.columns.rows + 2 ≤ max_rows
+two : (z : tie.Then-goes) → z.before.args.columns.rows + 2 ≤ max_rows
 two z =
     let a = z.before.args in
-    omega (arith, z.before.requires.0, ap (λ (b : Bool). length (becomes a.relay b (numbers_of a.row))) z.if1.true)
+    omega (arith, z.before.requires.0, ap (λ (b : Bool). length (becomes a.relay b (numbers_of a.row))) z.if-goes.true)
 
-one : (z : tie.Else1) → z.before.args.columns.rows + 1 ≤ max_rows
+one : (z : tie.Else-goes) → z.before.args.columns.rows + 1 ≤ max_rows
 one z =
     let a = z.before.args in
-    omega (arith, z.before.requires.0, ap (λ (b : Bool). length (becomes a.relay b (numbers_of a.row))) z.if1.false)
+    omega (arith, z.before.requires.0, ap (λ (b : Bool). length (becomes a.relay b (numbers_of a.row))) z.if-goes.false)
 
-to-relay-requires : tie.Need-to-relay-requires
+to-relay-requires : tie.Need-to_relay-requires
 to-relay-requires c κs = search rules
 
-with-row-requires : tie.Need-with-row-requires
+with-row-requires : tie.Need-with_row-half-requires
 with-row-requires c κs =
     let z = c.before in
     (omega (arith, two z), fits_first z.before.requires.1 z.before.requires.2 c.to_relay_jobs.ensures)
 
-from-relay-requires : tie.Need-from-relay-requires
+from-relay-requires : tie.Need-from_relay-requires
 from-relay-requires c κs = search rules
 
-with-row-requires-2 : tie.Need-with-row-requires-2
+with-row-requires-2 : tie.Need-with_row-requires
 with-row-requires-2 c κs =
     let z = c.before.before.before in
-    (omega (arith, two z, c.before.with_row.ensures.0), fits_second z.before.requires.1 z.before.requires.2 c.from_relay_jobs.ensures)
+    (omega (arith, two z, c.before.with_row-half.ensures.0), fits_second z.before.requires.1 z.before.requires.2 c.from_relay_jobs.ensures)
 
-returns : tie.Need-returns
+returns : tie.Need-returns-then-goes
 returns c M d xs H =
     let z = c.before.before.before.before in
     let a = z.before.args in
     let half = numbers_of c.before.before.before.to_relay_jobs.result in
-    holds_two M d xs a.relay a.goes (numbers_of a.row) _ _ z.if1.true c.before.before.before.to_relay_jobs.ensures
-    c.before.from_relay_jobs.ensures (c.with-row2.ensures.1 M d (xs ++ (half ∷ [])) (c.before.before.with_row.ensures.1 M d xs H))
+    holds_two M d xs a.relay a.goes (numbers_of a.row) _ _ z.if-goes.true c.before.before.before.to_relay_jobs.ensures
+    c.before.from_relay_jobs.ensures (c.with_row.ensures.1 M d (xs ++ (half ∷ [])) (c.before.before.with_row-half.ensures.1 M d xs H))
 
-with-row-requires-3 : tie.Need-with-row-requires-3
+with-row-requires-3 : tie.Need-with_row-requires-2
 with-row-requires-3 c κs = (omega (arith, one c), c.before.requires.1)
 
-returns-2 : tie.Need-returns-2
+returns-2 : tie.Need-returns
 returns-2 c M d xs H =
     let z = c.before in
     let a = z.before.args in
-    holds_one M d xs a.relay a.goes (numbers_of a.row) z.if1.false (c.with-row3.ensures.1 M d xs H)
+    holds_one M d xs a.relay a.goes (numbers_of a.row) z.if-goes.false (c.with_row-2.ensures.1 M d xs H)
 
-pub with-parts-spec : {M : Type 1} → statement M
-with-parts-spec =
+pub with_parts_spec : {M : Type 1} → statement M
+with_parts_spec =
     tie.close
     (tie.spec
     to-relay-requires

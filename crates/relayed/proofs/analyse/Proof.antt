@@ -12,43 +12,43 @@ use Rattle.relayed.proofs.Checked.{relayed-stopped, split-zero, relayed-past, co
 use Rattle.relayed.proofs.analyse.Statement.{statement}
 use Rattle.relayed.proofs.analyse.Tie as tie
 
-abbrev taken : tie.Else1 → tie.After-split-file
+abbrev taken : tie.Else-answer-ne-DONE → tie.After-split_file-found
 taken z = z.before.before.before
 
-abbrev bytes : tie.Else1 → List ℕ
+abbrev bytes : tie.Else-answer-ne-DONE → List ℕ
 bytes z = (taken z).before.before.args.file.now
 
-abbrev relay : tie.Else1 → ℕ
+abbrev relay : tie.Else-answer-ne-DONE → ℕ
 relay z = (taken z).before.before.args.relay
 
-none : (z : tie.Else1) → None (split_checks (bytes z) (relay z))
-none z = split-zero (bytes z) (relay z) (taken z).split-file.result.answer z.if1.false (taken z).split-file.ensures.answers
+none : (z : tie.Else-answer-ne-DONE) → None (split_checks (bytes z) (relay z))
+none z = split-zero (bytes z) (relay z) (taken z).split_file-found.result.answer z.if-answer-ne-DONE.false (taken z).split_file-found.ensures.answers
 
-held : (z : tie.Else1) → table_of (taken z).split-file.result.columns ≡ split (file_table (bytes z)) (relay z)
-held z = ((taken z).split-file.ensures.passed z.if1.false).table
+held : (z : tie.Else-answer-ne-DONE) → table_of (taken z).split_file-found.result.columns ≡ split (file_table (bytes z)) (relay z)
+held z = ((taken z).split_file-found.ensures.passed z.if-answer-ne-DONE.false).table
 
-split-file-requires : tie.Need-split-file-requires
+split-file-requires : tie.Need-split_file-found-requires
 split-file-requires c κs = search rules
 
 refused-requires : tie.Need-refused-requires
 refused-requires c κs = search rules
 
-returns : tie.Need-returns
+returns : tie.Need-returns-then-answer-ne-DONE
 returns c =
     let s = c.before.before.before.before in
     let a = s.before.before.args in
     rw c.refused.ensures
-    (relayed-stopped a.file.now a.relay s.split-file.result.answer c.before.if1.true s.split-file.ensures.answers)
+    (relayed-stopped a.file.now a.relay s.split_file-found.result.answer c.before.if-answer-ne-DONE.true s.split_file-found.ensures.answers)
 
-analysis-of-requires : tie.Need-analysis-of-requires
+analysis-of-requires : tie.Need-analysis_of-requires
 analysis-of-requires c κs =
     let z = c.before.before.before.before.before.before in
     columns-sound (bytes z) (relay z) (none z) _ (held z)
 
-returns-2 : tie.Need-returns-2
+returns-2 : tie.Need-returns
 returns-2 c =
     let z = c.before.before.before.before.before.before.before in
-    relayed-past (bytes z) (relay z) (none z) _ (held z) c.analysis-of.ensures
+    relayed-past (bytes z) (relay z) (none z) _ (held z) c.analysis_of.ensures
 
-pub analyse-spec : {M : Type 1} → statement M
-analyse-spec = tie.close (tie.spec split-file-requires refused-requires returns analysis-of-requires returns-2)
+pub analyse_spec : {M : Type 1} → statement M
+analyse_spec = tie.close (tie.spec split-file-requires refused-requires returns analysis-of-requires returns-2)

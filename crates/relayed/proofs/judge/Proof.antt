@@ -10,7 +10,7 @@ use Rattle.relayed.proofs.judge.Tie as tie
 analyse-requires : tie.Need-analyse-requires
 analyse-requires c κs = search rules
 
-verdict-of-requires : tie.Need-verdict-of-requires
+verdict-of-requires : tie.Need-verdict_of-requires
 verdict-of-requires c κs z =
     let a = c.before.before.args in
     (split (file_table a.file.now) a.relay, c.analyse.ensures.found z)
@@ -18,7 +18,7 @@ verdict-of-requires c κs z =
 returns : tie.Need-returns
 returns c =
     let a = c.before.before.before.args in
-    judged_on (relayed-numbered a.file.now a.relay) c.before.analyse.ensures c.verdict-of.ensures
+    judged_on (relayed-numbered a.file.now a.relay) c.before.analyse.ensures c.verdict_of.ensures
 
-pub judge-spec : {M : Type 1} → statement M
-judge-spec = tie.close (tie.spec analyse-requires verdict-of-requires returns)
+pub judge_spec : {M : Type 1} → statement M
+judge_spec = tie.close (tie.spec analyse-requires verdict-of-requires returns)

@@ -6,13 +6,13 @@ use Rattle.relayed.proofs.Checked.{line-numbered}
 use Rattle.relayed.proofs.list_of_sets.Statement.{statement}
 use Rattle.relayed.proofs.list_of_sets.Tie as tie
 
-outline-file-requires : tie.Need-outline-file-requires
+outline-file-requires : tie.Need-outline_file-requires
 outline-file-requires c κs = search rules
 
-list-on-requires : tie.Need-list-on-requires
-list-on-requires c κs = traced (relayed_line_ask _ _) c.before.outline-file.ensures
+list-on-requires : tie.Need-list_on-requires
+list-on-requires c κs = traced (relayed_line_ask _ _) c.before.outline_file.ensures
 
-same_length : tie.Need-same-length
+same_length : tie.Need-shape_of-out
 same_length c = search rules
 
 returns : tie.Need-returns
@@ -22,8 +22,8 @@ returns c =
     let a = O.before.before.before.args in
     let f = a.file.now in
     let r = a.relay in
-    list_asked (relayed_line_ask f r) (line-numbered f r) O.outline-file.ensures L.list_on.result a.out.now _
+    list_asked (relayed_line_ask f r) (line-numbered f r) O.outline_file.ensures L.list_on.result a.out-1.now _
     L.list_on.ensures
 
-pub list-of-sets-spec : {M : Type 1} → statement M
-list-of-sets-spec = tie.close (tie.spec outline-file-requires list-on-requires same_length returns)
+pub list_of_sets_spec : {M : Type 1} → statement M
+list_of_sets_spec = tie.close (tie.spec outline-file-requires list-on-requires same_length returns)

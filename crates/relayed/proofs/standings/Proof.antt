@@ -9,7 +9,7 @@ use Rattle.relayed.proofs.standings.Tie as tie
 analyse-requires : tie.Need-analyse-requires
 analyse-requires c κs = search rules
 
-standings-on-requires : tie.Need-standings-on-requires
+standings-on-requires : tie.Need-standings_on-requires
 standings-on-requires c κs = usable (relayed_ask _ _) c.analyse.ensures
 
 returns : tie.Need-returns
@@ -17,7 +17,7 @@ returns c =
     let A = c.before.analyse in
     let a = c.before.before.before.args in
     standings-asked (relayed_ask a.file.now a.relay) (relayed-numbered a.file.now a.relay) A.ensures a.p
-    c.standings-on.result c.standings-on.ensures
+    c.standings_on.result c.standings_on.ensures
 
-pub standings-spec : {M : Type 1} → statement M
-standings-spec = tie.close (tie.spec analyse-requires standings-on-requires returns)
+pub standings_spec : {M : Type 1} → statement M
+standings_spec = tie.close (tie.spec analyse-requires standings-on-requires returns)

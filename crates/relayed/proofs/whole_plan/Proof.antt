@@ -9,10 +9,10 @@ use Rattle.relayed.proofs.whole_plan.Tie as tie
 analyse-requires : tie.Need-analyse-requires
 analyse-requires c κs = search rules
 
-plan-on-requires : tie.Need-plan-on-requires
+plan-on-requires : tie.Need-plan_on-requires
 plan-on-requires c κs = usable (relayed_ask _ _) c.before.analyse.ensures
 
-same_length : tie.Need-same-length
+same_length : tie.Need-shape_of-plan
 same_length c = search rules
 
 returns : tie.Need-returns
@@ -22,8 +22,8 @@ returns c =
     let a = A.before.before.before.args in
     let f = a.file.now in
     let r = a.relay in
-    plan-asked (relayed_ask f r) (relayed-numbered f r) A.analyse.ensures O.plan-on.result a.plan.now _
-    O.plan-on.ensures
+    plan-asked (relayed_ask f r) (relayed-numbered f r) A.analyse.ensures O.plan_on.result a.plan-1.now _
+    O.plan_on.ensures
 
-pub whole-plan-spec : {M : Type 1} → statement M
-whole-plan-spec = tie.close (tie.spec analyse-requires plan-on-requires same_length returns)
+pub whole_plan_spec : {M : Type 1} → statement M
+whole_plan_spec = tie.close (tie.spec analyse-requires plan-on-requires same_length returns)

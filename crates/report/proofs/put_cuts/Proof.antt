@@ -8,31 +8,31 @@ use Rattle.report.proofs.put_cuts.Tie as tie
 slice-aggregate-put-value : tie.Need-slice-aggregate-put-value
 slice-aggregate-put-value c = search rules
 
-put-value-requires : tie.Need-put-value-requires
+put-value-requires : tie.Need-put_value-next-requires
 put-value-requires c κs = search rules
 
-same_length : tie.Need-same-length
+same_length : tie.Need-shape_of-out-then-other-eq0
 same_length c = search rules
 
-returns : tie.Need-returns
-returns c = cuts_one _ _ c.if1.true c.before.before.before.put-value.ensures
+returns : tie.Need-returns-then-other-eq0
+returns c = cuts_one _ _ c.if-other-eq0.true c.before.before.before.put_value-next.ensures
 
 slice-aggregate-put-value-2 : tie.Need-slice-aggregate-put-value-2
 slice-aggregate-put-value-2 c = search rules
 
-put-value-requires-2 : tie.Need-put-value-requires-2
+put-value-requires-2 : tie.Need-put_value-requires
 put-value-requires-2 c κs = search rules
 
-same-length-2 : tie.Need-same-length-2
+same-length-2 : tie.Need-shape_of-out
 same-length-2 c = search rules
 
-returns-2 : tie.Need-returns-2
+returns-2 : tie.Need-returns
 returns-2 c =
     let e = c.before.before.before.before.before in
-    cuts_two _ _ e.if1.false e.before.before.before.put-value.ensures c.before.before.put-value2.ensures
+    cuts_two _ _ e.if-other-eq0.false e.before.before.before.put_value-next.ensures c.before.before.put_value.ensures
 
-pub put-cuts-spec : {M : Type 1} → statement M
-put-cuts-spec =
+pub put_cuts_spec : {M : Type 1} → statement M
+put_cuts_spec =
     tie.close
     (tie.spec
     slice-aggregate-put-value

@@ -19,26 +19,26 @@ list z = take (count z) z.args.table.outline.words
 found : (z : tie.Start) → (length (list z) ≡ count z) × (count z ≤ max_rows)
 found z = list_count (z.requires.0 z.requires.1).1
 
-array-share-prefix-words : tie.Need-array-share-prefix-words
+array-share-prefix-words : tie.Need-slice_bounds-words-end
 array-share-prefix-words c =
     let z = c.before.before in
     omega (arith, length-take (count z) z.args.table.outline.words, (found z).0)
 
-slice-aggregate-put-words : tie.Need-slice-aggregate-put-words
+slice-aggregate-put-words : tie.Need-slice_bounds-put_words-end
 slice-aggregate-put-words c = sym (found c.before.before.before).0
 
-put-words-requires : tie.Need-put-words-requires
+put-words-requires : tie.Need-put_words-requires
 put-words-requires c κs = let z = c.before.before.before.before in omega (arith, (found z).0, (found z).1, z.requires.2)
 
-same_length : tie.Need-same-length
+same_length : tie.Need-shape_of-out
 same_length c = search rules
 
 returns : tie.Need-returns
 returns c t A =
     let z = c.before.before.before.before.before.before.before in
-    let P = c.before.before.put-words.ensures in
+    let P = c.before.before.put_words.ensures in
     (list z, A.outline.list, (P.0, omega (arith, P.1, (found z).0, (found z).1)))
 
-pub put-list-spec : {M : Type 1} → statement M
-put-list-spec =
+pub put_list_spec : {M : Type 1} → statement M
+put_list_spec =
     tie.close (tie.spec array-share-prefix-words slice-aggregate-put-words put-words-requires same_length returns)

@@ -17,41 +17,41 @@ use Rattle.report.proofs.Plain.{rendered-refused, rendered-admitted}
 use Rattle.report.proofs.render_plain.Statement.{statement}
 use Rattle.report.proofs.render_plain.Tie as tie
 
-abbrev file : tie.After-analyse → List ℕ
+abbrev file : tie.After-analyse-table → List ℕ
 file a = a.before.before.before.args.file.now
 
-usable : (a : tie.After-analyse) → Usable a.analyse.result
-usable a = asks.usable (file_ask (file a)) a.analyse.ensures
+usable : (a : tie.After-analyse-table) → Usable a.analyse-table.result
+usable a = asks.usable (file_ask (file a)) a.analyse-table.ensures
 
-judged : (z : tie.After-verdict-of) → IsVerdict (file z.before) z.verdict-of.result
-judged z = judged_on (verdict_numbered (file z.before)) z.before.analyse.ensures z.verdict-of.ensures
+judged : (z : tie.After-verdict_of-answer) → IsVerdict (file z.before) z.verdict_of-answer.result
+judged z = judged_on (verdict_numbered (file z.before)) z.before.analyse-table.ensures z.verdict_of-answer.ensures
 
 -- where the verdict is taken apart
-abbrev opened : tie.After-enum-told → tie.After-verdict-of
+abbrev opened : tie.In-Admitted → tie.After-verdict_of-answer
 opened d = d.before.before
 
-zero_is : (d : tie.After-enum-told) → (opened d).before.analyse.result.outline.answer.number ≡ 0
+zero_is : (d : tie.In-Admitted) → (opened d).before.analyse-table.result.outline.answer.number ≡ 0
 zero_is d =
     let z = opened d in
-    is-admitted (usable z.before) z.verdict-of.ensures _ _ _ _ _ _ d.enum_told.given.1
+    is-admitted (usable z.before) z.verdict_of-answer.ensures _ _ _ _ _ _ d.enum_told-1.given.1
 
-accepted : (d : tie.After-enum-told) → Accepted (file_table (file (opened d).before)) (opened d).before.analyse.result
-accepted d = (opened d).before.analyse.ensures.found (zero_is d)
+accepted : (d : tie.In-Admitted) → Accepted (file_table (file (opened d).before)) (opened d).before.analyse-table.result
+accepted d = (opened d).before.analyse-table.ensures.found (zero_is d)
 
 -- where the plain plan's lines are put
-abbrev told : tie.After-put-plan → tie.After-enum-told
+abbrev told : tie.After-put_plan-next → tie.In-Admitted
 told l = l.before.before
 
-analyse-requires : tie.Need-analyse-requires
+analyse-requires : tie.Need-analyse-table-requires
 analyse-requires c κs = search rules
 
-verdict-of-requires : tie.Need-verdict-of-requires
+verdict-of-requires : tie.Need-verdict_of-answer-requires
 verdict-of-requires c κs = usable c
 
-enum_told : tie.Need-enum-told
+enum_told : tie.Need-enum_told-1
 enum_told c = search rules
 
-enum-told-2 : tie.Need-enum-told-2
+enum-told-2 : tie.Need-enum_told-in_default
 enum-told-2 c = search rules
 
 number-requires : tie.Need-number-requires
@@ -60,44 +60,44 @@ number-requires c κs = search rules
 place-requires : tie.Need-place-requires
 place-requires c κs = search rules
 
-put-verdict-requires : tie.Need-put-verdict-requires
+put-verdict-requires : tie.Need-put_verdict-requires
 put-verdict-requires c κs = search rules
 
-same_length : tie.Need-same-length
+same_length : tie.Need-shape_of-out-in_default
 same_length c = search rules
 
-returns : tie.Need-returns
+returns : tie.Need-returns-in_default
 returns c =
     let v = c.before.before in
     let p = v.before.before in
     let n = p.before in
     let z = n.before.before.before in
-    rendered-refused (file z.before) z.verdict-of.result (judged z) n.number.result p.place.result
-    n.number.ensures p.place.ensures _ n.before.enum-told2.given.1 v.put-verdict.ensures
+    rendered-refused (file z.before) z.verdict_of-answer.result (judged z) n.number.result p.place.result
+    n.number.ensures p.place.ensures _ n.before.enum_told-in_default-1.given.1 v.put_verdict.ensures
 
-put-plan-requires : tie.Need-put-plan-requires
+put-plan-requires : tie.Need-put_plan-next-requires
 put-plan-requires c κs = let d = c.before in (usable (opened d).before, zero_is d, omega arith)
 
-put-plan-requires-2 : tie.Need-put-plan-requires-2
+put-plan-requires-2 : tie.Need-put_plan-requires
 put-plan-requires-2 c κs =
     let l = c.before.before.before in
     let d = told l in
-    (usable (opened d).before, zero_is d, omega (arith, (l.put-plan.ensures _ (accepted d)).2.1))
+    (usable (opened d).before, zero_is d, omega (arith, (l.put_plan-next.ensures _ (accepted d)).2.1))
 
-same-length-2 : tie.Need-same-length-2
+same-length-2 : tie.Need-shape_of-out
 same-length-2 c = search rules
 
-returns-2 : tie.Need-returns-2
+returns-2 : tie.Need-returns
 returns-2 c =
     let m = c.before.before in
     let l = m.before.before.before.before in
     let d = told l in
     let z = opened d in
-    rendered-admitted (file z.before) z.verdict-of.result (judged z) _ _ _ _ _ _ d.enum_told.given.1
-    (l.put-plan.ensures _ (accepted d)) (m.put-plan2.ensures _ (accepted d))
+    rendered-admitted (file z.before) z.verdict_of-answer.result (judged z) _ _ _ _ _ _ d.enum_told-1.given.1
+    (l.put_plan-next.ensures _ (accepted d)) (m.put_plan.ensures _ (accepted d))
 
-pub render-plain-spec : {M : Type 1} → statement M
-render-plain-spec =
+pub render_plain_spec : {M : Type 1} → statement M
+render_plain_spec =
     tie.close
     (tie.spec
     analyse-requires

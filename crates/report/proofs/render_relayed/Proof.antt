@@ -14,25 +14,25 @@ use Rattle.report.proofs.Printed.{read_input, rendered_asked}
 use Rattle.report.proofs.render_relayed.Statement.{statement}
 use Rattle.report.proofs.render_relayed.Tie as tie
 
-abbrev entry : tie.After-least → tie.Start
+abbrev entry : tie.After-least-read → tie.Start
 entry z = z.before.before.before
 
-abbrev file : tie.After-least → List ℕ
-file z = take z.least.result (entry z).args.input.now
+abbrev file : tie.After-least-read → List ℕ
+file z = take z.least-read.result (entry z).args.input.now
 
-least-requires : tie.Need-least-requires
+least-requires : tie.Need-least-read-requires
 least-requires c κs = search rules
 
-slice-aggregate-analyse : tie.Need-slice-aggregate-analyse
+slice-aggregate-analyse : tie.Need-slice_bounds-analyse-end
 slice-aggregate-analyse c = sym (length-take-le _ _ (omega arith))
 
 analyse-requires : tie.Need-analyse-requires
 analyse-requires c κs = search rules
 
-put-analysis-requires : tie.Need-put-analysis-requires
+put-analysis-requires : tie.Need-put_analysis-requires
 put-analysis-requires c κs = usable (relayed_ask _ _) c.before.analyse.ensures
 
-same_length : tie.Need-same-length
+same_length : tie.Need-shape_of-out
 same_length c = search rules
 
 returns : tie.Need-returns
@@ -42,11 +42,11 @@ returns c =
     let z = A.before.before in
     let a = (entry z).args in
     let w = P.put-analysis in
-    subst (λ (f : List ℕ). RenderedFor (relayed_ask f a.relay) a.out.now w.new.1.0 w.result)
-    (read_input a.input.now _ z.least.ensures)
-    (rendered_asked (relayed_ask (file z) a.relay) (relayed-numbered (file z) a.relay) A.analyse.ensures a.out.now _ _
+    subst (λ (f : List ℕ). RenderedFor (relayed_ask f a.relay) a.out-1.now w.new.1.0 w.result)
+    (read_input a.input.now _ z.least-read.ensures)
+    (rendered_asked (relayed_ask (file z) a.relay) (relayed-numbered (file z) a.relay) A.analyse.ensures a.out-1.now _ _
     w.ensures)
 
-pub render-relayed-spec : {M : Type 1} → statement M
-render-relayed-spec =
+pub render_relayed_spec : {M : Type 1} → statement M
+render_relayed_spec =
     tie.close (tie.spec least-requires slice-aggregate-analyse analyse-requires put-analysis-requires same_length returns)

@@ -32,39 +32,39 @@ module _ (m a b e : ℕ) {x y on : ℕ} (p : x ≡ a) (q : y ≡ e) (s : on ≡ 
       none : T (ltb 0 there) → ⊥
       none h = omega (arith, ltb→lt 0 there h, steps-there, l)
 
-mirrored-requires : tie.Need-mirrored-requires
+mirrored-requires : tie.Need-mirrored-start-requires
 mirrored-requires c κs = search rules
 
-mirrored-requires-2 : tie.Need-mirrored-requires-2
+mirrored-requires-2 : tie.Need-mirrored-requires
 mirrored-requires-2 c κs = search rules
 
-steps-requires : tie.Need-steps-requires
+steps-requires : tie.Need-steps-on-requires
 steps-requires c κs = search rules
 
-mirrored-requires-3 : tie.Need-mirrored-requires-3
+mirrored-requires-3 : tie.Need-mirrored-requires-then-on-gt0
 mirrored-requires-3 c κs = search rules
 
-steps-requires-2 : tie.Need-steps-requires-2
+steps-requires-2 : tie.Need-steps-requires
 steps-requires-2 c κs = search rules
 
-returns : tie.Need-returns
+returns : tie.Need-returns-then-on-gt0
 returns c =
     let way = c.before.before in
     let S = way.before in
     let g = S.before.before.before.args in
     let mirrored = mirror g.m g.way in
-    on-way g.m (mirrored g.from) (mirrored g.to) (mirrored g.e) S.before.before.mirrored.ensures.0
-    S.before.mirrored2.ensures.0 S.steps.ensures.0 c.before.mirrored3.ensures.0 c.steps2.ensures.0 way.if1.true
+    on-way g.m (mirrored g.from) (mirrored g.to) (mirrored g.e) S.before.before.mirrored-start.ensures.0
+    S.before.mirrored.ensures.0 S.steps-on.ensures.0 c.before.mirrored-then-on-gt0.ensures.0 c.steps.ensures.0 way.if-on-gt0.true
 
-returns-2 : tie.Need-returns-2
+returns-2 : tie.Need-returns-else-on-gt0
 returns-2 c =
     let S = c.before in
     let g = S.before.before.before.args in
     let mirrored = mirror g.m g.way in
-    not_on g.m (mirrored g.from) (mirrored g.to) (mirrored g.e) S.before.before.mirrored.ensures.0
-    S.before.mirrored2.ensures.0 S.steps.ensures.0 c.if1.false
+    not_on g.m (mirrored g.from) (mirrored g.to) (mirrored g.e) S.before.before.mirrored-start.ensures.0
+    S.before.mirrored.ensures.0 S.steps-on.ensures.0 c.if-on-gt0.false
 
-pub goes-through-spec : {M : Type 1} → statement M
-goes-through-spec =
+pub goes_through_spec : {M : Type 1} → statement M
+goes_through_spec =
     tie.close
     (tie.spec mirrored-requires mirrored-requires-2 steps-requires mirrored-requires-3 steps-requires-2 returns returns-2)

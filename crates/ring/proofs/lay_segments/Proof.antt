@@ -9,60 +9,60 @@ use Rattle.ring.specs.Route as route
 use Rattle.ring.proofs.lay_segments.Statement.{statement}
 use Rattle.ring.proofs.lay_segments.Tie as tie
 
-abbrev invariant-loop : tie.invariant-loop
+abbrev invariant-loop : tie.invariant-loop-i
 invariant-loop elements rows first second way words₀ i₀ words i =
     (i ≤ rows) × ByRow i (λ k. route.rowSegments elements (at way k) (at first k) (at second k)) words
 
-abbrev decreases-loop : tie.decreases-loop
+abbrev decreases-loop : tie.decreases-loop-i
 decreases-loop elements rows first second way words₀ i₀ words i = rows - i
 
-loop-holds : tie.Need-loop-init invariant-loop decreases-loop
+loop-holds : tie.Need-loop-i-init invariant-loop decreases-loop
 loop-holds c = (omega arith, by_row_start _)
 
-end-at-requires : tie.Need-end-at-requires invariant-loop decreases-loop
+end-at-requires : tie.Need-end_at-requires invariant-loop decreases-loop
 end-at-requires c κs = omega arith
 
-end-at-requires-2 : tie.Need-end-at-requires-2 invariant-loop decreases-loop
+end-at-requires-2 : tie.Need-end_at-requires-in-loop-i invariant-loop decreases-loop
 end-at-requires-2 c κs = omega arith
 
-end-at-requires-3 : tie.Need-end-at-requires-3 invariant-loop decreases-loop
+end-at-requires-3 : tie.Need-end_at-requires-in-loop-i-2 invariant-loop decreases-loop
 end-at-requires-3 c κs = omega arith
 
-row-segments-requires : tie.Need-row-segments-requires invariant-loop decreases-loop
+row-segments-requires : tie.Need-row_segments-requires invariant-loop decreases-loop
 row-segments-requires c κs =
     let R = c.before.before.before.before.before.requires in
-    let i = c.before.before.before.before.loop.i in
+    let i = c.before.before.before.before.loop-i.i in
     omega (arith, R.starts i (omega arith), R.ends i (omega arith))
 
-mul_words : tie.Need-overflow-mul-words invariant-loop decreases-loop
+mul_words : tie.Need-offset_bounds-words-i invariant-loop decreases-loop
 mul_words c = omega arith
 
-array-write-words : tie.Need-array-write-words invariant-loop decreases-loop
+array-write-words : tie.Need-bounds-words-i invariant-loop decreases-loop
 array-write-words c = omega arith
 
-add-i : tie.Need-overflow-add-i invariant-loop decreases-loop
+add-i : tie.Need-overflow_add-i invariant-loop decreases-loop
 add-i c = omega arith
 
-loop-less : tie.Need-loop-smaller invariant-loop decreases-loop
+loop-less : tie.Need-loop-i-smaller invariant-loop decreases-loop
 loop-less c = omega arith
 
-loop-again : tie.Need-loop-preserved invariant-loop decreases-loop
+loop-again : tie.Need-loop-i-preserved invariant-loop decreases-loop
 loop-again c =
     let z = c.before.before.before.before.before.before.args in
-    let inv = c.before.before.before.before.before.loop.invariant in (
+    let inv = c.before.before.before.before.before.loop-i.invariant in (
       omega arith,
       by_row_put _ inv.1 (omega arith)
-          (c.row-segments.ensures
-          ∙ rw (c.before.before.before.end-at.ensures, c.before.before.end-at2.ensures, c.before.end-at3.ensures)),
+          (c.row_segments.ensures
+          ∙ rw (c.before.before.before.end_at.ensures, c.before.before.end_at-in-loop-i.ensures, c.before.end_at-in-loop-i-2.ensures)),
     )
 
 returns : tie.Need-returns invariant-loop decreases-loop
 returns c =
-    let all : c.before.loop.i ≡ c.before.before.args.rows = omega arith in
-    rw all at c.before.loop.invariant.1
+    let all : c.before.loop-i.i ≡ c.before.before.args.rows = omega arith in
+    rw all at c.before.loop-i.invariant.1
 
-pub lay-segments-spec : {M : Type 1} → statement M
-lay-segments-spec =
+pub lay_segments_spec : {M : Type 1} → statement M
+lay_segments_spec =
     tie.close
     (tie.spec
     invariant-loop

@@ -9,10 +9,10 @@ use Rattle.ring.proofs.row_element.Tie as tie
 mirrored-requires : tie.Need-mirrored-requires
 mirrored-requires c κs = search rules
 
-line-element-requires : tie.Need-line-element-requires
+line-element-requires : tie.Need-line_element-requires
 line-element-requires c κs = search rules
 
-on-both-requires : tie.Need-on-both-requires
+on-both-requires : tie.Need-on_both-requires
 on-both-requires c κs = search rules
 
 returns : tie.Need-returns
@@ -22,9 +22,9 @@ returns c =
     let a = z.before.args in (
       c.on_both.ensures.0
           ∙ ap (λ (k : ℕ). a.d * (a.m + 1) + k)
-          (c.before.line-element.ensures.0 ∙ ap (line_element a.m a.cut) z.mirrored.ensures.0),
+          (c.before.line_element.ensures.0 ∙ ap (line_element a.m a.cut) z.mirrored.ensures.0),
       c.on_both.ensures.1,
     )
 
-pub row-element-spec : {M : Type 1} → statement M
-row-element-spec = tie.close (tie.spec mirrored-requires line-element-requires on-both-requires returns)
+pub row_element_spec : {M : Type 1} → statement M
+row_element_spec = tie.close (tie.spec mirrored-requires line-element-requires on-both-requires returns)

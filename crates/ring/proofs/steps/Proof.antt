@@ -5,17 +5,17 @@ use Rattle.ring.proofs.Clockwise.{steps_on, steps_round}
 use Rattle.ring.proofs.steps.Statement.{statement}
 use Rattle.ring.proofs.steps.Tie as tie
 
-add-result : tie.Need-overflow-add-result
+add-result : tie.Need-overflow_add-result
 add-result c = search rules
 
-sub-result : tie.Need-overflow-sub-result
+sub-result : tie.Need-overflow_sub-result-else-from-to
 sub-result c = search rules
 
-returns : tie.Need-returns
-returns c = omega (arith, steps_on c.before.requires.1 c.before.requires.2 c.if1.true)
+returns : tie.Need-returns-then-from-to
+returns c = omega (arith, steps_on c.before.requires.1 c.before.requires.2 c.if-from-to.true)
 
-returns-2 : tie.Need-returns-2
-returns-2 c = omega (arith, steps_round c.before.requires.1 c.before.requires.2 c.if1.false)
+returns-2 : tie.Need-returns-else-from-to
+returns-2 c = omega (arith, steps_round c.before.requires.1 c.before.requires.2 c.if-from-to.false)
 
-pub steps-spec : {M : Type 1} → statement M
-steps-spec = tie.close (tie.spec add-result sub-result returns returns-2)
+pub steps_spec : {M : Type 1} → statement M
+steps_spec = tie.close (tie.spec add-result sub-result returns returns-2)

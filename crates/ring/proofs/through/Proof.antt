@@ -5,13 +5,13 @@ use Rattle.ring.proofs.Cut.{stretch_shows}
 use Rattle.ring.proofs.through.Statement.{statement}
 use Rattle.ring.proofs.through.Tie as tie
 
-add-stretch : tie.Need-overflow-add-stretch
+add-stretch : tie.Need-overflow_add-from
 add-stretch c = search rules
 
 steps-requires : tie.Need-steps-requires
 steps-requires c κs = search rules
 
-add-stretch-2 : tie.Need-overflow-add-stretch-2
+add-stretch-2 : tie.Need-overflow_add-from-2
 add-stretch-2 c = search rules
 
 stretch-requires : tie.Need-stretch-requires
@@ -22,5 +22,5 @@ returns c =
     let p = c.before.before.requires in
     stretch_shows 1 p.1 p.2 (rw c.before.steps.ensures.0 at c.stretch.ensures)
 
-pub through-spec : {M : Type 1} → statement M
-through-spec = tie.close (tie.spec add-stretch steps-requires add-stretch-2 stretch-requires returns)
+pub through_spec : {M : Type 1} → statement M
+through_spec = tie.close (tie.spec add-stretch steps-requires add-stretch-2 stretch-requires returns)

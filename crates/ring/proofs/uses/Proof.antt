@@ -7,7 +7,7 @@ use Rattle.ring.proofs.uses.Tie as tie
 steps-requires : tie.Need-steps-requires
 steps-requires c κs = search rules
 
-add-stretch : tie.Need-overflow-add-stretch
+add-stretch : tie.Need-overflow_add-from
 add-stretch c = search rules
 
 stretch-requires : tie.Need-stretch-requires
@@ -18,5 +18,5 @@ returns c =
     let p = c.before.before.requires in
     uses_shows p.1 p.2 (rw c.before.steps.ensures.0 at c.stretch.ensures)
 
-pub uses-spec : {M : Type 1} → statement M
-uses-spec = tie.close (tie.spec steps-requires add-stretch stretch-requires returns)
+pub uses_spec : {M : Type 1} → statement M
+uses_spec = tie.close (tie.spec steps-requires add-stretch stretch-requires returns)

@@ -6,10 +6,10 @@ use borrow.Author.Rules.{rules}
 use Rattle.session.proofs.one.Statement.{statement}
 use Rattle.session.proofs.one.Tie as tie
 
-find-requires : tie.Need-find-requires
+find-requires : tie.Need-find-end-requires
 find-requires c κs = search rules
 
-sub-numbers : tie.Need-overflow-sub-numbers
+sub-numbers : tie.Need-slice_bounds-numbers-count
 sub-numbers c = search rules
 
 part-numbers-start : tie.Need-slice-bounds-numbers-start
@@ -18,13 +18,13 @@ part-numbers-start c = search rules
 part-numbers-end : tie.Need-slice-bounds-numbers-end
 part-numbers-end c = search rules
 
-slice-aggregate-numbers : tie.Need-slice-aggregate-numbers
+slice-aggregate-numbers : tie.Need-slice_bounds-numbers-end-2
 slice-aggregate-numbers c = search rules
 
-numbers-requires : tie.Need-numbers-requires
+numbers-requires : tie.Need-numbers-count-requires
 numbers-requires c κs = search rules
 
-sub-are-numbers : tie.Need-overflow-sub-are-numbers
+sub-are-numbers : tie.Need-slice_bounds-are_numbers-count
 sub-are-numbers c = search rules
 
 part-are-numbers-start : tie.Need-slice-bounds-are-numbers-start
@@ -33,22 +33,22 @@ part-are-numbers-start c = search rules
 part-are-numbers-end : tie.Need-slice-bounds-are-numbers-end
 part-are-numbers-end c = search rules
 
-are-numbers-requires : tie.Need-are-numbers-requires
+are-numbers-requires : tie.Need-are_numbers-requires
 are-numbers-requires c κs = search rules
 
-slice-aggregate-call : tie.Need-slice-aggregate-call
+slice-aggregate-call : tie.Need-slice_bounds-call-end
 slice-aggregate-call c = sym (length-take-le _ _ (omega arith))
 
-array-share-prefix-given : tie.Need-array-share-prefix-given
+array-share-prefix-given : tie.Need-slice_bounds-given-end
 array-share-prefix-given c = search rules
 
-slice-aggregate-call-2 : tie.Need-slice-aggregate-call-2
+slice-aggregate-call-2 : tie.Need-slice_bounds-call-end-then-are_numbers
 slice-aggregate-call-2 c = sym (length-take-le _ _ (omega arith))
 
 call-requires : tie.Need-call-requires
 call-requires c κs = search rules
 
-returns : tie.Need-returns
+returns : tie.Need-returns-then-are_numbers
 returns c = search rules
 
 slice-aggregate-print-line : tie.Need-slice-aggregate-print-line
@@ -57,10 +57,10 @@ slice-aggregate-print-line c = search rules
 slice-aggregate-print-line-2 : tie.Need-slice-aggregate-print-line-2
 slice-aggregate-print-line-2 c = search rules
 
-print-line-requires : tie.Need-print-line-requires
+print-line-requires : tie.Need-print_line-requires
 print-line-requires c κs = search rules
 
-returns-2 : tie.Need-returns-2
+returns-2 : tie.Need-returns
 returns-2 c = search rules
 
 pub one_spec : {M : Type 1} → statement M

@@ -34,177 +34,177 @@ use Rattle.sets.proofs.Loops.{
 use Rattle.sets.proofs.list_sets.Statement.{statement}
 use Rattle.sets.proofs.list_sets.Tie as tie
 
-abbrev invariant-loop : tie.invariant-loop
+abbrev invariant-loop : tie.invariant-loop-i
 invariant-loop first second rows top starts₀ ends₀ i₀ starts ends i =
     (i ≤ rows) × Filling line_size i (at first) starts × Filling line_size i (at second) ends
 
-abbrev decreases-loop : tie.decreases-loop
+abbrev decreases-loop : tie.decreases-loop-i
 decreases-loop first second rows top starts₀ ends₀ i₀ starts ends i = rows - i
 
-abbrev invariant-loop2 : tie.invariant-loop2
+abbrev invariant-loop2 : tie.invariant-loop-e
 invariant-loop2 first second rows top starts ends i words₀ count₀ started₀ across₀ e₀ words count started across e =
     (e ≤ top + 1) × Walked rows (at first) (at second) e words₀ started count words
     × (across ≡ across_word rows (at first) (at second) e)
 
-abbrev decreases-loop2 : tie.decreases-loop2
+abbrev decreases-loop2 : tie.decreases-loop-e
 decreases-loop2 first second rows top starts ends i words₀ count₀ started₀ across₀ e₀ words count started across e = (top + 1) - e
 
 -- ---- the rows by their ends
 
-loop-holds : tie.Need-loop-init invariant-loop decreases-loop invariant-loop2 decreases-loop2
+loop-holds : tie.Need-loop-i-init invariant-loop decreases-loop invariant-loop2 decreases-loop2
 loop-holds c = (omega arith, filling_start line_size _, filling_start line_size _)
 
-end-at-requires : tie.Need-end-at-requires invariant-loop decreases-loop invariant-loop2 decreases-loop2
+end-at-requires : tie.Need-end_at-from-requires invariant-loop decreases-loop invariant-loop2 decreases-loop2
 end-at-requires c κs = omega (arith, c.before.before.requires.few)
 
-end-at-requires-2 : tie.Need-end-at-requires-2 invariant-loop decreases-loop invariant-loop2 decreases-loop2
+end-at-requires-2 : tie.Need-end_at-to-requires invariant-loop decreases-loop invariant-loop2 decreases-loop2
 end-at-requires-2 c κs = omega (arith, c.before.before.before.requires.few)
 
 -- both ends of row i are on the line
-places : (c : tie.After-end-at2 invariant-loop decreases-loop invariant-loop2 decreases-loop2)
-    → (c.before.end-at.result < line_size) × (c.end-at2.result < line_size)
+places : (c : tie.After-end_at-to invariant-loop decreases-loop invariant-loop2 decreases-loop2)
+    → (c.before.end_at-from.result < line_size) × (c.end_at-to.result < line_size)
 places c =
     let z = c.before.before.before in
-    let i = z.loop.i in
+    let i = z.loop-i.i in
     let O = z.before.requires in
     let l : i < z.before.args.rows = omega arith in (
-      omega (arith, c.before.end-at.ensures, O.line i l, O.within i l, O.short),
-      omega (arith, c.end-at2.ensures, O.within i l, O.short),
+      omega (arith, c.before.end_at-from.ensures, O.line i l, O.within i l, O.short),
+      omega (arith, c.end_at-to.ensures, O.within i l, O.short),
     )
 
-mul-starts : tie.Need-overflow-mul-starts invariant-loop decreases-loop invariant-loop2 decreases-loop2
+mul-starts : tie.Need-offset_bounds-starts-from invariant-loop decreases-loop invariant-loop2 decreases-loop2
 mul-starts c = omega (arith, places c)
 
-array-read-starts : tie.Need-array-read-starts invariant-loop decreases-loop invariant-loop2 decreases-loop2
-array-read-starts c = omega (arith, places c, c.before.before.before.loop.invariant.1.size)
+array-read-starts : tie.Need-bounds-starts-from invariant-loop decreases-loop invariant-loop2 decreases-loop2
+array-read-starts c = omega (arith, places c, c.before.before.before.loop-i.invariant.1.size)
 
-shl-starts : tie.Need-overflow-shl-starts invariant-loop decreases-loop invariant-loop2 decreases-loop2
+shl-starts : tie.Need-overflow_shl-starts invariant-loop decreases-loop invariant-loop2 decreases-loop2
 shl-starts c = omega (arith, c.before.before.before.before.requires.few)
 
-mul-starts-2 : tie.Need-overflow-mul-starts-2 invariant-loop decreases-loop invariant-loop2 decreases-loop2
+mul-starts-2 : tie.Need-offset_bounds-starts-from-in-loop-i invariant-loop decreases-loop invariant-loop2 decreases-loop2
 mul-starts-2 c = omega (arith, places c)
 
-array-write-starts : tie.Need-array-write-starts invariant-loop decreases-loop invariant-loop2 decreases-loop2
-array-write-starts c = omega (arith, places c, c.before.before.before.loop.invariant.1.size)
+array-write-starts : tie.Need-bounds-starts-from-in-loop-i invariant-loop decreases-loop invariant-loop2 decreases-loop2
+array-write-starts c = omega (arith, places c, c.before.before.before.loop-i.invariant.1.size)
 
-mul-ends : tie.Need-overflow-mul-ends invariant-loop decreases-loop invariant-loop2 decreases-loop2
+mul-ends : tie.Need-offset_bounds-ends-to invariant-loop decreases-loop invariant-loop2 decreases-loop2
 mul-ends c = omega (arith, places c)
 
-array-read-ends : tie.Need-array-read-ends invariant-loop decreases-loop invariant-loop2 decreases-loop2
-array-read-ends c = omega (arith, places c, c.before.before.before.loop.invariant.2.size)
+array-read-ends : tie.Need-bounds-ends-to invariant-loop decreases-loop invariant-loop2 decreases-loop2
+array-read-ends c = omega (arith, places c, c.before.before.before.loop-i.invariant.2.size)
 
-shl-ends : tie.Need-overflow-shl-ends invariant-loop decreases-loop invariant-loop2 decreases-loop2
+shl-ends : tie.Need-overflow_shl-ends invariant-loop decreases-loop invariant-loop2 decreases-loop2
 shl-ends c = omega (arith, c.before.before.before.before.requires.few)
 
-mul-ends-2 : tie.Need-overflow-mul-ends-2 invariant-loop decreases-loop invariant-loop2 decreases-loop2
+mul-ends-2 : tie.Need-offset_bounds-ends-to-in-loop-i invariant-loop decreases-loop invariant-loop2 decreases-loop2
 mul-ends-2 c = omega (arith, places c)
 
-array-write-ends : tie.Need-array-write-ends invariant-loop decreases-loop invariant-loop2 decreases-loop2
-array-write-ends c = omega (arith, places c, c.before.before.before.loop.invariant.2.size)
+array-write-ends : tie.Need-bounds-ends-to-in-loop-i invariant-loop decreases-loop invariant-loop2 decreases-loop2
+array-write-ends c = omega (arith, places c, c.before.before.before.loop-i.invariant.2.size)
 
-add-i : tie.Need-overflow-add-i invariant-loop decreases-loop invariant-loop2 decreases-loop2
+add-i : tie.Need-overflow_add-i invariant-loop decreases-loop invariant-loop2 decreases-loop2
 add-i c = omega arith
 
-loop-less : tie.Need-loop-smaller invariant-loop decreases-loop invariant-loop2 decreases-loop2
+loop-less : tie.Need-loop-i-smaller invariant-loop decreases-loop invariant-loop2 decreases-loop2
 loop-less c = omega arith
 
-loop-again : tie.Need-loop-preserved invariant-loop decreases-loop invariant-loop2 decreases-loop2
+loop-again : tie.Need-loop-i-preserved invariant-loop decreases-loop invariant-loop2 decreases-loop2
 loop-again c =
     let z = c.before.before.before in
     let few = z.before.requires.few in (
       omega arith,
-      filling_next _ z.loop.invariant.1 (omega (arith, few)) c.before.end-at.ensures (places c).0,
-      filling_next _ z.loop.invariant.2 (omega (arith, few)) c.end-at2.ensures (places c).1,
+      filling_next _ z.loop-i.invariant.1 (omega (arith, few)) c.before.end_at-from.ensures (places c).0,
+      filling_next _ z.loop-i.invariant.2 (omega (arith, few)) c.end_at-to.ensures (places c).1,
     )
 
 -- ---- the walk
 
 -- what stands at e, and the walk so far
-at-e : (c : tie.In-loop2 invariant-loop decreases-loop invariant-loop2 decreases-loop2)
+at-e : (c : tie.In-loop-e invariant-loop decreases-loop invariant-loop2 decreases-loop2)
     → let a = c.before.before.before.before.args in
-    let l = c.before.loop2 in
+    let l = c.before.loop-e in
     let f = at a.first.now in
     let s = at a.second.now in Here a.rows f s l.e (ends_at a.rows f l.e) (ends_at a.rows s l.e) l.across
-at-e c = here _ _ _ _ _ c.before.loop2.invariant.2
+at-e c = here _ _ _ _ _ c.before.loop-e.invariant.2
 
-on_line : (c : tie.In-loop2 invariant-loop decreases-loop invariant-loop2 decreases-loop2) → c.before.loop2.e < line_size
+on_line : (c : tie.In-loop-e invariant-loop decreases-loop invariant-loop2 decreases-loop2) → c.before.loop-e.e < line_size
 on_line c = omega (arith, c.before.before.before.before.requires.short)
 
 -- a row ends at e, or none does
-ends : (c : tie.In-loop2 invariant-loop decreases-loop invariant-loop2 decreases-loop2)
+ends : (c : tie.In-loop-e invariant-loop decreases-loop invariant-loop2 decreases-loop2)
     → let a = c.before.before.before.before.args in
-    RowsAt a.rows (at a.second.now) c.before.before.before.loop.ends
-ends c = filling_end (omega arith) c.before.before.before.loop.invariant.2
+    RowsAt a.rows (at a.second.now) c.before.before.before.loop-i.ends
+ends c = filling_end (omega arith) c.before.before.before.loop-i.invariant.2
 
-starts : (c : tie.In-loop2 invariant-loop decreases-loop invariant-loop2 decreases-loop2)
+starts : (c : tie.In-loop-e invariant-loop decreases-loop invariant-loop2 decreases-loop2)
     → let a = c.before.before.before.before.args in
-    RowsAt a.rows (at a.first.now) c.before.before.before.loop.starts
-starts c = filling_end (omega arith) c.before.before.before.loop.invariant.1
+    RowsAt a.rows (at a.first.now) c.before.before.before.loop-i.starts
+starts c = filling_end (omega arith) c.before.before.before.loop-i.invariant.1
 
-loop2-holds : tie.Need-loop2-init invariant-loop decreases-loop invariant-loop2 decreases-loop2
+loop2-holds : tie.Need-loop-e-init invariant-loop decreases-loop invariant-loop2 decreases-loop2
 loop2-holds c = (omega arith, walked_start _ _ _ _, across_start _ _ _)
 
-mul-starting : tie.Need-overflow-mul-starting invariant-loop decreases-loop invariant-loop2 decreases-loop2
+mul-starting : tie.Need-offset_bounds-starts-e invariant-loop decreases-loop invariant-loop2 decreases-loop2
 mul-starting c = omega (arith, on_line c)
 
-array-read-starting : tie.Need-array-read-starting invariant-loop decreases-loop invariant-loop2 decreases-loop2
+array-read-starting : tie.Need-bounds-starts-e invariant-loop decreases-loop invariant-loop2 decreases-loop2
 array-read-starting c = omega (arith, on_line c, (starts c).size)
 
-mul-ending : tie.Need-overflow-mul-ending invariant-loop decreases-loop invariant-loop2 decreases-loop2
+mul-ending : tie.Need-offset_bounds-ends-e invariant-loop decreases-loop invariant-loop2 decreases-loop2
 mul-ending c = omega (arith, on_line c)
 
-array-read-ending : tie.Need-array-read-ending invariant-loop decreases-loop invariant-loop2 decreases-loop2
+array-read-ending : tie.Need-bounds-ends-e invariant-loop decreases-loop invariant-loop2 decreases-loop2
 array-read-ending c = omega (arith, on_line c, (ends c).size)
 
-has_room : (c : tie.Then2 invariant-loop decreases-loop invariant-loop2 decreases-loop2)
-    → c.before.before.before.loop2.count < c.before.before.before.before.before.before.args.rows
+has_room : (c : tie.Then-started invariant-loop decreases-loop invariant-loop2 decreases-loop2)
+    → c.before.before.before.loop-e.count < c.before.before.before.before.before.before.args.rows
 has_room c =
     let d = c.before.before in
-    walked-room d.before.loop2.invariant.1 (at-e d) (some-there (ends d) _ (on_line d) c.before.if1.true) c.if2.true
+    walked-room d.before.loop-e.invariant.1 (at-e d) (some-there (ends d) _ (on_line d) c.before.if-ending-ne0.true) c.if-started.true
 
-mul_words : tie.Need-overflow-mul-words invariant-loop decreases-loop invariant-loop2 decreases-loop2
+mul_words : tie.Need-offset_bounds-words-count invariant-loop decreases-loop invariant-loop2 decreases-loop2
 mul_words c = omega (arith, has_room c)
 
-array-write-words : tie.Need-array-write-words invariant-loop decreases-loop invariant-loop2 decreases-loop2
+array-write-words : tie.Need-bounds-words-count invariant-loop decreases-loop invariant-loop2 decreases-loop2
 array-write-words c = omega (arith, has_room c)
 
-add-count : tie.Need-overflow-add-count invariant-loop decreases-loop invariant-loop2 decreases-loop2
+add-count : tie.Need-overflow_add-count invariant-loop decreases-loop invariant-loop2 decreases-loop2
 add-count c = omega (arith, has_room c)
 
-add-e : tie.Need-overflow-add-e invariant-loop decreases-loop invariant-loop2 decreases-loop2
+add-e : tie.Need-overflow_add-e invariant-loop decreases-loop invariant-loop2 decreases-loop2
 add-e c = omega arith
 
-loop2-less : tie.Need-loop2-smaller invariant-loop decreases-loop invariant-loop2 decreases-loop2
+loop2-less : tie.Need-loop-e-smaller invariant-loop decreases-loop invariant-loop2 decreases-loop2
 loop2-less c = omega arith
 
-loop2-again : tie.Need-loop2-preserved invariant-loop decreases-loop invariant-loop2 decreases-loop2
+loop2-again : tie.Need-loop-e-preserved invariant-loop decreases-loop invariant-loop2 decreases-loop2
 loop2-again c =
     let d = c.before.before in
     let z = d.before.before.before.before in
-    let W = d.before.loop2.invariant.1 in
+    let W = d.before.loop-e.invariant.1 in
     let H = at-e d in
     let S = starts d in
     let some = some-there (ends d) _ (on_line d) in
     let ended : Ended _ _ _ _ _ _ _ _ =
     ⊎_elim
-    (λ w. ended_as w.2 w.3 w.4 (ended-put W H (some w.0.taken) w.1.taken z.requires.few))
+    (λ w. ended_as w.2 w.3 w.4 (ended-put W H (some w.0.true) w.1.true z.requires.few))
     (λ v. ⊎_elim
-    (λ w. ended_as w.2 w.3 w.4 (ended-none W H (some w.0.taken) w.1.left))
+    (λ w. ended_as w.2 w.3 w.4 (ended-none W H (some w.0.true) w.1.left))
     (λ w. ended_as w.1 w.2 w.3 (ended-still W H (none-there (ends d) _ (on_line d) w.0.left)))
     v)
-    c.before.if1.branch in (
+    c.before.if-ending-ne0.branch in (
       omega arith,
-      ⊎_elim (λ w. walked-starts ended H (some-there S _ (on_line d) w.0.taken) w.1)
+      ⊎_elim (λ w. walked-starts ended H (some-there S _ (on_line d) w.0.true) w.1)
           (λ w. walked_on ended H (none-there S _ (on_line d) w.0.left) w.1)
-          c.if3.branch,
-      across-next z.requires.line S (ends d) _ _ (on_line d) d.before.loop2.invariant.2,
+          c.if-starting-ne0.branch,
+      across-next z.requires.line S (ends d) _ _ (on_line d) d.before.loop-e.invariant.2,
     )
 
 returns : tie.Need-returns invariant-loop decreases-loop invariant-loop2 decreases-loop2
-returns c = walked_end c.before.before.before.before.requires (omega arith) refl (zeros_at max_rows) c.before.loop2.invariant.1
+returns c = walked_end c.before.before.before.before.requires (omega arith) refl (zeros_at max_rows) c.before.loop-e.invariant.1
 
-pub list-sets-spec : {M : Type 1} → statement M
-list-sets-spec =
+pub list_sets_spec : {M : Type 1} → statement M
+list_sets_spec =
     tie.close
     (tie.spec
     invariant-loop

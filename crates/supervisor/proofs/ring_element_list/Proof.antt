@@ -10,22 +10,22 @@ use Rattle.supervisor.proofs.ring_element_list.Statement.{statement}
 use Rattle.supervisor.proofs.ring_element_list.Tie as tie
 
 -- a list that was made is short
-few : (c : tie.Else1) → c.before.before.before.before.make-file.result.entries ≤ 2 * max_slots
+few : (c : tie.Else-made-ne-DONE) → c.before.before.before.before.make_file-made.result.entries ≤ 2 * max_slots
 few c =
     let m = c.before.before.before.before in
     let z = m.before.before.before.before.before in
-    made_entries z.args.file.now _ _ list_bytes _ _ _ _ _ _ c.if1.false m.make-file.ensures
+    made_entries z.args.file.now _ _ list_bytes _ _ _ _ _ _ c.if-made-ne-DONE.false m.make_file-made.ensures
 
-make-file-requires : tie.Need-make-file-requires
+make-file-requires : tie.Need-make_file-made-requires
 make-file-requires c κs = search rules
 
 refusal-requires : tie.Need-refusal-requires
 refusal-requires c κs = search rules
 
-same_length : tie.Need-same-length
+same_length : tie.Need-shape_of-list-then-made-ne-DONE
 same_length c = search rules
 
-returns : tie.Need-returns
+returns : tie.Need-returns-then-made-ne-DONE
 returns c =
     let m = c.before.before.before.before.before in
     record {
@@ -33,21 +33,21 @@ returns c =
       place = _;
       hyper = _;
       entries = _;
-      made = m.make-file.ensures;
-      size = λ z. absurd (c.before.if1.true z);
+      made = m.make_file-made.ensures;
+      size = λ z. absurd (c.before.if-made-ne-DONE.true z);
       refused = λ z. c.refusal.ensures;
     }
 
-mul-result : tie.Need-overflow-mul-result
+mul-result : tie.Need-overflow_mul-result
 mul-result c = omega (arith, few c.before)
 
-add-result : tie.Need-overflow-add-result
+add-result : tie.Need-overflow_add-result
 add-result c = omega (arith, few c.before)
 
-same-length-2 : tie.Need-same-length-2
+same-length-2 : tie.Need-shape_of-list
 same-length-2 c = search rules
 
-returns-2 : tie.Need-returns-2
+returns-2 : tie.Need-returns
 returns-2 c =
     let m = c.before.before.before.before.before in
     record {
@@ -55,13 +55,13 @@ returns-2 c =
       place = _;
       hyper = _;
       entries = _;
-      made = m.make-file.ensures;
+      made = m.make_file-made.ensures;
       size = λ z. refl;
-      refused = λ z. absurd (z c.before.if1.false);
+      refused = λ z. absurd (z c.before.if-made-ne-DONE.false);
     }
 
-pub ring-element-list-spec : {M : Type 1} → statement M
-ring-element-list-spec =
+pub ring_element_list_spec : {M : Type 1} → statement M
+ring_element_list_spec =
     tie.close
     (tie.spec
     make-file-requires

@@ -7,25 +7,25 @@ use Rattle.rules.proofs.Small.{shared_small}
 use Rattle.supervisor.proofs.ring_shared.Statement.{statement}
 use Rattle.supervisor.proofs.ring_shared.Tie as tie
 
-meet-requires : tie.Need-meet-requires
+meet-requires : tie.Need-meet-found-requires
 meet-requires c κs = search rules
 
 joined-requires : tie.Need-joined-requires
-joined-requires c κs = shared_small _ _ _ _ _ c.before.before.meet.ensures.answers
+joined-requires c κs = shared_small _ _ _ _ _ c.before.before.meet-found.ensures.answers
 
 returns : tie.Need-returns
 returns c =
-    let m = c.before.before.before.meet.ensures in
+    let m = c.before.before.before.meet-found.ensures in
     record {
       number = _;
       place = _;
       called = record {
         answers = m.answers;
-        done = λ z. ⊎_elim (λ w. w.1 ∙ m.done z) (λ w. absurd (w.0.left z)) c.before.if1.branch;
-        refused = λ h. ⊎_elim (λ w. absurd (h w.0.taken)) (λ w. w.1) c.before.if1.branch;
+        done = λ z. ⊎_elim (λ w. w.1 ∙ m.done z) (λ w. absurd (w.0.left z)) c.before.if-found-eq-DONE.branch;
+        refused = λ h. ⊎_elim (λ w. absurd (h w.0.true)) (λ w. w.1) c.before.if-found-eq-DONE.branch;
       };
       as_one = c.joined.ensures;
     }
 
-pub ring-shared-spec : {M : Type 1} → statement M
-ring-shared-spec = tie.close (tie.spec meet-requires joined-requires returns)
+pub ring_shared_spec : {M : Type 1} → statement M
+ring_shared_spec = tie.close (tie.spec meet-requires joined-requires returns)

@@ -8,13 +8,13 @@ use Rattle.supervisor.proofs.Values.{values-refused, values-short, values-done}
 use Rattle.supervisor.proofs.ring_values.Statement.{statement}
 use Rattle.supervisor.proofs.ring_values.Tie as tie
 
-judge-requires : tie.Need-judge-requires
+judge-requires : tie.Need-judge-answer-requires
 judge-requires c κs = search rules
 
-enum-known-answer : tie.Need-enum-known-answer
+enum-known-answer : tie.Need-enum_known-answer
 enum-known-answer c = search rules
 
-enum_told : tie.Need-enum-told
+enum_told : tie.Need-enum_told-1
 enum_told c = search rules
 
 number-requires : tie.Need-number-requires
@@ -25,24 +25,24 @@ place-requires c κs = search rules
 
 joined-requires : tie.Need-joined-requires
 joined-requires c κs =
-    let s = verdict_small _ _ _ c.before.before.before.before.judge.ensures.answers in
+    let s = verdict_small _ _ _ c.before.before.before.before.judge-answer.ensures.answers in
     (omega (arith, s.0, c.before.number.ensures), omega (arith, s.1, c.place.ensures))
 
-returns : tie.Need-returns
+returns : tie.Need-returns-in_default
 returns c =
     let z = c.before.before.before.before.before.before.before.before.args in
     let j = c.before.before.before.before.before.judge in
     record {
       number = _;
       place = _;
-      called = values-refused z.file.now z.out.now j.result _ j.ensures c.before.before.before.enum_told.given.1;
+      called = values-refused z.file.now z.out-1.now j.result _ j.ensures c.before.before.before.enum_told-1.given.1;
       as_one = c.joined.ensures ∙ ap₂ c_answer c.before.before.number.ensures c.before.place.ensures;
     }
 
-joined-requires-2 : tie.Need-joined-requires-2
+joined-requires-2 : tie.Need-joined-requires-then-out-lt-VALUES
 joined-requires-2 c κs = search rules
 
-returns-2 : tie.Need-returns-2
+returns-2 : tie.Need-returns-then-out-lt-VALUES
 returns-2 c =
     let z = c.before.before.before.before.before.before.before.before.args in
     let j = c.before.before.before.before.before.judge in
@@ -50,21 +50,21 @@ returns-2 c =
       number = 17;
       place = 0;
       called =
-          values-short z.file.now z.out.now j.result _ _ _ _ _ _ j.ensures c.before.before.before.answer.given.1
-          c.before.if1.true;
-      as_one = c.joined2.ensures;
+          values-short z.file.now z.out-1.now j.result _ _ _ _ _ _ j.ensures c.before.before.before.answer-1.given.1
+          c.before.if-out-lt-VALUES.true;
+      as_one = c.joined-then-out-lt-VALUES.ensures;
     }
 
-write-values-requires : tie.Need-write-values-requires
+write-values-requires : tie.Need-write_values-requires
 write-values-requires c κs = search rules
 
-joined-requires-3 : tie.Need-joined-requires-3
+joined-requires-3 : tie.Need-joined-requires-2
 joined-requires-3 c κs = search rules
 
-same_length : tie.Need-same-length
+same_length : tie.Need-shape_of-out
 same_length c = search rules
 
-returns-3 : tie.Need-returns-3
+returns-3 : tie.Need-returns
 returns-3 c =
     let z = c.before.before.before.before.before.before.before.before.before.before.before.before.args in
     let e = c.before.before.before.before.before in
@@ -74,14 +74,14 @@ returns-3 c =
       number = 0;
       place = 0;
       called =
-          values-done z.file.now z.out.now j.result _ _ _ _ _ _ j.ensures
-          e.before.before.answer.given.1 _ e.if1.false
+          values-done z.file.now z.out-1.now j.result _ _ _ _ _ _ j.ensures
+          e.before.before.answer-1.given.1 _ e.if-out-lt-VALUES.false
           w.ensures;
-      as_one = c.joined3.ensures;
+      as_one = c.joined-2.ensures;
     }
 
-pub ring-values-spec : {M : Type 1} → statement M
-ring-values-spec =
+pub ring_values_spec : {M : Type 1} → statement M
+ring_values_spec =
     tie.close
     (tie.spec
     judge-requires

@@ -8,7 +8,7 @@ use Rattle.rules.proofs.Small.{limited_small}
 use Rattle.supervisor.proofs.ring_verdict_limited.Statement.{statement}
 use Rattle.supervisor.proofs.ring_verdict_limited.Tie as tie
 
-judge-requires : tie.Need-judge-requires
+judge-requires : tie.Need-judge-verdict-requires
 judge-requires c κs = search rules
 
 number-requires : tie.Need-number-requires
@@ -19,16 +19,16 @@ place-requires c κs = search rules
 
 joined-requires : tie.Need-joined-requires
 joined-requires c κs =
-    let s = limited_small _ _ _ _ _ c.before.before.judge.ensures.answers in
+    let s = limited_small _ _ _ _ _ c.before.before.judge-verdict.ensures.answers in
     (omega (arith, s.0, c.before.number.ensures), omega (arith, s.1, c.place.ensures))
 
 returns : tie.Need-returns
 returns c = record {
   number = _;
   place = _;
-  answers = c.before.before.before.judge.ensures.answers;
+  answers = c.before.before.before.judge-verdict.ensures.answers;
   as_one = c.joined.ensures ∙ ap₂ c_answer c.before.before.number.ensures c.before.place.ensures;
 }
 
-pub ring-verdict-limited-spec : {M : Type 1} → statement M
-ring-verdict-limited-spec = tie.close (tie.spec judge-requires number-requires place-requires joined-requires returns)
+pub ring_verdict_limited_spec : {M : Type 1} → statement M
+ring_verdict_limited_spec = tie.close (tie.spec judge-requires number-requires place-requires joined-requires returns)

@@ -8,53 +8,53 @@ use Rattle.text_reader.proofs.Lines.{Celled, celled_start, celled-next, celled-s
 use Rattle.text_reader.proofs.first_cells.Statement.{statement}
 use Rattle.text_reader.proofs.first_cells.Tie as tie
 
-abbrev invariant-loop : tie.invariant-loop
+abbrev invariant-loop : tie.invariant-loop-k
 invariant-loop line from value₀ k₀ value k = Celled (part from line) k value
 
-abbrev decreases-loop : tie.decreases-loop
+abbrev decreases-loop : tie.decreases-loop-k
 decreases-loop line from value₀ k₀ value k = 4 - k
 
-loop-holds : tie.Need-loop-init invariant-loop decreases-loop
+loop-holds : tie.Need-loop-k-init invariant-loop decreases-loop
 loop-holds c = celled_start _ _ refl
 
-cell-at-requires : tie.Need-cell-at-requires invariant-loop decreases-loop
+cell-at-requires : tie.Need-cell_at-cell-requires invariant-loop decreases-loop
 cell-at-requires c κs = c.before.before.before.requires
 
-returns : tie.Need-returns invariant-loop decreases-loop
+returns : tie.Need-returns-then-cell-ne0 invariant-loop decreases-loop
 returns c =
     let l = c.before.before in
     let u = l.before.before in
     record {
-      answers = celled-stop u.loop.invariant (omega arith) l.Cell-at.ensures c.if1.true;
-      value = λ z. absurd (c.if1.true z);
-      size = u.loop.invariant.size;
+      answers = celled-stop u.loop-k.invariant (omega arith) l.Cell-at.ensures c.if-cell-ne0.true;
+      value = λ z. absurd (c.if-cell-ne0.true z);
+      size = u.loop-k.invariant.size;
     }
 
-mul-value : tie.Need-overflow-mul-value invariant-loop decreases-loop
+mul-value : tie.Need-offset_bounds-value-k invariant-loop decreases-loop
 mul-value c = omega arith
 
-array-write-value : tie.Need-array-write-value invariant-loop decreases-loop
-array-write-value c = omega (arith, c.before.before.before.before.loop.invariant.size)
+array-write-value : tie.Need-bounds-value-k invariant-loop decreases-loop
+array-write-value c = omega (arith, c.before.before.before.before.loop-k.invariant.size)
 
-add-k : tie.Need-overflow-add-k invariant-loop decreases-loop
+add-k : tie.Need-overflow_add-k invariant-loop decreases-loop
 add-k c = omega arith
 
-loop-less : tie.Need-loop-smaller invariant-loop decreases-loop
+loop-less : tie.Need-loop-k-smaller invariant-loop decreases-loop
 loop-less c = omega arith
 
-loop-again : tie.Need-loop-preserved invariant-loop decreases-loop
+loop-again : tie.Need-loop-k-preserved invariant-loop decreases-loop
 loop-again c =
     let l = c.before.before in
-    celled-next l.before.before.loop.invariant (omega arith) l.Cell-at.ensures c.if1.false
+    celled-next l.before.before.loop-k.invariant (omega arith) l.Cell-at.ensures c.if-cell-ne0.false
 
-returns-2 : tie.Need-returns-2 invariant-loop decreases-loop
+returns-2 : tie.Need-returns invariant-loop decreases-loop
 returns-2 c =
-    let i = c.before.loop.invariant in
+    let i = c.before.loop-k.invariant in
     let a = celled_all i (omega arith) in
     record { answers = answered _ a.0; value = λ z. a.1; size = i.size }
 
-pub first-cells-spec : {M : Type 1} → statement M
-first-cells-spec =
+pub first_cells_spec : {M : Type 1} → statement M
+first_cells_spec =
     tie.close
     (tie.spec
     invariant-loop

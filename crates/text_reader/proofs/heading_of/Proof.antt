@@ -11,53 +11,53 @@ use Rattle.text_reader.proofs.heading_of.Statement.{statement}
 use Rattle.text_reader.proofs.heading_of.Tie as tie
 
 -- it begins with `elements` or `board`
-worded : (z : tie.Else1) → let a = z.before.before.before.args in (no_heading (part a.from a.line.now)).applies → ⊥
-worded z = (z.before.is-no-heading.ensures z.before.before.before.args.from).fails z.if1.false
+worded : (z : tie.Else-is_no_heading) → let a = z.before.before.before.args in (no_heading (part a.from a.line.now)).applies → ⊥
+worded z = (z.before.is_no_heading.ensures z.before.before.before.args.from).fails z.if-is_no_heading.false
 
 -- then comes a number
-cell : (z : tie.Else2)
+cell : (z : tie.Else-cell-ne0)
     → let a = z.before.before.before.before.before.before.args in
     None (number_checks (field (part a.from a.line.now) 1))
-cell z = none_of _ _ (numbers_numbered _) (rw z.if2.false at z.before.before.Cell-at.ensures.answers)
+cell z = none_of _ _ (numbers_numbered _) (rw z.if-cell-ne0.false at z.before.before.Cell-at.ensures.answers)
 
 -- and nothing else
-shape : (z : tie.Else3)
+shape : (z : tie.Else-shape-ne0)
     → let a = z.before.before.before.before.before.before.before.before.before.args in
     None (missing_field (field (part a.from a.line.now) 1) ∷ spare_field (field (part a.from a.line.now) 2) ∷ [])
-shape z = none_of _ _ (shape_numbered _ _) (rw z.if3.false at z.before.before.shape-fault.ensures)
+shape z = none_of _ _ (shape_numbered _ _) (rw z.if-shape-ne0.false at z.before.before.shape_fault-shape.ensures)
 
-is-no-heading-requires : tie.Need-is-no-heading-requires
+is-no-heading-requires : tie.Need-is_no_heading-requires
 is-no-heading-requires c κs = search rules
 
-place-of-requires : tie.Need-place-of-requires
+place-of-requires : tie.Need-place_of-requires
 place-of-requires c κs = search rules
 
-refuse-heading-requires : tie.Need-refuse-heading-requires
+refuse-heading-requires : tie.Need-refuse_heading-requires
 refuse-heading-requires c κs = search rules
 
-returns : tie.Need-returns
+returns : tie.Need-returns-then-is_no_heading
 returns c =
-    let e = c.refuse-heading.ensures in
+    let e = c.refuse_heading.ensures in
     let p = c.before in
     let w = p.before.before in
     record {
       answers =
           heading-none _ _ _ e.0 (e.1 ∙ p.place_of.ensures)
-          ((w.is-no-heading.ensures w.before.before.args.from).holds p.before.if1.true);
+          ((w.is_no_heading.ensures w.before.before.args.from).holds p.before.if-is_no_heading.true);
       elements = λ z. absurd (let y : ⊥ = omega (arith, e.0, z) in y);
       rings = λ z. absurd (let y : ⊥ = omega (arith, e.0, z) in y);
     }
 
-cell-at-requires : tie.Need-cell-at-requires
+cell-at-requires : tie.Need-cell_at-cell-requires
 cell-at-requires c κs = search rules
 
-refuse-heading-requires-2 : tie.Need-refuse-heading-requires-2
+refuse-heading-requires-2 : tie.Need-refuse_heading-requires-then-cell-ne0
 refuse-heading-requires-2 c κs = search rules
 
-returns-2 : tie.Need-returns-2
+returns-2 : tie.Need-returns-then-cell-ne0
 returns-2 c =
-    let e = c.refuse-heading2.ensures in
-    let h = c.before.if2.true in
+    let e = c.refuse_heading-then-cell-ne0.ensures in
+    let h = c.before.if-cell-ne0.true in
     let a = c.before.before.before in
     record {
       answers = rw (e.0, e.1) (heading-cell _ (worded a.before) _ _ h a.Cell-at.ensures.answers);
@@ -65,36 +65,36 @@ returns-2 c =
       rings = λ z. absurd (h (sym e.0 ∙ z));
     }
 
-shape-fault-requires : tie.Need-shape-fault-requires
+shape-fault-requires : tie.Need-shape_fault-shape-requires
 shape-fault-requires c κs = search rules
 
-refuse-heading-requires-3 : tie.Need-refuse-heading-requires-3
+refuse-heading-requires-3 : tie.Need-refuse_heading-requires-then-shape-ne0
 refuse-heading-requires-3 c κs = search rules
 
-returns-3 : tie.Need-returns-3
+returns-3 : tie.Need-returns-then-shape-ne0
 returns-3 c =
-    let e = c.refuse-heading3.ensures in
-    let h = c.before.if3.true in
+    let e = c.refuse_heading-then-shape-ne0.ensures in
+    let h = c.before.if-shape-ne0.true in
     let s = c.before.before.before in
     let a = s.before.before.before in
     record {
-      answers = rw (e.0, e.1) (heading-shape _ (worded a.before) (cell s.before) _ _ h s.shape-fault.ensures);
+      answers = rw (e.0, e.1) (heading-shape _ (worded a.before) (cell s.before) _ _ h s.shape_fault-shape.ensures);
       elements = λ z. absurd (h (sym e.0 ∙ z));
       rings = λ z. absurd (h (sym e.0 ∙ z));
     }
 
-is-wrong-size-requires : tie.Need-is-wrong-size-requires
+is-wrong-size-requires : tie.Need-is_wrong_size-requires
 is-wrong-size-requires c κs = search rules
 
-place-of-requires-2 : tie.Need-place-of-requires-2
+place-of-requires-2 : tie.Need-place_of-requires-then-is_wrong_size
 place-of-requires-2 c κs = search rules
 
-refuse-heading-requires-4 : tie.Need-refuse-heading-requires-4
+refuse-heading-requires-4 : tie.Need-refuse_heading-requires-then-is_wrong_size
 refuse-heading-requires-4 c κs = search rules
 
-returns-4 : tie.Need-returns-4
+returns-4 : tie.Need-returns-then-is_wrong_size
 returns-4 c =
-    let e = c.refuse-heading4.ensures in
+    let e = c.refuse_heading-then-is_wrong_size.ensures in
     let p = c.before in
     let w = p.before.before in
     let s = w.before.before.before in
@@ -102,31 +102,31 @@ returns-4 c =
     record {
       answers =
           heading-wrong _ (worded a.before) (cell s.before) (shape w.before) _
-          (a.Cell-at.ensures.value s.before.if2.false) _ _ e.0 (e.1 ∙ p.place-of2.ensures)
-          (w.is-wrong-size.ensures.holds p.before.if4.true);
+          (a.Cell-at.ensures.value s.before.if-cell-ne0.false) _ _ e.0 (e.1 ∙ p.place_of-then-is_wrong_size.ensures)
+          (w.is_wrong_size.ensures.holds p.before.if-is_wrong_size.true);
       elements = λ z. absurd (let y : ⊥ = omega (arith, e.0, z) in y);
       rings = λ z. absurd (let y : ⊥ = omega (arith, e.0, z) in y);
     }
 
-rings-in-requires : tie.Need-rings-in-requires
+rings-in-requires : tie.Need-rings_in-requires
 rings-in-requires c κs = search rules
 
-returns-5 : tie.Need-returns-5
+returns-5 : tie.Need-returns
 returns-5 c =
     let w = c.before.before in
     let s = w.before.before.before in
     let a = s.before.before.before in
-    let v = a.Cell-at.ensures.value s.before.if2.false in
+    let v = a.Cell-at.ensures.value s.before.if-cell-ne0.false in
     record {
       answers =
           heading-right _ (worded a.before) (cell s.before) (shape w.before) _ v
-          (w.is-wrong-size.ensures.fails c.before.if4.false);
+          (w.is_wrong_size.ensures.fails c.before.if-is_wrong_size.false);
       elements = λ z. v;
-      rings = λ z. c.rings-in.ensures _;
+      rings = λ z. c.rings_in.ensures _;
     }
 
-pub heading-of-spec : {M : Type 1} → statement M
-heading-of-spec =
+pub heading_of_spec : {M : Type 1} → statement M
+heading_of_spec =
     tie.close
     (tie.spec
     is-no-heading-requires

@@ -7,28 +7,28 @@ use Rattle.text_reader.proofs.is_no_heading.Tie as tie
 slice-aggregate-is-word : tie.Need-slice-aggregate-is-word
 slice-aggregate-is-word c = search rules
 
-is-word-requires : tie.Need-is-word-requires
+is-word-requires : tie.Need-is_word-requires
 is-word-requires c κs = search rules
 
-returns : tie.Need-returns
-returns c = λ from. decides_no (λ w. w.0 ((c.before.is_IsWord.ensures from).holds c.if1.true))
+returns : tie.Need-returns-then-is_word
+returns c = λ from. decides_no (λ w. w.0 ((c.before.is_IsWord.ensures from).holds c.if-is_word.true))
 
 slice-aggregate-is-word-2 : tie.Need-slice-aggregate-is-word-2
 slice-aggregate-is-word-2 c = search rules
 
-is-word-requires-2 : tie.Need-is-word-requires-2
+is-word-requires-2 : tie.Need-is_word-requires-2
 is-word-requires-2 c κs = search rules
 
-returns-2 : tie.Need-returns-2
-returns-2 c = λ from. decides_no (λ w. w.1 ((c.before.is-word2.ensures from).holds c.if2.true))
+returns-2 : tie.Need-returns-then-is_word-2
+returns-2 c = λ from. decides_no (λ w. w.1 ((c.before.is_word-2.ensures from).holds c.if-is_word-2.true))
 
-returns-3 : tie.Need-returns-3
+returns-3 : tie.Need-returns
 returns-3 c =
     let z = c.before.before.before in
-    λ from. decides_yes ((z.before.is_IsWord.ensures from).fails z.if1.false, (c.before.is-word2.ensures from).fails c.if2.false)
+    λ from. decides_yes ((z.before.is_IsWord.ensures from).fails z.if-is_word.false, (c.before.is_word-2.ensures from).fails c.if-is_word-2.false)
 
-pub is-no-heading-spec : {M : Type 1} → statement M
-is-no-heading-spec =
+pub is_no_heading_spec : {M : Type 1} → statement M
+is_no_heading_spec =
     tie.close
     (tie.spec
     slice-aggregate-is-word

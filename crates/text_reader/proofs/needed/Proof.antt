@@ -5,13 +5,13 @@ use Rattle.grammar.specs.TableText.{needed}
 use Rattle.text_reader.proofs.needed.Statement.{statement}
 use Rattle.text_reader.proofs.needed.Tie as tie
 
-returns : tie.Need-returns
+returns : tie.Need-returns-then-rings-eq-RINGS
 unfolding needed
-returns c = rw (eq-eqb c.before.args.rings max_rings c.if1.true)
+returns c = rw (eq-eqb c.before.args.rings max_rings c.if-rings-eq-RINGS.true)
 
-returns-2 : tie.Need-returns-2
+returns-2 : tie.Need-returns-else-rings-eq-RINGS
 unfolding needed
-returns-2 c = rw (ne_eqb c.before.args.rings max_rings c.if1.false)
+returns-2 c = rw (ne_eqb c.before.args.rings max_rings c.if-rings-eq-RINGS.false)
 
-pub needed-spec : {M : Type 1} → statement M
-needed-spec = tie.close (tie.spec returns returns-2)
+pub needed_spec : {M : Type 1} → statement M
+needed_spec = tie.close (tie.spec returns returns-2)

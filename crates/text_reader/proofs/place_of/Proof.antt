@@ -8,7 +8,7 @@ use Rattle.text_reader.proofs.place_of.Tie as tie
 field-requires : tie.Need-field-requires
 field-requires c κs = search rules
 
-add-result : tie.Need-overflow-add-result
+add-result : tie.Need-overflow_add-result
 add-result c =
     let f = c.before.field.ensures 0 in
     omega (arith, f.ordered, f.high, c.before.before.before.requires)
@@ -16,5 +16,5 @@ add-result c =
 returns : tie.Need-returns
 returns c = field_start (c.before.field.ensures c.before.before.before.args.from)
 
-pub place-of-spec : {M : Type 1} → statement M
-place-of-spec = tie.close (tie.spec field-requires add-result returns)
+pub place_of_spec : {M : Type 1} → statement M
+place_of_spec = tie.close (tie.spec field-requires add-result returns)

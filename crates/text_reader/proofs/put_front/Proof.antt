@@ -9,53 +9,53 @@ use Rattle.rules.proofs.Calls.{filled_lent}
 use Rattle.text_reader.proofs.put_front.Statement.{statement}
 use Rattle.text_reader.proofs.put_front.Tie as tie
 
-abbrev invariant-loop : tie.invariant-loop
+abbrev invariant-loop : tie.invariant-loop-k
 invariant-loop numbers out₀ k₀ out k = (k ≤ length numbers) × Filled out₀ out k (take k numbers)
 
-abbrev decreases-loop : tie.decreases-loop
+abbrev decreases-loop : tie.decreases-loop-k
 decreases-loop numbers out₀ k₀ out k = length numbers - k
 
-loop-holds : tie.Need-loop-init invariant-loop decreases-loop
+loop-holds : tie.Need-loop-k-init invariant-loop decreases-loop
 loop-holds c = (omega arith, filled_start _)
 
-mul-out : tie.Need-overflow-mul-out invariant-loop decreases-loop
+mul-out : tie.Need-offset_bounds-numbers-k invariant-loop decreases-loop
 mul-out c = omega arith
 
-shared-slice-read-out : tie.Need-shared-slice-read-out invariant-loop decreases-loop
+shared-slice-read-out : tie.Need-bounds-numbers-k invariant-loop decreases-loop
 shared-slice-read-out c = omega arith
 
-mul-out-2 : tie.Need-overflow-mul-out-2 invariant-loop decreases-loop
+mul-out-2 : tie.Need-offset_bounds-out-k invariant-loop decreases-loop
 mul-out-2 c = omega arith
 
-slice-write-out : tie.Need-slice-write-out invariant-loop decreases-loop
+slice-write-out : tie.Need-bounds-out-k invariant-loop decreases-loop
 slice-write-out c = omega arith
 
-add-k : tie.Need-overflow-add-k invariant-loop decreases-loop
+add-k : tie.Need-overflow_add-k invariant-loop decreases-loop
 add-k c = omega arith
 
-loop-less : tie.Need-loop-smaller invariant-loop decreases-loop
+loop-less : tie.Need-loop-k-smaller invariant-loop decreases-loop
 loop-less c = omega arith
 
-loop-again : tie.Need-loop-preserved invariant-loop decreases-loop
+loop-again : tie.Need-loop-k-preserved invariant-loop decreases-loop
 loop-again c =
     let u = c.before.before in
     let z = u.before in
     let numbers = z.args.numbers.now in
-    let k = u.loop.k in
+    let k = u.loop-k.k in
     let l : k < length numbers = omega arith in
-    (omega arith, rw (take_next numbers k l) (filled_put (at numbers k) u.loop.invariant.1 (omega (arith, z.requires))))
+    (omega arith, rw (take_next numbers k l) (filled_put (at numbers k) u.loop-k.invariant.1 (omega (arith, z.requires))))
 
-same_length : tie.Need-same-length invariant-loop decreases-loop
-same_length c = c.before.loop.invariant.1.same
+same_length : tie.Need-shape_of-out invariant-loop decreases-loop
+same_length c = c.before.loop-k.invariant.1.same
 
 returns : tie.Need-returns invariant-loop decreases-loop
 returns c =
     let u = c.before in
     let numbers = u.before.args.numbers.now in
-    rw (take_all u.loop.k numbers (omega arith)) at (filled_lent u.loop.invariant.1)
+    rw (take_all u.loop-k.k numbers (omega arith)) at (filled_lent u.loop-k.invariant.1)
 
-pub put-front-spec : {M : Type 1} → statement M
-put-front-spec =
+pub put_front_spec : {M : Type 1} → statement M
+put_front_spec =
     tie.close
     (tie.spec
     invariant-loop

@@ -7,24 +7,24 @@ use borrow.Author.Rules.{rules}
 use Rattle.text_writer.proofs.put_heading.Statement.{statement}
 use Rattle.text_writer.proofs.put_heading.Tie as tie
 
-slice-aggregate-put-line : tie.Need-slice-aggregate-put-line
+slice-aggregate-put-line : tie.Need-slice_bounds-put_line-end-then-rings-eq-RINGS
 slice-aggregate-put-line c = search rules
 
-slice-aggregate-put-line-2 : tie.Need-slice-aggregate-put-line-2
+slice-aggregate-put-line-2 : tie.Need-slice_bounds-put_line-end-3
 slice-aggregate-put-line-2 c = search rules
 
-put-line-requires : tie.Need-put-line-requires
+put-line-requires : tie.Need-put_line-requires
 put-line-requires c κs = search rules
 
-same_length : tie.Need-same-length
+same_length : tie.Need-shape_of-out-then-rings-eq-RINGS
 same_length c = search rules
 
-returns : tie.Need-returns
+returns : tie.Need-returns-then-rings-eq-RINGS
 unfolding head_line
 returns c =
-    let p = c.before.before.put-line.ensures in
+    let p = c.before.before.put_line.ensures in
     let z = c.before.before.before.before.before.before in
-    rw (eq-eqb z.before.before.args.rings max_rings z.if1.true) (p.0, omega (arith, p.1))
+    rw (eq-eqb z.before.before.args.rings max_rings z.if-rings-eq-RINGS.true) (p.0, omega (arith, p.1))
 
 slice-aggregate-put-line-3 : tie.Need-slice-aggregate-put-line-3
 slice-aggregate-put-line-3 c = search rules
@@ -32,21 +32,21 @@ slice-aggregate-put-line-3 c = search rules
 slice-aggregate-put-line-4 : tie.Need-slice-aggregate-put-line-4
 slice-aggregate-put-line-4 c = search rules
 
-put-line-requires-2 : tie.Need-put-line-requires-2
+put-line-requires-2 : tie.Need-put_line-requires-2
 put-line-requires-2 c κs = search rules
 
-same-length-2 : tie.Need-same-length-2
+same-length-2 : tie.Need-shape_of-out
 same-length-2 c = search rules
 
-returns-2 : tie.Need-returns-2
+returns-2 : tie.Need-returns
 unfolding head_line
 returns-2 c =
-    let p = c.before.before.put-line2.ensures in
+    let p = c.before.before.put_line-2.ensures in
     let z = c.before.before.before.before.before.before in
-    rw (ne_eqb z.before.before.args.rings max_rings z.if1.false) (p.0, omega (arith, p.1))
+    rw (ne_eqb z.before.before.args.rings max_rings z.if-rings-eq-RINGS.false) (p.0, omega (arith, p.1))
 
-pub put-heading-spec : {M : Type 1} → statement M
-put-heading-spec =
+pub put_heading_spec : {M : Type 1} → statement M
+put_heading_spec =
     tie.close
     (tie.spec
     slice-aggregate-put-line

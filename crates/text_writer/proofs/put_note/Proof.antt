@@ -12,57 +12,57 @@ use Rattle.text_writer.proofs.put_note.Tie as tie
 slice-aggregate-put-bytes : tie.Need-slice-aggregate-put-bytes
 slice-aggregate-put-bytes c = search rules
 
-put-bytes-requires : tie.Need-put-bytes-requires
+put-bytes-requires : tie.Need-put_bytes-requires
 put-bytes-requires c κs = search rules
 
-same_length : tie.Need-same-length
+same_length : tie.Need-shape_of-out-then-rings-eq-RINGS
 same_length c = search rules
 
-returns : tie.Need-returns
+returns : tie.Need-returns-then-rings-eq-RINGS
 unfolding note each
 returns c =
-    let p = c.before.before.put-bytes.ensures in
+    let p = c.before.before.put_bytes.ensures in
     let z = c.before.before.before.before.before in
-    rw (eq-eqb z.before.before.args.rings max_rings z.if1.true) (p, omega (arith, p.after))
+    rw (eq-eqb z.before.before.args.rings max_rings z.if-rings-eq-RINGS.true) (p, omega (arith, p.after))
 
 slice-aggregate-put-bytes-2 : tie.Need-slice-aggregate-put-bytes-2
 slice-aggregate-put-bytes-2 c = search rules
 
-put-bytes-requires-2 : tie.Need-put-bytes-requires-2
+put-bytes-requires-2 : tie.Need-put_bytes-requires-then-version-eq-VERSION_2
 put-bytes-requires-2 c κs = search rules
 
-same-length-2 : tie.Need-same-length-2
+same-length-2 : tie.Need-shape_of-out-then-version-eq-VERSION_2
 same-length-2 c = search rules
 
-returns-2 : tie.Need-returns-2
+returns-2 : tie.Need-returns-then-version-eq-VERSION_2
 unfolding note each
 returns-2 c =
-    let p = c.before.before.put-bytes2.ensures in
+    let p = c.before.before.put_bytes-then-version-eq-VERSION_2.ensures in
     let y = c.before.before.before.before.before in
     let z = y.before in
     let a = z.before.before.args in
-    rw (ne_eqb a.rings max_rings z.if1.false, eq-eqb a.version version_2 y.if2.true) (p, omega (arith, p.after))
+    rw (ne_eqb a.rings max_rings z.if-rings-eq-RINGS.false, eq-eqb a.version version_2 y.if-version-eq-VERSION_2.true) (p, omega (arith, p.after))
 
 slice-aggregate-put-bytes-3 : tie.Need-slice-aggregate-put-bytes-3
 slice-aggregate-put-bytes-3 c = search rules
 
-put-bytes-requires-3 : tie.Need-put-bytes-requires-3
+put-bytes-requires-3 : tie.Need-put_bytes-requires-2
 put-bytes-requires-3 c κs = search rules
 
-same-length-3 : tie.Need-same-length-3
+same-length-3 : tie.Need-shape_of-out
 same-length-3 c = search rules
 
-returns-3 : tie.Need-returns-3
+returns-3 : tie.Need-returns
 unfolding note each
 returns-3 c =
-    let p = c.before.before.put-bytes3.ensures in
+    let p = c.before.before.put_bytes-2.ensures in
     let y = c.before.before.before.before.before in
     let z = y.before in
     let a = z.before.before.args in
-    rw (ne_eqb a.rings max_rings z.if1.false, ne_eqb a.version version_2 y.if2.false) (p, omega (arith, p.after))
+    rw (ne_eqb a.rings max_rings z.if-rings-eq-RINGS.false, ne_eqb a.version version_2 y.if-version-eq-VERSION_2.false) (p, omega (arith, p.after))
 
-pub put-note-spec : {M : Type 1} → statement M
-put-note-spec =
+pub put_note_spec : {M : Type 1} → statement M
+put_note_spec =
     tie.close
     (tie.spec
     slice-aggregate-put-bytes

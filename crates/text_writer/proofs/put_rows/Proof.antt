@@ -13,55 +13,55 @@ use Rattle.text_writer.proofs.Rows.{number_line_lem}
 use Rattle.text_writer.proofs.put_rows.Statement.{statement}
 use Rattle.text_writer.proofs.put_rows.Tie as tie
 
-abbrev invariant-loop : tie.invariant-loop
+abbrev invariant-loop : tie.invariant-loop-i
 invariant-loop rings version numbers rows out₀ at next₀ i₀ out next i =
     (i ≤ rows) × PutsLines (each i (λ k. row_line version (memory_labelled_with rings 0 rows numbers) k ∷ [])) i out₀ at out next
 
-abbrev decreases-loop : tie.decreases-loop
+abbrev decreases-loop : tie.decreases-loop-i
 decreases-loop rings version numbers rows out₀ at next₀ i₀ out next i = rows - i
 
-loop-holds : tie.Need-loop-init invariant-loop decreases-loop
+loop-holds : tie.Need-loop-i-init invariant-loop decreases-loop
 loop-holds c =
     let a = c.before.before.args in
     (omega arith, lines_none (λ k. row_line a.version (memory_labelled_with a.rings 0 a.rows a.numbers.now) k ∷ []) _ _)
 
-row-of-requires : tie.Need-row-of-requires invariant-loop decreases-loop
+row-of-requires : tie.Need-row_of-requires invariant-loop decreases-loop
 row-of-requires c κs = omega arith
 
-put-row-requires : tie.Need-put-row-requires invariant-loop decreases-loop
+put-row-requires : tie.Need-put_row-next-requires invariant-loop decreases-loop
 put-row-requires c κs = omega arith
 
-add-i : tie.Need-overflow-add-i invariant-loop decreases-loop
+add-i : tie.Need-overflow_add-i invariant-loop decreases-loop
 add-i c = omega arith
 
-loop-less : tie.Need-loop-smaller invariant-loop decreases-loop
+loop-less : tie.Need-loop-i-smaller invariant-loop decreases-loop
 loop-less c = omega arith
 
-loop-again : tie.Need-loop-preserved invariant-loop decreases-loop
+loop-again : tie.Need-loop-i-preserved invariant-loop decreases-loop
 loop-again c =
     let p = c.before.before in
     let y = p.before.before in
     let u = y.before.before in
     let a = u.before.before.before.args in
-    let i = u.loop.i in (
+    let i = u.loop-i.i in (
       omega arith,
-      lines_next (λ k. row_line a.version (memory_labelled_with a.rings 0 a.rows a.numbers.now) k ∷ []) i u.loop.invariant.1 _
+      lines_next (λ k. row_line a.version (memory_labelled_with a.rings 0 a.rows a.numbers.now) k ∷ []) i u.loop-i.invariant.1 _
           (ap (λ (l : Line). l ∷ [])
           (number_line_lem a.rings a.version a.rows a.numbers.now i y.row_of.result (y.row_of.ensures 0 a.rows)))
-          p.put-row.ensures,
+          p.put_row-next.ensures,
     )
 
-same_length : tie.Need-same-length invariant-loop decreases-loop
-same_length c = c.before.loop.invariant.1.0.same
+same_length : tie.Need-shape_of-out invariant-loop decreases-loop
+same_length c = c.before.loop-i.invariant.1.0.same
 
 returns : tie.Need-returns invariant-loop decreases-loop
 returns c =
-    let e : c.before.loop.i ≡ c.before.before.before.before.args.rows = omega arith in
+    let e : c.before.loop-i.i ≡ c.before.before.before.before.args.rows = omega arith in
     let a = c.before.before.before.before.args in
-    rw e at c.before.loop.invariant.1
+    rw e at c.before.loop-i.invariant.1
 
-pub put-rows-spec : {M : Type 1} → statement M
-put-rows-spec =
+pub put_rows_spec : {M : Type 1} → statement M
+put_rows_spec =
     tie.close
     (tie.spec
     invariant-loop

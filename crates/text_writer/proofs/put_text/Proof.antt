@@ -8,16 +8,16 @@ use borrow.Author.Rules.{rules}
 use Rattle.text_writer.proofs.put_text.Statement.{statement}
 use Rattle.text_writer.proofs.put_text.Tie as tie
 
-put-heading-requires : tie.Need-put-heading-requires
+put-heading-requires : tie.Need-put_heading-headed-requires
 put-heading-requires c κs = search rules
 
-put-note-requires : tie.Need-put-note-requires
+put-note-requires : tie.Need-put_note-noted-requires
 put-note-requires c κs = search rules
 
-put-rows-requires : tie.Need-put-rows-requires
+put-rows-requires : tie.Need-put_rows-requires
 put-rows-requires c κs = search rules
 
-same_length : tie.Need-same-length
+same_length : tie.Need-shape_of-out
 same_length c = search rules
 
 returns : tie.Need-returns
@@ -29,9 +29,9 @@ returns c =
     let a = h.before.before.before.before.args in
     puts_three (head_line a.rings a.elements) (note a.rings a.version)
     (each a.rows (λ i. row_line a.version (memory_labelled_with a.rings 0 a.rows a.numbers.now) i ∷ [])) a.rows
-    h.put-heading.ensures n.put-note.ensures p.put-rows.ensures
+    h.put_heading-headed.ensures n.put_note-noted.ensures p.put_rows.ensures
 
-pub put-text-spec : {M : Type 1} → statement M
-put-text-spec =
+pub put_text_spec : {M : Type 1} → statement M
+put_text_spec =
     tie.close
     (tie.spec put-heading-requires put-note-requires put-rows-requires same_length returns)

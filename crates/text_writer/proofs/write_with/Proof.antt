@@ -15,65 +15,65 @@ use Rattle.text_writer.proofs.write_with.Statement.{statement}
 use Rattle.text_writer.proofs.write_with.Tie as tie
 
 -- the slice has passed
-none : (z : tie.Else1)
+none : (z : tie.Else-answer-ne-DONE)
     → let a = z.before.before.before.before.before.args in
     None (version_checks a.rings a.version a.elements a.rows a.numbers.now)
-none z = none_of _ _ (version-numbered _ _ _ _ _) (rw z.if1.false at z.before.before.check-version.ensures)
+none z = none_of _ _ (version-numbered _ _ _ _ _) (rw z.if-answer-ne-DONE.false at z.before.before.check_version-answer.ensures)
 
 -- and holds its rows
-rows : (z : tie.Else1)
+rows : (z : tie.Else-answer-ne-DONE)
     → let a = z.before.before.before.before.before.args in
     (a.rows ≤ max_rows) × (row_numbers * a.rows ≤ length a.numbers.now)
 rows z = let s = memory-sizes _ _ _ _ (version_known _ _ _ _ _ (none z)).1 in (s.0, omega (arith, s.1))
 
-check-version-requires : tie.Need-check-version-requires
+check-version-requires : tie.Need-check_version-answer-requires
 check-version-requires c κs = search rules
 
-refuse-write-requires : tie.Need-refuse-write-requires
+refuse-write-requires : tie.Need-refuse_write-requires
 refuse-write-requires c κs = search rules
 
-returns : tie.Need-returns
+returns : tie.Need-returns-then-answer-ne-DONE
 returns c =
     let v = c.before.before.before in
-    let e = c.refuse-write.ensures in
+    let e = c.refuse_write.ensures in
     rw (ap (λ (w : Answer). w.number) e.0, ap (λ (w : Answer). w.place) e.0, e.1)
-    (write_refused _ _ _ _ _ _ _ _ v.check-version.ensures c.before.if1.true)
+    (write_refused _ _ _ _ _ _ _ _ v.check_version-answer.ensures c.before.if-answer-ne-DONE.true)
 
-text-size-requires : tie.Need-text-size-requires
+text-size-requires : tie.Need-text_size-size-requires
 text-size-requires c κs = rows c
 
 at-requires : tie.Need-at-requires
 at-requires c κs = search rules
 
-refuse-write-requires-2 : tie.Need-refuse-write-requires-2
+refuse-write-requires-2 : tie.Need-refuse_write-requires-then-out-size
 refuse-write-requires-2 c κs = search rules
 
-returns-2 : tie.Need-returns-2
+returns-2 : tie.Need-returns-then-out-size
 returns-2 c =
     let t = c.before.before.before in
-    let e = c.refuse-write2.ensures in
+    let e = c.refuse_write-then-out-size.ensures in
     let w = c.before.at.ensures in
     rw (ap (λ (w : Answer). w.number) e.0, ap (λ (w : Answer). w.place) e.0, w.0, w.1, e.1)
-    (write-short _ _ _ _ _ _ (none t.before) (omega (arith, t.text-size.ensures, c.before.before.if2.true)))
+    (write-short _ _ _ _ _ _ (none t.before) (omega (arith, t.text_size-size.ensures, c.before.before.if-out-size.true)))
 
-put-text-requires : tie.Need-put-text-requires
+put-text-requires : tie.Need-put_text-requires
 put-text-requires c κs = rows c.before.before.before
 
-same_length : tie.Need-same-length
+same_length : tie.Need-shape_of-out
 same_length c = search rules
 
-returns-3 : tie.Need-returns-3
+returns-3 : tie.Need-returns
 returns-3 c =
     let p = c.before.before in
     let o = p.before.before in
     let t = o.before in
     let z = t.before in
-    write_done _ _ _ _ _ _ _ _ _ _ z.before.before.check-version.ensures z.if1.false
-    (λ l. let q : ⊥ = omega (arith, t.text-size.ensures, o.if2.false) in q)
-    (put_front p.put-text.ensures (omega (arith, t.text-size.ensures, o.if2.false))) t.text-size.ensures
+    write_done _ _ _ _ _ _ _ _ _ _ z.before.before.check_version-answer.ensures z.if-answer-ne-DONE.false
+    (λ l. let q : ⊥ = omega (arith, t.text_size-size.ensures, o.if-out-size.false) in q)
+    (put_front p.put_text.ensures (omega (arith, t.text_size-size.ensures, o.if-out-size.false))) t.text_size-size.ensures
 
-pub write-with-spec : {M : Type 1} → statement M
-write-with-spec =
+pub write_with_spec : {M : Type 1} → statement M
+write_with_spec =
     tie.close
     (tie.spec
     check-version-requires

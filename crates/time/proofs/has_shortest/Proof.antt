@@ -10,46 +10,46 @@ use Rattle.numbers.proofs.Finite.{any_of, any_none, Sought, sought-start, sought
 use Rattle.time.proofs.has_shortest.Statement.{statement}
 use Rattle.time.proofs.has_shortest.Tie as tie
 
-abbrev invariant-loop : tie.invariant-loop
+abbrev invariant-loop : tie.invariant-loop-k
 invariant-loop period count interval k₀ k = Sought count (λ k. eqb (at period k) interval) k
 
-abbrev decreases-loop : tie.decreases-loop
+abbrev decreases-loop : tie.decreases-loop-k
 decreases-loop period count interval k₀ k = count - k
 
-loop-holds : tie.Need-loop-init invariant-loop decreases-loop
+loop-holds : tie.Need-loop-k-init invariant-loop decreases-loop
 loop-holds c = sought-start
 
-slots-at-requires : tie.Need-slots-at-requires invariant-loop decreases-loop
+slots-at-requires : tie.Need-slots_at-requires invariant-loop decreases-loop
 slots-at-requires c κs = omega arith
 
-returns : tie.Need-returns invariant-loop decreases-loop
+returns : tie.Need-returns-then-slots_at-interval invariant-loop decreases-loop
 returns c =
     let u = c.before.before.before in
     let a = u.before.args in
-    sym (is_true _ (any_of a.count (λ k. eqb (at a.period.now k) a.interval) u.loop.k (omega arith)
-    (eqb_of (at a.period.now u.loop.k) a.interval (sym c.before.slots_at.ensures ∙ c.if1.true))))
+    sym (is_true _ (any_of a.count (λ k. eqb (at a.period.now k) a.interval) u.loop-k.k (omega arith)
+    (eqb_of (at a.period.now u.loop-k.k) a.interval (sym c.before.slots_at.ensures ∙ c.if-slots_at-interval.true))))
 
-add-k : tie.Need-overflow-add-k invariant-loop decreases-loop
+add-k : tie.Need-overflow_add-k invariant-loop decreases-loop
 add-k c = omega arith
 
-loop-less : tie.Need-loop-smaller invariant-loop decreases-loop
+loop-less : tie.Need-loop-k-smaller invariant-loop decreases-loop
 loop-less c = omega arith
 
-loop-again : tie.Need-loop-preserved invariant-loop decreases-loop
+loop-again : tie.Need-loop-k-preserved invariant-loop decreases-loop
 loop-again c =
     let u = c.before.before.before in
     let a = u.before.args in
-    sought-next u.loop.invariant (omega arith)
-    (ne_eqb (at a.period.now u.loop.k) a.interval (rw c.before.slots_at.ensures at c.if1.false))
+    sought-next u.loop-k.invariant (omega arith)
+    (ne_eqb (at a.period.now u.loop-k.k) a.interval (rw c.before.slots_at.ensures at c.if-slots_at-interval.false))
 
-returns-2 : tie.Need-returns-2 invariant-loop decreases-loop
+returns-2 : tie.Need-returns invariant-loop decreases-loop
 returns-2 c =
     let u = c.before in
     let a = u.before.args in
-    sym (any_none a.count (λ k. eqb (at a.period.now k) a.interval) (λ k l. u.loop.invariant.none k (omega arith)))
+    sym (any_none a.count (λ k. eqb (at a.period.now k) a.interval) (λ k l. u.loop-k.invariant.none k (omega arith)))
 
-pub has-shortest-spec : {M : Type 1} → statement M
-has-shortest-spec =
+pub has_shortest_spec : {M : Type 1} → statement M
+has_shortest_spec =
     tie.close
     (tie.spec
     invariant-loop

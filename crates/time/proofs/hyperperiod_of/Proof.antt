@@ -9,5 +9,5 @@ of-requires c κs = c.requires
 returns : tie.Need-returns
 returns c = clocks_capped c.of.ensures
 
-pub hyperperiod-of-spec : {M : Type 1} → statement M
-hyperperiod-of-spec = tie.close (tie.spec of-requires returns)
+pub hyperperiod_of_spec : {M : Type 1} → statement M
+hyperperiod_of_spec = tie.close (tie.spec of-requires returns)

@@ -8,51 +8,51 @@ use Rattle.time.proofs.Periods.{nearing-next, nearing-row}
 use Rattle.time.proofs.lowered.Statement.{statement}
 use Rattle.time.proofs.lowered.Tie as tie
 
-abbrev invariant-loop : tie.invariant-loop
+abbrev invariant-loop : tie.invariant-loop-j
 invariant-loop l period i own least₀ j₀ least j =
     (j ≤ i) × ((n : ℕ) → Periods n (at period) → Nearing n (at period) i 0 l → i < n → Nearing n (at period) i j least)
 
-abbrev decreases-loop : tie.decreases-loop
+abbrev decreases-loop : tie.decreases-loop-j
 decreases-loop l period i own least₀ j₀ least j = i - j
 
-slots-at-requires : tie.Need-slots-at-requires invariant-loop decreases-loop
+slots-at-requires : tie.Need-slots_at-own-requires invariant-loop decreases-loop
 slots-at-requires c κs = let P = c.requires.1 in omega (arith, P.few, c.requires.3)
 
-loop-holds : tie.Need-loop-init invariant-loop decreases-loop
+loop-holds : tie.Need-loop-j-init invariant-loop decreases-loop
 loop-holds c = (omega arith, λ n P N l. N)
 
-slots-at-requires-2 : tie.Need-slots-at-requires-2 invariant-loop decreases-loop
+slots-at-requires-2 : tie.Need-slots_at-requires invariant-loop decreases-loop
 slots-at-requires-2 c κs = let z = c.before.before.before in omega (arith, z.requires.1.few, z.requires.3)
 
-gcd-of-requires : tie.Need-gcd-of-requires invariant-loop decreases-loop
+gcd-of-requires : tie.Need-gcd_of-requires invariant-loop decreases-loop
 gcd-of-requires c κs = search rules
 
-lower-requires : tie.Need-lower-requires invariant-loop decreases-loop
+lower-requires : tie.Need-lower-least-requires invariant-loop decreases-loop
 lower-requires c κs = search rules
 
-add-j : tie.Need-overflow-add-j invariant-loop decreases-loop
+add-j : tie.Need-overflow_add-j invariant-loop decreases-loop
 add-j c = omega arith
 
-loop-less : tie.Need-loop-smaller invariant-loop decreases-loop
+loop-less : tie.Need-loop-j-smaller invariant-loop decreases-loop
 loop-less c = omega arith
 
-loop-again : tie.Need-loop-preserved invariant-loop decreases-loop
+loop-again : tie.Need-loop-j-preserved invariant-loop decreases-loop
 loop-again c =
     let u = c.before.before.before.before in (
       omega arith,
       λ n P N l.
-          rw c.lower.ensures
-          (nearing-next P (u.loop.invariant.1 n P N l) l (omega arith)
-          (rw (u.before.slots_at.ensures, c.before.before.slots-at2.ensures) at c.before.gcd-of.ensures)),
+          rw c.lower-least.ensures
+          (nearing-next P (u.loop-j.invariant.1 n P N l) l (omega arith)
+          (rw (u.before.slots_at-own.ensures, c.before.before.slots_at.ensures) at c.before.gcd_of.ensures)),
     )
 
 returns : tie.Need-returns invariant-loop decreases-loop
 returns c n P N l =
     let u = c.before in
-    nearing-row P (u.loop.invariant.1 n P N l) l (omega arith)
+    nearing-row P (u.loop-j.invariant.1 n P N l) l (omega arith)
 
-pub lowered-spec : {M : Type 1} → statement M
-lowered-spec =
+pub lowered_spec : {M : Type 1} → statement M
+lowered_spec =
     tie.close
     (tie.spec
     invariant-loop

@@ -18,78 +18,78 @@ use Rattle.verdict.proofs.Analysing.{analysed-first, analysed_after, line_none, 
 use Rattle.verdict.proofs.analysis_of.Statement.{statement}
 use Rattle.verdict.proofs.analysis_of.Tie as tie
 
-abbrev table : tie.After-outline-of → Table
+abbrev table : tie.After-outline_of-outline → Table
 table d =
     let a = d.before.args in
     column_table a.elements a.rows a.rings a.cost.now a.period.now a.first.now a.second.now a.way.now
 
-outlined : (d : tie.After-outline-of) → Outlined (line_checks (table d)) (table d) d.outline-of.result
-outlined d = d.outline-of.ensures (at d.before.args.cost.now) d.before.requires
+outlined : (d : tie.After-outline_of-outline) → Outlined (line_checks (table d)) (table d) d.outline_of-outline.result
+outlined d = d.outline_of-outline.ensures (at d.before.args.cost.now) d.before.requires
 
-outline-of-requires : tie.Need-outline-of-requires
+outline-of-requires : tie.Need-outline_of-outline-requires
 outline-of-requires c κs = (at c.args.cost.now, c.requires)
 
 refused-requires : tie.Need-refused-requires
 refused-requires c κs = search rules
 
-returns : tie.Need-returns
+returns : tie.Need-returns-then-answer-ne-DONE
 returns c =
     let d = c.before.before.before.before in
-    rw c.refused.ensures (analysed-first (table d) _ (outlined d) c.before.if1.true)
+    rw c.refused.ensures (analysed-first (table d) _ (outlined d) c.before.if-answer-ne-DONE.true)
 
 -- the way back from the rates to the outline, and from the weights to the rates
-abbrev asked : tie.After-put-rates → tie.After-outline-of
+abbrev asked : tie.After-put_rates-light → tie.After-outline_of-outline
 asked d = d.before.before.before.before.before.before
 
-abbrev rates : tie.After-put-rates → List ℕ
-rates d = d.put-rates.new.1.1.1.1.1.0
+abbrev rates : tie.After-put_rates-light → List ℕ
+rates d = d.put_rates-light.new.1.1.1.1.1.0
 
-rated : (d : tie.After-put-rates) → Rated (table (asked d)) (asked d).outline-of.result d.put-rates.result (rates d)
+rated : (d : tie.After-put_rates-light) → Rated (table (asked d)) (asked d).outline_of-outline.result d.put_rates-light.result (rates d)
 rated d =
     let e = d.before.before.before in
     let a = asked d in
-    let F = (outlined a).found e.if1.false in
-    record { outlined = outlined a; passed = e.if1.false; weighed = rows-weighed F.timed d.put-rates.ensures }
+    let F = (outlined a).found e.if-answer-ne-DONE.false in
+    record { outlined = outlined a; passed = e.if-answer-ne-DONE.false; weighed = rows-weighed F.timed d.put_rates-light.ensures }
 
-put-rates-requires : tie.Need-put-rates-requires
+put-rates-requires : tie.Need-put_rates-light-requires
 put-rates-requires c κs =
     let e = c.before.before in
-    let T = ((outlined e.before.before.before).found e.if1.false).timed in
+    let T = ((outlined e.before.before.before).found e.if-answer-ne-DONE.false).timed in
     (times_of T.sound, omega (arith, T.hyper, T.short), omega (arith, T.interval, shortest-le T.sound), refl)
 
-weigh-requires : tie.Need-weigh-requires
+weigh-requires : tie.Need-weigh-weighing-requires
 weigh-requires c κs =
     let d = c.before.before.before.before in
     (table (asked d), rated-weighable (table (asked d)) (rated d))
 
-abbrev weighed : tie.After-weigh → tie.After-put-rates
+abbrev weighed : tie.After-weigh-weighing → tie.After-put_rates-light
 weighed w = w.before.before.before.before.before
 
-weighs : (w : tie.After-weigh) → Weighs (table (asked (weighed w))) w.weigh.result
+weighs : (w : tie.After-weigh-weighing) → Weighs (table (asked (weighed w))) w.weigh-weighing.result
 weighs w =
     let a = asked (weighed w) in
-    w.weigh.ensures (table a) (rated-weighable (table a) (rated (weighed w)))
+    w.weigh-weighing.ensures (table a) (rated-weighable (table a) (rated (weighed w)))
 
-refused-requires-2 : tie.Need-refused-requires-2
+refused-requires-2 : tie.Need-refused-requires-then-next-ne-DONE
 refused-requires-2 c κs = search rules
 
-returns-2 : tie.Need-returns-2
+returns-2 : tie.Need-returns-then-next-ne-DONE
 returns-2 c =
     let w = c.before.before.before.before in
     let t = table (asked (weighed w)) in
     let R = rated (weighed w) in
-    rw c.refused2.ensures
-    (analysed_after (line_checks t) (bound_checks t) (line_none t R) (analysed-next t R _ (weighs w) c.before.if2.true))
+    rw c.refused-then-next-ne-DONE.ensures
+    (analysed_after (line_checks t) (bound_checks t) (line_none t R) (analysed-next t R _ (weighs w) c.before.if-next-ne-DONE.true))
 
-returns-3 : tie.Need-returns-3
+returns-3 : tie.Need-returns
 returns-3 c =
     let w = c.before.before.before in
     let t = table (asked (weighed w)) in
     let R = rated (weighed w) in
-    analysed_after (line_checks t) (bound_checks t) (line_none t R) (analysed-done t R _ (weighs w) c.if2.false)
+    analysed_after (line_checks t) (bound_checks t) (line_none t R) (analysed-done t R _ (weighs w) c.if-next-ne-DONE.false)
 
-pub analysis-of-spec : {M : Type 1} → statement M
-analysis-of-spec =
+pub analysis_of_spec : {M : Type 1} → statement M
+analysis_of_spec =
     tie.close
     (tie.spec
     outline-of-requires

@@ -16,45 +16,45 @@ use Rattle.verdict.proofs.Judging.{judged_refused, judged_past}
 use Rattle.verdict.proofs.judge.Statement.{statement}
 use Rattle.verdict.proofs.judge.Tie as tie
 
-abbrev taken : tie.Else1 → tie.After-given-into
+abbrev taken : tie.Else-answer-ne-DONE → tie.After-given_into-head
 taken c = c.before.before.before
 
-abbrev bytes : tie.Else1 → List ℕ
+abbrev bytes : tie.Else-answer-ne-DONE → List ℕ
 bytes c = (taken c).before.before.before.before.before.before.before.args.file.now
 
 -- what is written
-abbrev columns : tie.Else1 → Columns
+abbrev columns : tie.Else-answer-ne-DONE → Columns
 columns c =
     let g = (taken c).given-into in
     let xs = g.last in
     columns_by g.result xs.1.0 xs.1.1.0 xs.1.1.1.0 xs.1.1.1.1.0 xs.1.1.1.1.1.0
 
-checked : (c : tie.Else1) → Answers (given_checks (bytes c)) 0 (taken c).given-into.result.answer.place
+checked : (c : tie.Else-answer-ne-DONE) → Answers (given_checks (bytes c)) 0 (taken c).given_into-head.result.answer-1.place
 checked c =
     let g = (taken c).given-into in
-    answers_zero (given_checks (bytes c)) g.result.answer c.if1.false g.ensures.answers
+    answers_zero (given_checks (bytes c)) g.result.answer c.if-answer-ne-DONE.false g.ensures.answers
 
-held : (c : tie.Else1) → table_of (columns c) ≡ file_table (bytes c)
-held c = ((taken c).given-into.ensures.passed c.if1.false).table
+held : (c : tie.Else-answer-ne-DONE) → table_of (columns c) ≡ file_table (bytes c)
+held c = ((taken c).given_into-head.ensures.passed c.if-answer-ne-DONE.false).table
 
-sound : (c : tie.Else1) → Sound (table_of (columns c))
+sound : (c : tie.Else-answer-ne-DONE) → Sound (table_of (columns c))
 sound c = rw (held c) (given-of (bytes c) _ (checked c)).sound
 
-given-into-requires : tie.Need-given-into-requires
+given-into-requires : tie.Need-given_into-head-requires
 given-into-requires c κs = search rules
 
-returns : tie.Need-returns
+returns : tie.Need-returns-then-answer-ne-DONE
 returns c =
     let a = c.before.before.before.given-into in
-    judged_refused a.result.answer c.if1.true (given_stops _ _ _ c.if1.true a.ensures.answers)
+    judged_refused a.result.answer c.if-answer-ne-DONE.true (given_stops _ _ _ c.if-answer-ne-DONE.true a.ensures.answers)
 
-judge-table-requires : tie.Need-judge-table-requires
+judge-table-requires : tie.Need-judge_table-requires
 judge-table-requires c κs = sound c.before.before.before.before.before
 
-returns-2 : tie.Need-returns-2
+returns-2 : tie.Need-returns
 returns-2 c =
     let e = c.before.before.before.before.before.before in
-    judged_past (bytes e) _ (checked e) c.judge-table.result (rw (held e) at c.judge-table.ensures)
+    judged_past (bytes e) _ (checked e) c.judge_table.result (rw (held e) at c.judge_table.ensures)
 
-pub judge-spec : {M : Type 1} → statement M
-judge-spec = tie.close (tie.spec given-into-requires returns judge-table-requires returns-2)
+pub judge_spec : {M : Type 1} → statement M
+judge_spec = tie.close (tie.spec given-into-requires returns judge-table-requires returns-2)

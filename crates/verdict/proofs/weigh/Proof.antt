@@ -12,18 +12,18 @@ at-requires : tie.Need-at-requires
 at-requires c κs =
     let A = c.before.requires.1 in
     let s = A.timed.sound in
-    omega (arith, c.if1.true, A.rows_is)
+    omega (arith, c.if-light-rows.true, A.rows_is)
 
 unweighed-requires : tie.Need-unweighed-requires
 unweighed-requires c κs = search rules
 
-returns : tie.Need-returns
+returns : tie.Need-returns-then-light-rows
 returns c t A =
     let e = c.unweighed.ensures in
-    weighs-light A c.before.before.if1.true _
+    weighs-light A c.before.before.if-light-rows.true _
     (ap (λ (r : Answer). r.number) e ∙ c.before.at.ensures.0, ap (λ (r : Answer). r.place) e ∙ c.before.at.ensures.1)
 
-weigh-line-requires : tie.Need-weigh-line-requires
+weigh-line-requires : tie.Need-weigh_line-found-requires
 weigh-line-requires c κs =
     let A = c.before.requires.1 in
     let T = A.timed in
@@ -35,23 +35,23 @@ weigh-line-requires c κs =
       omega (arith, T.interval, shortest-le s),
     )
 
-at-requires-2 : tie.Need-at-requires-2
+at-requires-2 : tie.Need-at-requires-then-found
 at-requires-2 c κs =
     let w = c.before.before in
     let A = w.before.before.requires.1 in
     let s = A.timed.sound in
-    omega (arith, c.if2.true, w.weigh-line.ensures.1.few, A.rows_is)
+    omega (arith, c.if-found.true, w.weigh_line-found.ensures.1.few, A.rows_is)
 
-unweighed-requires-2 : tie.Need-unweighed-requires-2
+unweighed-requires-2 : tie.Need-unweighed-requires-then-found
 unweighed-requires-2 c κs = search rules
 
-returns-2 : tie.Need-returns-2
+returns-2 : tie.Need-returns-then-found
 returns-2 c t A =
     let w = c.before.before.before.before in
-    let e = c.unweighed2.ensures in
-    let v = w.weigh-line.ensures in
-    weighs-over A w.before.if1.false v.1 v.2 c.before.before.if2.true _
-    (ap (λ (r : Answer). r.number) e ∙ c.before.at2.ensures.0, ap (λ (r : Answer). r.place) e ∙ c.before.at2.ensures.1)
+    let e = c.unweighed-then-found.ensures in
+    let v = w.weigh_line-found.ensures in
+    weighs-over A w.before.if-light-rows.false v.1 v.2 c.before.before.if-found.true _
+    (ap (λ (r : Answer). r.number) e ∙ c.before.at-then-found.ensures.0, ap (λ (r : Answer). r.place) e ∙ c.before.at-then-found.ensures.1)
 
 done-requires : tie.Need-done-requires
 done-requires c κs = search rules
@@ -60,17 +60,17 @@ thousandths-requires : tie.Need-thousandths-requires
 thousandths-requires c κs =
     let w = c.before.before.before in
     let T = w.before.before.requires.1.timed in
-    (w.weigh-line.ensures.2.small, omega (arith, T.hyper, hyperperiod-positive T.sound), omega (arith, T.hyper, T.short))
+    (w.weigh_line-found.ensures.2.small, omega (arith, T.hyper, hyperperiod-positive T.sound), omega (arith, T.hyper, T.short))
 
-returns-3 : tie.Need-returns-3
+returns-3 : tie.Need-returns
 returns-3 c t A =
     let w = c.before.before.before.before in
-    let v = w.weigh-line.ensures in
-    weighs-done A w.before.if1.false v.1 v.2 c.before.before.if2.false _
+    let v = w.weigh_line-found.ensures in
+    weighs-done A w.before.if-light-rows.false v.1 v.2 c.before.before.if-found.false _
     c.before.done.ensures refl c.thousandths.ensures
 
-pub weigh-spec : {M : Type 1} → statement M
-weigh-spec =
+pub weigh_spec : {M : Type 1} → statement M
+weigh_spec =
     tie.close
     (tie.spec
     at-requires

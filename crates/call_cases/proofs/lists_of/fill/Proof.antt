@@ -7,55 +7,55 @@ use borrow.Author.Rules.{rules}
 use Rattle.call_cases.proofs.lists_of.fill.Statement.{statement}
 use Rattle.call_cases.proofs.lists_of.fill.Tie as tie
 
-abbrev invariant-loop : tie.invariant-loop
+abbrev invariant-loop : tie.invariant-loop-k
 invariant-loop entries place row out₀ k₀ out k = (k ≤ entries) × (length out ≡ length out₀)
 
-abbrev decreases-loop : tie.decreases-loop
+abbrev decreases-loop : tie.decreases-loop-k
 decreases-loop entries place row out₀ k₀ out k = entries - k
 
-loop-holds : tie.Need-loop-init invariant-loop decreases-loop
+loop-holds : tie.Need-loop-k-init invariant-loop decreases-loop
 loop-holds c = omega arith
 
-mul_at : tie.Need-overflow-mul-at invariant-loop decreases-loop
+mul_at : tie.Need-overflow_mul-at invariant-loop decreases-loop
 mul_at c = omega arith
 
-add_at : tie.Need-overflow-add-at invariant-loop decreases-loop
+add_at : tie.Need-overflow_add-at invariant-loop decreases-loop
 add_at c = omega arith
 
-add-if1 : tie.Need-overflow-add-if1 invariant-loop decreases-loop
+add-if1 : tie.Need-overflow_add-at-in-loop-k invariant-loop decreases-loop
 add-if1 c = omega arith
 
-same_length : tie.Need-same-length invariant-loop decreases-loop
+same_length : tie.Need-shape_of-out-then-out-at invariant-loop decreases-loop
 same_length c = search rules
 
-returns : tie.Need-returns invariant-loop decreases-loop
+returns : tie.Need-returns-then-out-at invariant-loop decreases-loop
 returns c = search rules
 
-cast-t11 : tie.Need-overflow-cast-t11 invariant-loop decreases-loop
+cast-t11 : tie.Need-overflow_cast-entry invariant-loop decreases-loop
 cast-t11 c = omega arith
 
-row-of-requires : tie.Need-row-of-requires invariant-loop decreases-loop
+row-of-requires : tie.Need-row_of-requires invariant-loop decreases-loop
 row-of-requires c κs = search rules
 
-cast-t13 : tie.Need-overflow-cast-t13 invariant-loop decreases-loop
+cast-t13 : tie.Need-overflow_cast-entry-in-loop-k invariant-loop decreases-loop
 cast-t13 c = omega arith
 
-put-bytes-requires : tie.Need-put-bytes-requires invariant-loop decreases-loop
+put-bytes-requires : tie.Need-put_bytes-requires invariant-loop decreases-loop
 put-bytes-requires c κs = search rules
 
-add-k : tie.Need-overflow-add-k invariant-loop decreases-loop
+add-k : tie.Need-overflow_add-k invariant-loop decreases-loop
 add-k c = omega arith
 
-loop-less : tie.Need-loop-smaller invariant-loop decreases-loop
+loop-less : tie.Need-loop-k-smaller invariant-loop decreases-loop
 loop-less c = omega arith
 
-loop-again : tie.Need-loop-preserved invariant-loop decreases-loop
+loop-again : tie.Need-loop-k-preserved invariant-loop decreases-loop
 loop-again c = search rules
 
-same-length-2 : tie.Need-same-length-2 invariant-loop decreases-loop
+same-length-2 : tie.Need-shape_of-out invariant-loop decreases-loop
 same-length-2 c = search rules
 
-returns-2 : tie.Need-returns-2 invariant-loop decreases-loop
+returns-2 : tie.Need-returns invariant-loop decreases-loop
 returns-2 c = search rules
 
 pub fill_spec : {M : Type 1} → statement M

@@ -4,41 +4,41 @@ use Prim.Native.Nat.{◌-◌, ◌≤◌}
 use Rattle.call_cases.proofs.plans.print_standings.Statement.{statement}
 use Rattle.call_cases.proofs.plans.print_standings.Tie as tie
 
-abbrev invariant-loop : tie.invariant-loop
+abbrev invariant-loop : tie.invariant-loop-i
 invariant-loop values i₀ i = i ≤ 4
 
-abbrev decreases-loop : tie.decreases-loop
+abbrev decreases-loop : tie.decreases-loop-i
 decreases-loop values i₀ i = 4 - i
 
-print-answer-requires : tie.Need-print-answer-requires invariant-loop decreases-loop
+print-answer-requires : tie.Need-print_answer-requires invariant-loop decreases-loop
 print-answer-requires c κs = search rules
 
-loop-holds : tie.Need-loop-init invariant-loop decreases-loop
+loop-holds : tie.Need-loop-i-init invariant-loop decreases-loop
 loop-holds c = search rules
 
-mul-print-standing : tie.Need-overflow-mul-print-standing invariant-loop decreases-loop
+mul-print-standing : tie.Need-offset_bounds-values-i invariant-loop decreases-loop
 mul-print-standing c = search rules
 
-array-copy-out-print-standing : tie.Need-array-copy-out-print-standing invariant-loop decreases-loop
+array-copy-out-print-standing : tie.Need-bounds-values-i invariant-loop decreases-loop
 array-copy-out-print-standing c = search rules
 
-print-standing-requires : tie.Need-print-standing-requires invariant-loop decreases-loop
+print-standing-requires : tie.Need-print_standing-requires invariant-loop decreases-loop
 print-standing-requires c κs = search rules
 
-add-i : tie.Need-overflow-add-i invariant-loop decreases-loop
+add-i : tie.Need-overflow_add-i invariant-loop decreases-loop
 add-i c = search rules
 
-loop-less : tie.Need-loop-smaller invariant-loop decreases-loop
+loop-less : tie.Need-loop-i-smaller invariant-loop decreases-loop
 loop-less c = search rules
 
-loop-again : tie.Need-loop-preserved invariant-loop decreases-loop
+loop-again : tie.Need-loop-i-preserved invariant-loop decreases-loop
 loop-again c = search rules
 
 returns : tie.Need-returns invariant-loop decreases-loop
 returns c = search rules
 
-pub print-standings-spec : {M : Type 1} → statement M
-print-standings-spec =
+pub print_standings_spec : {M : Type 1} → statement M
+print_standings_spec =
     tie.close
     (tie.spec
     invariant-loop

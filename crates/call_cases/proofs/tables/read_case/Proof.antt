@@ -6,31 +6,31 @@ use lib.Seq.{length-take-le}
 use Rattle.call_cases.proofs.tables.read_case.Statement.{statement}
 use Rattle.call_cases.proofs.tables.read_case.Tie as tie
 
-slice-aggregate-put-bytes : tie.Need-slice-aggregate-put-bytes
+slice-aggregate-put-bytes : tie.Need-slice_bounds-put_bytes-end
 slice-aggregate-put-bytes c = search rules
 
-put-bytes-requires : tie.Need-put-bytes-requires
+put-bytes-requires : tie.Need-put_bytes-requires
 put-bytes-requires c κs = search rules
 
-after-requires : tie.Need-after-requires
+after-requires : tie.Need-after-size-requires
 after-requires c κs = search rules
 
-cast-out : tie.Need-overflow-cast-out
+cast-out : tie.Need-overflow_cast-out
 cast-out c = search rules
 
-room-requires : tie.Need-room-requires
+room-requires : tie.Need-room-lent-requires
 room-requires c κs = search rules
 
-array-share-prefix-file : tie.Need-array-share-prefix-file
+array-share-prefix-file : tie.Need-slice_bounds-file-end
 array-share-prefix-file c = search rules
 
-slice-aggregate-read : tie.Need-slice-aggregate-read
+slice-aggregate-read : tie.Need-slice_bounds-read-end
 slice-aggregate-read c = sym (length-take-le _ _ (omega arith))
 
-array-borrow-prefix-out : tie.Need-array-borrow-prefix-out
+array-borrow-prefix-out : tie.Need-slice_bounds-out-end
 array-borrow-prefix-out c = search rules
 
-slice-aggregate-read-2 : tie.Need-slice-aggregate-read-2
+slice-aggregate-read-2 : tie.Need-slice_bounds-read-end-2
 slice-aggregate-read-2 c = sym (length-take-le _ _ (omega arith))
 
 read-requires : tie.Need-read-requires
@@ -39,8 +39,8 @@ read-requires c κs = search rules
 returns : tie.Need-returns
 returns c = search rules
 
-pub read-case-spec : {M : Type 1} → statement M
-read-case-spec =
+pub read_case_spec : {M : Type 1} → statement M
+read_case_spec =
     tie.close
     (tie.spec
     slice-aggregate-put-bytes

@@ -11,73 +11,73 @@ use Rattle.decimal.proofs.Text.{lines_none, lines_next}
 use Rattle.file_report.proofs.listing.put_entries.Statement.{statement}
 use Rattle.file_report.proofs.listing.put_entries.Tie as tie
 
-abbrev invariant-loop : tie.invariant-loop
+abbrev invariant-loop : tie.invariant-loop-k
 invariant-loop numbers entries out₀ at next₀ k₀ out next k =
     (k ≤ entries) × PutsLines (each k (λ i. entry (memory_entry numbers i) ∷ [])) k out₀ at out next
 
-abbrev decreases-loop : tie.decreases-loop
+abbrev decreases-loop : tie.decreases-loop-k
 decreases-loop numbers entries out₀ at next₀ k₀ out next k = entries - k
 
-loop-holds : tie.Need-loop-init invariant-loop decreases-loop
+loop-holds : tie.Need-loop-k-init invariant-loop decreases-loop
 loop-holds c =
     let numbers = c.before.before.args.numbers.now in
     (omega arith, lines_none (λ i. entry (memory_entry numbers i) ∷ []) _ _)
 
-mul-p : tie.Need-overflow-mul-p invariant-loop decreases-loop
+mul-p : tie.Need-overflow_mul-p invariant-loop decreases-loop
 mul-p c = omega arith
 
-mul-put-entry : tie.Need-overflow-mul-put-entry invariant-loop decreases-loop
+mul-put-entry : tie.Need-offset_bounds-numbers-p invariant-loop decreases-loop
 mul-put-entry c = omega arith
 
-shared-slice-read-put-entry : tie.Need-shared-slice-read-put-entry invariant-loop decreases-loop
+shared-slice-read-put-entry : tie.Need-bounds-numbers-p invariant-loop decreases-loop
 shared-slice-read-put-entry c = omega arith
 
-add-put-entry : tie.Need-overflow-add-put-entry invariant-loop decreases-loop
+add-put-entry : tie.Need-overflow_add-p invariant-loop decreases-loop
 add-put-entry c = omega arith
 
-mul-put-entry-2 : tie.Need-overflow-mul-put-entry-2 invariant-loop decreases-loop
+mul-put-entry-2 : tie.Need-offset_bounds-numbers-p-in-loop-k invariant-loop decreases-loop
 mul-put-entry-2 c = omega arith
 
-shared-slice-read-put-entry-2 : tie.Need-shared-slice-read-put-entry-2 invariant-loop decreases-loop
+shared-slice-read-put-entry-2 : tie.Need-bounds-numbers-p-in-loop-k invariant-loop decreases-loop
 shared-slice-read-put-entry-2 c = omega arith
 
-add-put-entry-2 : tie.Need-overflow-add-put-entry-2 invariant-loop decreases-loop
+add-put-entry-2 : tie.Need-overflow_add-p-in-loop-k invariant-loop decreases-loop
 add-put-entry-2 c = omega arith
 
-mul-put-entry-3 : tie.Need-overflow-mul-put-entry-3 invariant-loop decreases-loop
+mul-put-entry-3 : tie.Need-offset_bounds-numbers-p-in-loop-k-2 invariant-loop decreases-loop
 mul-put-entry-3 c = omega arith
 
-shared-slice-read-put-entry-3 : tie.Need-shared-slice-read-put-entry-3 invariant-loop decreases-loop
+shared-slice-read-put-entry-3 : tie.Need-bounds-numbers-p-in-loop-k-2 invariant-loop decreases-loop
 shared-slice-read-put-entry-3 c = omega arith
 
-put-entry-requires : tie.Need-put-entry-requires invariant-loop decreases-loop
+put-entry-requires : tie.Need-put_entry-next-requires invariant-loop decreases-loop
 put-entry-requires c κs = omega arith
 
-add-k : tie.Need-overflow-add-k invariant-loop decreases-loop
+add-k : tie.Need-overflow_add-k invariant-loop decreases-loop
 add-k c = omega arith
 
-loop-less : tie.Need-loop-smaller invariant-loop decreases-loop
+loop-less : tie.Need-loop-k-smaller invariant-loop decreases-loop
 loop-less c = omega arith
 
-loop-again : tie.Need-loop-preserved invariant-loop decreases-loop
+loop-again : tie.Need-loop-k-preserved invariant-loop decreases-loop
 loop-again c =
     let z = c.before.before.before.before.before.before.before.before in
     let numbers = z.before.before.before.args.numbers.now in (
       omega arith,
-      lines_next (λ i. entry (memory_entry numbers i) ∷ []) z.loop.k z.loop.invariant.1 _ refl
-          c.before.before.put-entry.ensures,
+      lines_next (λ i. entry (memory_entry numbers i) ∷ []) z.loop-k.k z.loop-k.invariant.1 _ refl
+          c.before.before.put_entry-next.ensures,
     )
 
-same_length : tie.Need-same-length invariant-loop decreases-loop
-same_length c = c.before.loop.invariant.1.0.same
+same_length : tie.Need-shape_of-out invariant-loop decreases-loop
+same_length c = c.before.loop-k.invariant.1.0.same
 
 returns : tie.Need-returns invariant-loop decreases-loop
 returns c =
-    let e : c.before.loop.k ≡ c.before.before.before.before.args.entries = omega arith in
-    rw e at c.before.loop.invariant.1
+    let e : c.before.loop-k.k ≡ c.before.before.before.before.args.entries = omega arith in
+    rw e at c.before.loop-k.invariant.1
 
-pub put-entries-spec : {M : Type 1} → statement M
-put-entries-spec =
+pub put_entries_spec : {M : Type 1} → statement M
+put_entries_spec =
     tie.close
     (tie.spec
     invariant-loop

@@ -15,70 +15,70 @@ use Rattle.interval.proofs.Filling.{row_span, summed_none, summed_next, summed-r
 use Rattle.interval.proofs.choice.add_parts.Statement.{statement}
 use Rattle.interval.proofs.choice.add_parts.Tie as tie
 
-abbrev invariant-loop : tie.invariant-loop
+abbrev invariant-loop : tie.invariant-loop-done
 invariant-loop tail head part rows sum₀ done₀ sum done =
     (length sum ≡ max_elements) × ((i : ℕ) → bit done i ≡ true → bit rows i ≡ true)
     × ((n K : ℕ) → Spans n K (at tail) (last head) → ((i : ℕ) → i < n → 0 < at head i) → ((i : ℕ) → bit rows i ≡ true → i < n)
     → Summed n K (at tail) (last head) (among done (at part)) (at sum))
 
-abbrev decreases-loop : tie.decreases-loop
+abbrev decreases-loop : tie.decreases-loop-done
 decreases-loop tail head part rows sum₀ done₀ sum done = count 64 (λ i. not (bit done i))
 
-abbrev start : tie.After-pick invariant-loop decreases-loop → tie.Start invariant-loop decreases-loop
+abbrev start : tie.After-pick-i invariant-loop decreases-loop → tie.Start invariant-loop decreases-loop
 start p = p.before.before.before
 
 -- the row that is taken
-picked : (p : tie.After-pick invariant-loop decreases-loop)
-    → (bit (start p).args.rows p.pick.result ≡ true) × (bit p.before.before.loop.done p.pick.result ≡ false)
-picked p = in_first _ _ p.pick.ensures.1 (p.before.before.loop.invariant.1 p.pick.result)
+picked : (p : tie.After-pick-i invariant-loop decreases-loop)
+    → (bit (start p).args.rows p.pick-i.result ≡ true) × (bit p.before.before.loop-done.done p.pick-i.result ≡ false)
+picked p = in_first _ _ p.pick-i.ensures.1 (p.before.before.loop-done.invariant.1 p.pick-i.result)
 
-here : (p : tie.After-pick invariant-loop decreases-loop) → p.pick.result < (start p).requires.0.0
-here p = (start p).requires.0.6 p.pick.result (picked p).0
+here : (p : tie.After-pick-i invariant-loop decreases-loop) → p.pick-i.result < (start p).requires.0.0
+here p = (start p).requires.0.6 p.pick-i.result (picked p).0
 
 -- its sets
-span : (p : tie.After-pick invariant-loop decreases-loop) → let a = (start p).args in
-    (at a.tail.now p.pick.result ≤ at a.head.now p.pick.result) × (at a.head.now p.pick.result ≤ max_elements)
+span : (p : tie.After-pick-i invariant-loop decreases-loop) → let a = (start p).args in
+    (at a.tail.now p.pick-i.result ≤ at a.head.now p.pick-i.result) × (at a.head.now p.pick-i.result ≤ max_elements)
 span p =
     let a = (start p).args in
     let q = (start p).requires.0 in
-    let r = row_span a.tail.now a.head.now q.3 p.pick.result (here p) (q.4 _ (here p)) in
+    let r = row_span a.tail.now a.head.now q.3 p.pick-i.result (here p) (q.4 _ (here p)) in
     (r.0, r.1)
 
-loop-holds : tie.Need-loop-init invariant-loop decreases-loop
+loop-holds : tie.Need-loop-done-init invariant-loop decreases-loop
 loop-holds c = (
   c.requires.2,
   λ i q. absurd (false≢true (sym (bit_zero i) ∙ q)),
   λ n K S H R. summed_none n K _ _ _ _ c.requires.1,
 )
 
-pick-requires : tie.Need-pick-requires invariant-loop decreases-loop
-pick-requires c κs = λ q. c.loop-test.true (sym q)
+pick-requires : tie.Need-pick-i-requires invariant-loop decreases-loop
+pick-requires c κs = λ q. c.loop-done-test.true (sym q)
 
-element-copy-out-from : tie.Need-element-copy-out-from invariant-loop decreases-loop
-element-copy-out-from c = omega (arith, c.pick.ensures.0)
+element-copy-out-from : tie.Need-bounds-tail-i invariant-loop decreases-loop
+element-copy-out-from c = omega (arith, c.pick-i.ensures.0)
 
-cast-from : tie.Need-overflow-cast-from invariant-loop decreases-loop
+cast-from : tie.Need-overflow_cast-from invariant-loop decreases-loop
 cast-from c = omega (arith, span c.before)
 
-element-copy-out-to : tie.Need-element-copy-out-to invariant-loop decreases-loop
-element-copy-out-to c = omega (arith, c.before.pick.ensures.0)
+element-copy-out-to : tie.Need-bounds-head-i invariant-loop decreases-loop
+element-copy-out-to c = omega (arith, c.before.pick-i.ensures.0)
 
-cast-to : tie.Need-overflow-cast-to invariant-loop decreases-loop
+cast-to : tie.Need-overflow_cast-to invariant-loop decreases-loop
 cast-to c = omega (arith, span c.before.before)
 
-mul-lift : tie.Need-overflow-mul-lift invariant-loop decreases-loop
-mul-lift c = omega (arith, c.before.before.before.pick.ensures.0)
+mul-lift : tie.Need-offset_bounds-part-i invariant-loop decreases-loop
+mul-lift c = omega (arith, c.before.before.before.pick-i.ensures.0)
 
-element-copy-out-lift : tie.Need-element-copy-out-lift invariant-loop decreases-loop
-element-copy-out-lift c = omega (arith, c.before.before.before.pick.ensures.0)
+element-copy-out-lift : tie.Need-bounds-part-i invariant-loop decreases-loop
+element-copy-out-lift c = omega (arith, c.before.before.before.pick-i.ensures.0)
 
 lift-requires : tie.Need-lift-requires invariant-loop decreases-loop
 lift-requires c κs =
     let p = c.before.before.before.before in
-    let u = p.before.before.loop in
+    let u = p.before.before.loop-done in
     let q = (start p).requires.0 in
-    let i = p.pick.result in
-    let l = p.pick.ensures.0 in
+    let i = p.pick-i.result in
+    let l = p.pick-i.ensures.0 in
     let H = q.4 i (here p) in (
       (span p).0,
       (span p).1,
@@ -89,22 +89,22 @@ lift-requires c κs =
           (u.invariant.2 _ _ q.3 q.4 q.6) q.2 q.5 q.3.few_rows k (omega (arith, r)) g (omega (arith, r)),
     )
 
-shl-done : tie.Need-overflow-shl-done invariant-loop decreases-loop
-shl-done c = omega (arith, c.before.before.before.before.before.pick.ensures.0)
+shl-done : tie.Need-overflow_shl-done invariant-loop decreases-loop
+shl-done c = omega (arith, c.before.before.before.before.before.pick-i.ensures.0)
 
-loop-less : tie.Need-loop-smaller invariant-loop decreases-loop
+loop-less : tie.Need-loop-done-smaller invariant-loop decreases-loop
 loop-less c =
     let p = c.before.before.before.before.before in
-    let l = p.pick.ensures.0 in
-    let d = p.before.before.loop.done in
-    fewer d _ p.pick.result l (picked p).1 (λ v. bit_one_more d p.pick.result v l)
+    let l = p.pick-i.ensures.0 in
+    let d = p.before.before.loop-done.done in
+    fewer d _ p.pick-i.result l (picked p).1 (λ v. bit_one_more d p.pick-i.result v l)
 
-loop-again : tie.Need-loop-preserved invariant-loop decreases-loop
+loop-again : tie.Need-loop-done-preserved invariant-loop decreases-loop
 loop-again c =
     let p = c.before.before.before.before.before in
-    let u = p.before.before.loop in
-    let i = p.pick.result in
-    let l = p.pick.ensures.0 in (
+    let u = p.before.before.loop-done in
+    let i = p.pick-i.result in
+    let l = p.pick-i.ensures.0 in (
       c.lift.ensures.0,
       λ j q. one_of (bit u.done j) j i (sym (bit_one_more u.done i j l) ∙ q) (u.invariant.1 j) (λ k. rw k (picked p).0),
       λ n K S H R.
@@ -115,12 +115,12 @@ loop-again c =
 
 returns : tie.Need-returns invariant-loop decreases-loop
 returns c =
-    let u = c.before.loop in
+    let u = c.before.loop-done in
     let q : u.done ≡ c.before.before.args.rows = omega arith in
     (u.invariant.0, rw q at u.invariant.2)
 
-pub add-parts-spec : {M : Type 1} → statement M
-add-parts-spec =
+pub add_parts_spec : {M : Type 1} → statement M
+add_parts_spec =
     tie.close
     (tie.spec
     invariant-loop

@@ -8,42 +8,42 @@ use Rattle.interval.proofs.Filling.{extend}
 use Rattle.interval.proofs.choice.all_less.Statement.{statement}
 use Rattle.interval.proofs.choice.all_less.Tie as tie
 
-abbrev invariant-loop : tie.invariant-loop
+abbrev invariant-loop : tie.invariant-loop-k
 invariant-loop left sets h k₀ k =
     (q : ℕ) → q < k → at left q < h
 
-abbrev decreases-loop : tie.decreases-loop
+abbrev decreases-loop : tie.decreases-loop-k
 decreases-loop left sets h k₀ k = sets - k
 
-loop-holds : tie.Need-loop-init invariant-loop decreases-loop
+loop-holds : tie.Need-loop-k-init invariant-loop decreases-loop
 loop-holds c = λ q l. absurd (omega arith)
 
-mul-if1 : tie.Need-overflow-mul-if1 invariant-loop decreases-loop
+mul-if1 : tie.Need-offset_bounds-left-k invariant-loop decreases-loop
 mul-if1 c = search rules
 
-element-copy-out-if1 : tie.Need-element-copy-out-if1 invariant-loop decreases-loop
+element-copy-out-if1 : tie.Need-bounds-left-k invariant-loop decreases-loop
 element-copy-out-if1 c = search rules
 
-returns : tie.Need-returns invariant-loop decreases-loop
+returns : tie.Need-returns-then-left-k invariant-loop decreases-loop
 returns c = λ q. absurd (false≢true q)
 
-add-k : tie.Need-overflow-add-k invariant-loop decreases-loop
+add-k : tie.Need-overflow_add-k invariant-loop decreases-loop
 add-k c = search rules
 
-loop-less : tie.Need-loop-smaller invariant-loop decreases-loop
+loop-less : tie.Need-loop-k-smaller invariant-loop decreases-loop
 loop-less c = search rules
 
-loop-again : tie.Need-loop-preserved invariant-loop decreases-loop
+loop-again : tie.Need-loop-k-preserved invariant-loop decreases-loop
 loop-again c =
-    let u = c.before.before.before.loop in
+    let u = c.before.before.before.loop-k in
     let z = c.before.before.before.before.args in
-    extend (λ q. at z.left.now q < z.h) u.k u.invariant (omega (arith, c.if1.false))
+    extend (λ q. at z.left.now q < z.h) u.k u.invariant (omega (arith, c.if-left-k.false))
 
-returns-2 : tie.Need-returns-2 invariant-loop decreases-loop
-returns-2 c = λ q k l. c.before.loop.invariant k (omega arith)
+returns-2 : tie.Need-returns invariant-loop decreases-loop
+returns-2 c = λ q k l. c.before.loop-k.invariant k (omega arith)
 
-pub all-less-spec : {M : Type 1} → statement M
-all-less-spec =
+pub all_less_spec : {M : Type 1} → statement M
+all_less_spec =
     tie.close
     (tie.spec
     invariant-loop

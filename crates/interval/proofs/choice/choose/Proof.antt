@@ -27,22 +27,22 @@ are-parts z = among_parts z.args.rows z.requires.1
 uneven : (z : tie.Start) → Uneven z.args.size.rows (parts z) z.args.rows
 uneven z = among_uneven _ z.args.rows (at z.args.part.now) z.requires.2
 
-returns : tie.Need-returns
+returns : tie.Need-returns-then-rows-eq0
 returns c =
     let z = c.before in
     let E = z.requires.0 in
     let P = are-parts z in
     let U = uneven z in
-    let e = c.if1.true in
+    let e = c.if-rows-eq0.true in
     let s : Summed z.args.size.rows z.args.size.sets (at z.args.tail.now) (last z.args.head.now) (parts z) none =
     rw e (summed_none _ _ _ _ _ none (λ k. refl)) in
     taken-greatest _ _ _ _ _ _ E.spans P 0 none
     (tried-end _ _ _ _ _ _ E.spans P _ U (tried-start _ _ _ _ _ _ E.spans P _ U none s) (sym e)) (λ k l. P.some)
 
-cast-h : tie.Need-overflow-cast-h
+cast-h : tie.Need-overflow_cast-h
 cast-h c = omega (arith, c.before.before.requires.1.fits)
 
-add-parts-requires : tie.Need-add-parts-requires
+add-parts-requires : tie.Need-add_parts-requires
 add-parts-requires c κs =
     let z = c.before.before.before in
     let p = z.requires in (
@@ -51,45 +51,45 @@ add-parts-requires c κs =
       refl,
     )
 
-abbrev summing : tie.After-take-rows → tie.After-add-parts
+abbrev summing : tie.After-take_rows-top → tie.After-add_parts
 summing t = t.before.before
 
-abbrev entry : tie.After-add-parts → tie.Start
+abbrev entry : tie.After-add_parts → tie.Start
 entry a = a.before.before.before.before
 
-sums : (a : tie.After-add-parts) → let z = entry a in
+sums : (a : tie.After-add_parts) → let z = entry a in
     Summed z.args.size.rows z.args.size.sets (at z.args.tail.now) (last z.args.head.now) (parts z)
     (at a.add_parts.new.1.1.1.1.0)
 sums a = let p = (entry a).requires in a.add_parts.ensures.1 _ _ p.0.spans p.0.heads (λ i q. (p.2 i q).0)
 
-take-rows-requires : tie.Need-take-rows-requires
+take-rows-requires : tie.Need-take_rows-top-requires
 take-rows-requires c κs =
     let a = c.before in
     let z = entry a in
-    ((_, _, parts z, z.pre.0.spans, z.pre.0.heads, are-parts z, uneven z, sums a), a.add_parts.ensures.0)
+    ((_, _, parts z, z.requires.0.spans, z.requires.0.heads, are-parts z, uneven z, sums a), a.add_parts.ensures.0)
 
 -- the rows in turn
-taken : (t : tie.After-take-rows) → let z = entry (summing t) in
+taken : (t : tie.After-take_rows-top) → let z = entry (summing t) in
     Taken z.args.size.rows z.args.size.sets z.args.size.rows (at z.args.tail.now) (last z.args.head.now)
-    z.args.size.hyper (parts z) t.take-rows.result (at t.take-rows.new.1.1.1.1.0)
+    z.args.size.hyper (parts z) t.take_rows-top.result (at t.take_rows-top.new.1.1.1.1.0)
 taken t =
     let a = summing t in
     let z = entry a in
-    t.take-rows.ensures.1 _ _ (parts z) z.pre.0.spans z.pre.0.heads (are-parts z) (uneven z) (sums a)
+    t.take_rows-top.ensures.1 _ _ (parts z) z.requires.0.spans z.requires.0.heads (are-parts z) (uneven z) (sums a)
 
-all-less-requires : tie.Need-all-less-requires
-all-less-requires c κs = let z = entry (summing c.before) in z.pre.0.spans.few_sets
+all-less-requires : tie.Need-all_less-requires
+all-less-requires c κs = let z = entry (summing c.before) in z.requires.0.spans.few_sets
 
-returns-2 : tie.Need-returns-2
+returns-2 : tie.Need-returns-then-all_less
 returns-2 c =
     let d = c.before in
     let t = d.before.before in
     let z = entry (summing t) in
-    taken-greatest _ _ _ _ _ _ z.pre.0.spans (are-parts z) _ _ (taken t) (d.all-less.ensures c.if2.true)
+    taken-greatest _ _ _ _ _ _ z.requires.0.spans (are-parts z) _ _ (taken t) (d.all_less.ensures c.if-all_less.true)
 
 -- ---- where the rows in turn have left a set too low
 
-add-parts-requires-2 : tie.Need-add-parts-requires-2
+add-parts-requires-2 : tie.Need-add_parts-requires-2
 add-parts-requires-2 c κs =
     let p = (entry (summing c.before.before.before.before)).requires in (
       (_, _, _, p.0.spans, p.0.heads, p.1, λ i q. (p.2 i q).0),
@@ -97,62 +97,62 @@ add-parts-requires-2 c κs =
       refl,
     )
 
-abbrev settling : tie.After-sum2 → tie.After-take-rows
+abbrev settling : tie.After-sum-2-1 → tie.After-take_rows-top
 settling w = w.before.before.before.before.before.before
 
-sums-again : (w : tie.After-sum2) → let z = entry (summing (settling w)) in
+sums-again : (w : tie.After-sum-2-1) → let z = entry (summing (settling w)) in
     Summed z.args.size.rows z.args.size.sets (at z.args.tail.now) (last z.args.head.now) (parts z)
-    (at w.before.add-parts2.new.1.1.1.1.0)
+    (at w.before.add_parts-2.new.1.1.1.1.0)
 sums-again w =
     let p = (entry (summing (settling w))).requires in
-    w.before.add-parts2.ensures.1 _ _ p.0.spans p.0.heads (λ i q. (p.2 i q).0)
+    w.before.add_parts-2.ensures.1 _ _ p.0.spans p.0.heads (λ i q. (p.2 i q).0)
 
-abbrev Given : tie.After-sum2 → Type 0
+abbrev Given : tie.After-sum-2-1 → Type 0
 Given w =
     let a = (entry (summing (settling w))).args in
     Asked a.size.rows a.size.sets a.size.hyper a.tail.now a.head.now a.out.now a.into.now
-    w.before.add-parts2.new.1.1.1.1.0 (parts (entry (summing (settling w))))
+    w.before.add_parts-2.new.1.1.1.1.0 (parts (entry (summing (settling w))))
 
-given : (w : tie.After-sum2) → Given w
-given w = let z = entry (summing (settling w)) in record { ends = z.pre.0; parts = are-parts z; summed = sums-again w }
+given : (w : tie.After-sum-2-1) → Given w
+given w = let z = entry (summing (settling w)) in record { ends = z.requires.0; parts = are-parts z; summed = sums-again w }
 
-compare-requires : tie.Need-compare-requires
+compare-requires : tie.Need-compare-start-requires
 compare-requires c κs =
     let p = (entry (summing (settling c))).requires in
     (p.0.spans.few_sets, p.1.fits, sums-most (given c))
 
 -- where the settling starts
-started : (k : tie.After-compare) → let z = entry (summing (settling k.before)) in
+started : (k : tie.After-compare-start) → let z = entry (summing (settling k.before)) in
     State z.args.size.rows z.args.size.sets z.args.size.hyper z.args.tail.now z.args.head.now (parts z)
-    k.compare.result
+    k.compare-start.result
 started k =
     let w = k.before in
     let t = settling w in
     let z = entry (summing t) in
-    let e = k.compare.ensures in
-    state-of (given w) k.compare.result z.args.rows t.take-rows.result
+    let e = k.compare-start.ensures in
+    state-of (given w) k.compare-start.result z.args.rows t.take_rows-top.result
     (λ i l. uneven z i ∙ ap (λ (b : Bool). b && ltb 0 (parts z i)) (lt-ltb i z.args.size.rows l))
-    (taken-upper _ _ _ _ _ _ z.pre.0.spans (are-parts z) _ _ (taken t)) e.0 e.1 e.2
+    (taken-upper _ _ _ _ _ _ z.requires.0.spans (are-parts z) _ _ (taken t)) e.0 e.1 e.2
 
-mend-requires : tie.Need-mend-requires
+mend-requires : tie.Need-mend-mended-requires
 mend-requires c κs =
     let k = c.before in
     let w = k.before in
     (parts (entry (summing (settling w))), given w, started k)
 
-raise-rows-requires : tie.Need-raise-rows-requires
+raise-rows-requires : tie.Need-raise_rows-requires
 raise-rows-requires c κs =
     let m = c.before in
     let k = m.before.before in
     let w = k.before in
-    (parts (entry (summing (settling w))), given w, m.mend.ensures _ (given w) (started k))
+    (parts (entry (summing (settling w))), given w, m.mend-mended.ensures _ (given w) (started k))
 
-returns-3 : tie.Need-returns-3
+returns-3 : tie.Need-returns
 returns-3 c =
     let m = c.before.before in
     let k = m.before.before in
     let w = k.before in
-    c.raise-rows.ensures _ (given w) (m.mend.ensures _ (given w) (started k))
+    c.raise_rows.ensures _ (given w) (m.mend-mended.ensures _ (given w) (started k))
 
 pub choose_spec : {M : Type 1} → statement M
 choose_spec =

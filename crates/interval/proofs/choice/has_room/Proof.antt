@@ -8,47 +8,47 @@ use Rattle.interval.proofs.Filling.{extend}
 use Rattle.interval.proofs.choice.has_room.Statement.{statement}
 use Rattle.interval.proofs.choice.has_room.Tie as tie
 
-abbrev invariant-loop : tie.invariant-loop
+abbrev invariant-loop : tie.invariant-loop-k
 invariant-loop left from to k₀ k =
     (from ≤ k) × ((q : ℕ) → q < k → from ≤ q → 0 < at left q)
 
-abbrev decreases-loop : tie.decreases-loop
+abbrev decreases-loop : tie.decreases-loop-k
 decreases-loop left from to k₀ k = to - k
 
-loop-holds : tie.Need-loop-init invariant-loop decreases-loop
+loop-holds : tie.Need-loop-k-init invariant-loop decreases-loop
 loop-holds c = (omega arith, λ q l g. absurd (omega arith))
 
-mul-if1 : tie.Need-overflow-mul-if1 invariant-loop decreases-loop
+mul-if1 : tie.Need-offset_bounds-left-k invariant-loop decreases-loop
 mul-if1 c = search rules
 
-element-copy-out-if1 : tie.Need-element-copy-out-if1 invariant-loop decreases-loop
+element-copy-out-if1 : tie.Need-bounds-left-k invariant-loop decreases-loop
 element-copy-out-if1 c = search rules
 
-returns : tie.Need-returns invariant-loop decreases-loop
+returns : tie.Need-returns-then-left-k-eq0 invariant-loop decreases-loop
 returns c =
     let i = c.before.before in
-    let u = i.before.loop in
-    record { goes = λ q. absurd (false≢true q); stays = λ q. (u.k, u.invariant.0, i.loop-test.true, c.if1.true) }
+    let u = i.before.loop-k in
+    record { goes = λ q. absurd (false≢true q); stays = λ q. (u.k, u.invariant.0, i.loop-k-test.true, c.if-left-k-eq0.true) }
 
-add-k : tie.Need-overflow-add-k invariant-loop decreases-loop
+add-k : tie.Need-overflow_add-k invariant-loop decreases-loop
 add-k c = search rules
 
-loop-less : tie.Need-loop-smaller invariant-loop decreases-loop
+loop-less : tie.Need-loop-k-smaller invariant-loop decreases-loop
 loop-less c = search rules
 
-loop-again : tie.Need-loop-preserved invariant-loop decreases-loop
+loop-again : tie.Need-loop-k-preserved invariant-loop decreases-loop
 loop-again c =
-    let u = c.before.before.before.loop in
+    let u = c.before.before.before.loop-k in
     let z = c.before.before.before.before.args in
-    (omega (arith, u.invariant.0), extend (λ q. z.from ≤ q → 0 < at z.left.now q) u.k u.invariant.1 (λ g. omega (arith, c.if1.false)))
+    (omega (arith, u.invariant.0), extend (λ q. z.from ≤ q → 0 < at z.left.now q) u.k u.invariant.1 (λ g. omega (arith, c.if-left-k-eq0.false)))
 
-returns-2 : tie.Need-returns-2 invariant-loop decreases-loop
+returns-2 : tie.Need-returns invariant-loop decreases-loop
 returns-2 c =
-    let u = c.before.loop in
+    let u = c.before.loop-k in
     record { goes = λ q k l g. u.invariant.1 k (omega arith) l; stays = λ q. absurd (true≢false q) }
 
-pub has-room-spec : {M : Type 1} → statement M
-has-room-spec =
+pub has_room_spec : {M : Type 1} → statement M
+has_room_spec =
     tie.close
     (tie.spec
     invariant-loop

@@ -12,44 +12,44 @@ use Rattle.interval.proofs.Filling.{lifted_none, lifted_next}
 use Rattle.interval.proofs.choice.lift.Statement.{statement}
 use Rattle.interval.proofs.choice.lift.Tie as tie
 
-abbrev invariant-loop : tie.invariant-loop
+abbrev invariant-loop : tie.invariant-loop-k
 invariant-loop sum₀ from to v k₀ sum k =
     (length sum ≡ max_elements) × (from ≤ k) × (k ≤ to) × Lifted (at sum₀) (at sum) from k v
 
-abbrev decreases-loop : tie.decreases-loop
+abbrev decreases-loop : tie.decreases-loop-k
 decreases-loop sum₀ from to v k₀ sum k = to - k
 
-loop-holds : tie.Need-loop-init invariant-loop decreases-loop
+loop-holds : tie.Need-loop-k-init invariant-loop decreases-loop
 loop-holds c = (c.requires.2, omega arith, c.requires.0, lifted_none _ _ _)
 
-mul-sum : tie.Need-overflow-mul-sum invariant-loop decreases-loop
+mul-sum : tie.Need-offset_bounds-sum-k invariant-loop decreases-loop
 mul-sum c = search rules
 
-element-copy-out-sum : tie.Need-element-copy-out-sum invariant-loop decreases-loop
+element-copy-out-sum : tie.Need-bounds-sum-k invariant-loop decreases-loop
 element-copy-out-sum c = search rules
 
-add-sum : tie.Need-overflow-add-sum invariant-loop decreases-loop
+add-sum : tie.Need-overflow_add-sum invariant-loop decreases-loop
 add-sum c =
     let l = c.before in
-    let u = l.before.loop in
-    omega (arith, l.before.before.requires.3 u.k u.invariant.1 l.loop-test.true, u.invariant.3.beyond u.k (omega arith))
+    let u = l.before.loop-k in
+    omega (arith, l.before.before.requires.3 u.k u.invariant.1 l.loop-k-test.true, u.invariant.3.beyond u.k (omega arith))
 
-mul-sum-2 : tie.Need-overflow-mul-sum-2 invariant-loop decreases-loop
+mul-sum-2 : tie.Need-offset_bounds-sum-k-in-loop-k invariant-loop decreases-loop
 mul-sum-2 c = search rules
 
-element-write-sum : tie.Need-element-write-sum invariant-loop decreases-loop
+element-write-sum : tie.Need-bounds-sum-k-in-loop-k invariant-loop decreases-loop
 element-write-sum c = search rules
 
-add-k : tie.Need-overflow-add-k invariant-loop decreases-loop
+add-k : tie.Need-overflow_add-k invariant-loop decreases-loop
 add-k c = search rules
 
-loop-less : tie.Need-loop-smaller invariant-loop decreases-loop
+loop-less : tie.Need-loop-k-smaller invariant-loop decreases-loop
 loop-less c = search rules
 
-loop-again : tie.Need-loop-preserved invariant-loop decreases-loop
+loop-again : tie.Need-loop-k-preserved invariant-loop decreases-loop
 loop-again c =
     let l = c.before in
-    let u = l.before.loop in
+    let u = l.before.loop-k in
     let le : u.k < length u.sum = omega (arith, u.invariant.0, l.before.before.requires.1) in (
       simp length-set u.invariant.0,
       omega arith,
@@ -59,12 +59,12 @@ loop-again c =
 
 returns : tie.Need-returns invariant-loop decreases-loop
 returns c =
-    let u = c.before.loop in
+    let u = c.before.loop-k in
     let q : u.k ≡ c.before.before.args.to = omega arith in
     (u.invariant.0, rw q at u.invariant.3)
 
-pub lift-spec : {M : Type 1} → statement M
-lift-spec =
+pub lift_spec : {M : Type 1} → statement M
+lift_spec =
     tie.close
     (tie.spec
     invariant-loop

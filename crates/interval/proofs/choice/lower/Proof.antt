@@ -12,41 +12,41 @@ use Rattle.interval.proofs.Filling.{lowered_none, lowered_next}
 use Rattle.interval.proofs.choice.lower.Statement.{statement}
 use Rattle.interval.proofs.choice.lower.Tie as tie
 
-abbrev invariant-loop : tie.invariant-loop
+abbrev invariant-loop : tie.invariant-loop-k
 invariant-loop left₀ from to h k₀ left k =
     (length left ≡ max_elements) × (from ≤ k) × (k ≤ to) × Lowered (at left₀) (at left) from k h
 
-abbrev decreases-loop : tie.decreases-loop
+abbrev decreases-loop : tie.decreases-loop-k
 decreases-loop left₀ from to h k₀ left k = to - k
 
-loop-holds : tie.Need-loop-init invariant-loop decreases-loop
+loop-holds : tie.Need-loop-k-init invariant-loop decreases-loop
 loop-holds c = (c.requires.2, omega arith, c.requires.0, lowered_none _ _ _)
 
-mul-less : tie.Need-overflow-mul-less invariant-loop decreases-loop
+mul-less : tie.Need-offset_bounds-left-k invariant-loop decreases-loop
 mul-less c = search rules
 
-element-copy-out-less : tie.Need-element-copy-out-smaller invariant-loop decreases-loop
+element-copy-out-less : tie.Need-bounds-left-k invariant-loop decreases-loop
 element-copy-out-less c = search rules
 
 less-requires : tie.Need-less-requires invariant-loop decreases-loop
 less-requires c κs = search rules
 
-mul_left : tie.Need-overflow-mul-left invariant-loop decreases-loop
+mul_left : tie.Need-offset_bounds-left-k-in-loop-k invariant-loop decreases-loop
 mul_left c = search rules
 
-element-write-left : tie.Need-element-write-left invariant-loop decreases-loop
+element-write-left : tie.Need-bounds-left-k-in-loop-k invariant-loop decreases-loop
 element-write-left c = search rules
 
-add-k : tie.Need-overflow-add-k invariant-loop decreases-loop
+add-k : tie.Need-overflow_add-k invariant-loop decreases-loop
 add-k c = search rules
 
-loop-less : tie.Need-loop-smaller invariant-loop decreases-loop
+loop-less : tie.Need-loop-k-smaller invariant-loop decreases-loop
 loop-less c = search rules
 
-loop-again : tie.Need-loop-preserved invariant-loop decreases-loop
+loop-again : tie.Need-loop-k-preserved invariant-loop decreases-loop
 loop-again c =
     let l = c.before.before in
-    let u = l.before.loop in
+    let u = l.before.loop-k in
     let le : u.k < length u.left = omega (arith, u.invariant.0, l.before.before.requires.1) in (
       simp length-set u.invariant.0,
       omega arith,
@@ -56,7 +56,7 @@ loop-again c =
 
 returns : tie.Need-returns invariant-loop decreases-loop
 returns c =
-    let u = c.before.loop in
+    let u = c.before.loop-k in
     let q : u.k ≡ c.before.before.args.to = omega arith in
     (u.invariant.0, rw q at u.invariant.3)
 

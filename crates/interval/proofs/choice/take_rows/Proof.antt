@@ -17,83 +17,83 @@ use Rattle.interval.proofs.Taking.{taken-full, taken-up, Tried, tried-start, tri
 use Rattle.interval.proofs.choice.take_rows.Statement.{statement}
 use Rattle.interval.proofs.choice.take_rows.Tie as tie
 
-abbrev invariant-loop : tie.invariant-loop
+abbrev invariant-loop : tie.invariant-loop-done
 invariant-loop tail head rows h left₀ top₀ done₀ left top done =
     (length left ≡ max_elements)
     × ((n K : ℕ) (f : ℕ → ℕ) (S : Spans n K (at tail) (last head)) → ((i : ℕ) → i < n → 0 < at head i) → (P : Parts n h f)
     → (U : Uneven n f rows) → Summed n K (at tail) (last head) f (at left₀)
     → Tried n K (at tail) (last head) h f S P rows U done top (at left))
 
-abbrev decreases-loop : tie.decreases-loop
+abbrev decreases-loop : tie.decreases-loop-done
 decreases-loop tail head rows h left₀ top₀ done₀ left top done = count 64 (λ i. not (bit done i))
 
-abbrev start : tie.After-pick invariant-loop decreases-loop → tie.Start invariant-loop decreases-loop
+abbrev start : tie.After-pick-i invariant-loop decreases-loop → tie.Start invariant-loop decreases-loop
 start p = p.before.before.before
 
 -- the rows passed, for the table that the call was made with
-abbrev passed : (p : tie.After-pick invariant-loop decreases-loop) → let z = start p in let q = z.pre.0 in let u = p.before.before.loop in
+abbrev passed : (p : tie.After-pick-i invariant-loop decreases-loop) → let z = start p in let q = z.requires.0 in let u = p.before.before.loop-done in
     Tried q.0 q.1 (at z.args.tail.now) (last z.args.head.now) z.args.h q.2 q.3 q.5 z.args.rows q.6
     u.done u.top (at u.left)
-passed p = let q = (start p).requires.0 in p.before.before.loop.invariant.1 _ _ _ q.3 q.4 q.5 q.6 q.7
+passed p = let q = (start p).requires.0 in p.before.before.loop-done.invariant.1 _ _ _ q.3 q.4 q.5 q.6 q.7
 
-here : (p : tie.After-pick invariant-loop decreases-loop) → p.pick.result < (start p).requires.0.0
-here p = (tried-row _ _ _ _ _ _ _ _ _ _ (passed p) p.pick.result p.pick.ensures.1 p.pick.ensures.2).0
+here : (p : tie.After-pick-i invariant-loop decreases-loop) → p.pick-i.result < (start p).requires.0.0
+here p = (tried-row _ _ _ _ _ _ _ _ _ _ (passed p) p.pick-i.result p.pick-i.ensures.1 p.pick-i.ensures.2).0
 
 -- its sets
-span : (p : tie.After-pick invariant-loop decreases-loop) → let a = (start p).args in
-    (at a.tail.now p.pick.result ≤ at a.head.now p.pick.result) × (at a.head.now p.pick.result ≤ max_elements)
+span : (p : tie.After-pick-i invariant-loop decreases-loop) → let a = (start p).args in
+    (at a.tail.now p.pick-i.result ≤ at a.head.now p.pick-i.result) × (at a.head.now p.pick-i.result ≤ max_elements)
 span p =
     let a = (start p).args in
     let q = (start p).requires.0 in
-    let r = row_span a.tail.now a.head.now q.3 p.pick.result (here p) (q.4 _ (here p)) in
+    let r = row_span a.tail.now a.head.now q.3 p.pick-i.result (here p) (q.4 _ (here p)) in
     (r.0, r.1)
 
-loop-holds : tie.Need-loop-init invariant-loop decreases-loop
+loop-holds : tie.Need-loop-done-init invariant-loop decreases-loop
 loop-holds c = (c.requires.1, λ n K f S H P U s. tried-start _ _ _ _ _ _ S P _ U _ s)
 
-pick-requires : tie.Need-pick-requires invariant-loop decreases-loop
-pick-requires c κs = λ q. c.loop-test.true (sym q)
+pick-requires : tie.Need-pick-i-requires invariant-loop decreases-loop
+pick-requires c κs = λ q. c.loop-done-test.true (sym q)
 
-element-copy-out-from : tie.Need-element-copy-out-from invariant-loop decreases-loop
-element-copy-out-from c = omega (arith, c.pick.ensures.0)
+element-copy-out-from : tie.Need-bounds-tail-i invariant-loop decreases-loop
+element-copy-out-from c = omega (arith, c.pick-i.ensures.0)
 
-cast-from : tie.Need-overflow-cast-from invariant-loop decreases-loop
+cast-from : tie.Need-overflow_cast-from invariant-loop decreases-loop
 cast-from c = omega (arith, span c.before)
 
-element-copy-out-to : tie.Need-element-copy-out-to invariant-loop decreases-loop
-element-copy-out-to c = omega (arith, c.before.pick.ensures.0)
+element-copy-out-to : tie.Need-bounds-head-i invariant-loop decreases-loop
+element-copy-out-to c = omega (arith, c.before.pick-i.ensures.0)
 
-cast-to : tie.Need-overflow-cast-to invariant-loop decreases-loop
+cast-to : tie.Need-overflow_cast-to invariant-loop decreases-loop
 cast-to c = omega (arith, span c.before.before)
 
-has-room-requires : tie.Need-has-room-requires invariant-loop decreases-loop
+has-room-requires : tie.Need-has_room-requires invariant-loop decreases-loop
 has-room-requires c κs = (span c.before.before.before).1
 
 lower-requires : tie.Need-lower-requires invariant-loop decreases-loop
 lower-requires c κs =
     let p = c.before.before.before.before.before.before in
-    ((span p).0, (span p).1, p.before.before.loop.invariant.0)
+    ((span p).0, (span p).1, p.before.before.loop-done.invariant.0)
 
-shl-top : tie.Need-overflow-shl-top invariant-loop decreases-loop
-shl-top c = omega (arith, c.before.before.before.before.before.before.before.pick.ensures.0)
+shl-top : tie.Need-overflow_shl-top invariant-loop decreases-loop
+shl-top c = omega (arith, c.before.before.before.before.before.before.before.pick-i.ensures.0)
 
-shl-done : tie.Need-overflow-shl-done invariant-loop decreases-loop
-shl-done c = omega (arith, c.before.before.before.before.before.pick.ensures.0)
+shl-done : tie.Need-overflow_shl-done invariant-loop decreases-loop
+shl-done c = omega (arith, c.before.before.before.before.before.pick-i.ensures.0)
 
-loop-less : tie.Need-loop-smaller invariant-loop decreases-loop
+loop-less : tie.Need-loop-done-smaller invariant-loop decreases-loop
 loop-less c =
     let p = c.before.before.before.before.before in
-    let l = p.pick.ensures.0 in
-    let d = p.before.before.loop.done in
-    fewer d _ p.pick.result l (tried-new _ _ _ _ _ _ _ _ _ _ (passed p) p.pick.result p.pick.ensures.1 p.pick.ensures.2)
-    (λ v. bit_one_more d p.pick.result v l)
+    let l = p.pick-i.ensures.0 in
+    let d = p.before.before.loop-done.done in
+    fewer d _ p.pick-i.result l (tried-new _ _ _ _ _ _ _ _ _ _ (passed p) p.pick-i.result p.pick-i.ensures.1 p.pick-i.ensures.2)
+    (λ v. bit_one_more d p.pick-i.result v l)
 
-loop-again : tie.Need-loop-preserved invariant-loop decreases-loop
+loop-again : tie.Need-loop-done-preserved invariant-loop decreases-loop
 loop-again c =
     let p = c.before.before.before.before.before in
-    let u = p.before.before.loop in
-    let i = p.pick.result in
-    let e = p.pick.ensures in
+    let u = p.before.before.loop-done in
+    let i = p.pick-i.result in
+    let e = p.pick-i.ensures in
     let a = (start p).args in
     ⊎_elim
     (λ w. rw (w.3, w.4) (
@@ -103,7 +103,7 @@ loop-again c =
           let r = tried-row _ _ _ _ _ _ S P _ U q i e.1 e.2 in
           tried-next _ _ _ _ _ _ S P _ U q i e.1 e.2 _ _ _ (λ j. bit_one_more u.done i j e.0)
           (taken-up _ _ _ _ _ _ S P i u.top _ r.0 (tried-to _ _ _ _ _ _ S P _ U q i e.1 e.2) _ _ _
-          (row_span a.tail.now a.head.now S i r.0 (H i r.0)).3 r.1 (rw w.0.taken at c.before.has_room.ensures)
+          (row_span a.tail.now a.head.now S i r.0 (H i r.0)).3 r.1 (rw w.0.true at c.before.has_room.ensures)
           (λ j. bit_one_more u.top i j e.0) w.2.ensures.1),
     ))
     (λ w. rw (w.1, w.2) (
@@ -115,16 +115,16 @@ loop-again c =
           (taken-full _ _ _ _ _ _ S P i u.top _ r.0 (tried-to _ _ _ _ _ _ S P _ U q i e.1 e.2) _
           (row_span a.tail.now a.head.now S i r.0 (H i r.0)).3 (rw w.0.left at c.before.has_room.ensures)),
     ))
-    c.if1.branch
+    c.if-has_room.branch
 
 returns : tie.Need-returns invariant-loop decreases-loop
 returns c =
-    let u = c.before.loop in
+    let u = c.before.loop-done in
     let e : u.done ≡ c.before.before.args.rows = omega arith in
     (u.invariant.0, λ n K f S H P U s. tried-end _ _ _ _ _ _ S P _ U (u.invariant.1 n K f S H P U s) e)
 
-pub take-rows-spec : {M : Type 1} → statement M
-take-rows-spec =
+pub take_rows_spec : {M : Type 1} → statement M
+take_rows_spec =
     tie.close
     (tie.spec
     invariant-loop

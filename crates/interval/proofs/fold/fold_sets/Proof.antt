@@ -12,111 +12,111 @@ use Rattle.interval.proofs.Folding.{low_le, Folding, folding-start, folding-next
 use Rattle.interval.proofs.fold.fold_sets.Statement.{statement}
 use Rattle.interval.proofs.fold.fold_sets.Tie as tie
 
-abbrev invariant-loop : tie.invariant-loop
+abbrev invariant-loop : tie.invariant-loop-k
 invariant-loop rows sets first bound words₀ upper low count k₀ words k = (k ≤ count) × Folding sets low upper words₀ k words
 
-abbrev decreases-loop : tie.decreases-loop
+abbrev decreases-loop : tie.decreases-loop-k
 decreases-loop rows sets first bound words₀ upper low count k₀ words k = count - k
 
-upper-rows-requires : tie.Need-upper-rows-requires invariant-loop decreases-loop
+upper-rows-requires : tie.Need-upper_rows-upper-requires invariant-loop decreases-loop
 upper-rows-requires c κs = search rules
 
-returns : tie.Need-returns invariant-loop decreases-loop
+returns : tie.Need-returns-then-upper-eq0 invariant-loop decreases-loop
 returns c =
     let u = c.before in
     let z = u.before in
-    folded-none z.args.rows z.args.bound z.args.sets _ z.args.words.now z.requires.2 z.requires.1 u.upper-rows.result
-    u.upper-rows.ensures c.if1.true
+    folded-none z.args.rows z.args.bound z.args.sets _ z.args.words.now z.requires.2 z.requires.1 u.upper_rows-upper.result
+    u.upper_rows-upper.ensures c.if-upper-eq0.true
 
-low-sets-requires : tie.Need-low-sets-requires invariant-loop decreases-loop
+low-sets-requires : tie.Need-low_sets-low-requires invariant-loop decreases-loop
 low-sets-requires c κs = search rules
 
 -- no more sets come before the second ring's than there are
-few-low : (c : tie.After-low-sets invariant-loop decreases-loop) → c.low-sets.result ≤ c.before.before.before.before.args.sets
+few-low : (c : tie.After-low_sets-low invariant-loop decreases-loop) → c.low_sets-low.result ≤ c.before.before.before.before.args.sets
 few-low c =
     let z = c.before.before.before.before in
     omega (
       arith,
-      c.low-sets.ensures,
-      low_le z.args.sets c.before.before.before.upper-rows.result z.args.words.now
+      c.low_sets-low.ensures,
+      low_le z.args.sets c.before.before.before.upper_rows-upper.result z.args.words.now
           (omega (arith, z.requires)),
     )
 
-sub-larger : tie.Need-overflow-sub-larger invariant-loop decreases-loop
+sub-larger : tie.Need-overflow_sub-sets invariant-loop decreases-loop
 sub-larger c = few-low c
 
-larger-requires : tie.Need-larger-requires invariant-loop decreases-loop
+larger-requires : tie.Need-larger-count-requires invariant-loop decreases-loop
 larger-requires c κs = search rules
 
-loop-holds : tie.Need-loop-init invariant-loop decreases-loop
+loop-holds : tie.Need-loop-k-init invariant-loop decreases-loop
 loop-holds c =
     let z = c.before.before.before.before.before in
     (omega arith, folding-start _ _ _ z.args.words.now z.requires.2 z.requires.1)
 
 -- the word is one of the list
-within : (l : tie.In-loop invariant-loop decreases-loop) → l.before.loop.k < l.before.before.before.before.before.before.before.args.sets
+within : (l : tie.In-loop-k invariant-loop decreases-loop) → l.before.loop-k.k < l.before.before.before.before.before.before.before.args.sets
 within l =
     let g = l.before.before in
-    omega (arith, l.loop-test.true, g.larger.ensures, few-low g.before)
+    omega (arith, l.loop-k-test.true, g.larger-count.ensures, few-low g.before)
 
-add-set-at : tie.Need-overflow-add-set-at invariant-loop decreases-loop
+add-set-at : tie.Need-overflow_add-low invariant-loop decreases-loop
 add-set-at c = record { fits = omega (arith, within c.before, few-low c.before.before.before.before) }
 
-set-at-requires : tie.Need-set-at-requires invariant-loop decreases-loop
-set-at-requires c κs = (c.before.before.before.before.before.before.before.before.requires.1, c.before.before.loop.invariant.1.size)
+set-at-requires : tie.Need-set_at-high-requires invariant-loop decreases-loop
+set-at-requires c κs = (c.before.before.before.before.before.before.before.before.requires.1, c.before.before.loop-k.invariant.1.size)
 
 -- so it lies in the array
-low : (l : tie.In-loop invariant-loop decreases-loop) → l.before.loop.k < 64
+low : (l : tie.In-loop-k invariant-loop decreases-loop) → l.before.loop-k.k < 64
 low l = omega (arith, within l, l.before.before.before.before.before.before.before.requires.1)
 
-mul-merge : tie.Need-overflow-mul-merge invariant-loop decreases-loop
+mul-merge : tie.Need-offset_bounds-words-k invariant-loop decreases-loop
 mul-merge c = omega (arith, low c.before.before)
 
-element-copy-out-merge : tie.Need-element-copy-out-merge invariant-loop decreases-loop
+element-copy-out-merge : tie.Need-bounds-words-k invariant-loop decreases-loop
 element-copy-out-merge c = low c.before.before
 
 merge-requires : tie.Need-merge-requires invariant-loop decreases-loop
 merge-requires c κs = search rules
 
-mul_words : tie.Need-overflow-mul-words invariant-loop decreases-loop
+mul_words : tie.Need-offset_bounds-words-k-in-loop-k invariant-loop decreases-loop
 mul_words c = omega (arith, low c.before.before.before.before)
 
-element-write-words : tie.Need-element-write-words invariant-loop decreases-loop
+element-write-words : tie.Need-bounds-words-k-in-loop-k invariant-loop decreases-loop
 element-write-words c = low c.before.before.before.before
 
-add-k : tie.Need-overflow-add-k invariant-loop decreases-loop
+add-k : tie.Need-overflow_add-k invariant-loop decreases-loop
 add-k c = omega (arith, low c.before.before.before.before)
 
-loop-less : tie.Need-loop-smaller invariant-loop decreases-loop
-loop-less c = omega (arith, c.before.before.before.before.loop-test.true)
+loop-less : tie.Need-loop-k-smaller invariant-loop decreases-loop
+loop-less c = omega (arith, c.before.before.before.before.loop-k-test.true)
 
-loop-again : tie.Need-loop-preserved invariant-loop decreases-loop
+loop-again : tie.Need-loop-k-preserved invariant-loop decreases-loop
 loop-again c =
     let h = c.before.before in
     let l = h.before.before in
-    let u = l.before.loop in
+    let u = l.before.loop-k in
     let z = l.before.before.before.before.before.before.before in
-    let w = l.before.before.before.before.before.before.upper-rows.result in (
-      omega (arith, l.loop-test.true),
+    let w = l.before.before.before.before.before.before.upper_rows-upper.result in (
+      omega (arith, l.loop-k-test.true),
       folding-next _ _ _ z.args.words.now z.requires.2 z.requires.1 u.k c.merge.result u.words _ u.invariant.1 (within l)
           (put_set u.words u.k c.merge.result (omega (arith, low l, u.invariant.1.size)))
           (simp length-set u.invariant.1.size)
-          (λ i. c.merge.ensures i ∙ ap (λ (v : ℕ). cond (bit w i) (bit v i) (bit (at u.words u.k) i)) h.set_at.ensures),
+          (λ i. c.merge.ensures i ∙ ap (λ (v : ℕ). cond (bit w i) (bit v i) (bit (at u.words u.k) i)) h.set_at-high.ensures),
     )
 
-returns-2 : tie.Need-returns-2 invariant-loop decreases-loop
+returns-2 : tie.Need-returns invariant-loop decreases-loop
 returns-2 c =
-    let u = c.before.loop in
+    let u = c.before.loop-k in
     let g = c.before.before in
     let f = g.before in
     let z = f.before.before.before.before in
-    let e : u.k ≡ g.larger.result = omega (arith, u.invariant.0) in
+    let e : u.k ≡ g.larger-count.result = omega (arith, u.invariant.0) in
     folded-all z.args.rows z.args.bound z.args.sets _ z.args.words.now z.requires.2 z.requires.1 _
-    f.before.before.before.upper-rows.ensures f.low-sets.result _ u.words f.low-sets.ensures g.larger.ensures
+    f.before.before.before.upper_rows-upper.ensures f.low_sets-low.result _ u.words f.low_sets-low.ensures g.larger-count.ensures
     (rw e at u.invariant.1)
 
-pub fold-sets-spec : {M : Type 1} → statement M
-fold-sets-spec =
+pub fold_sets_spec : {M : Type 1} → statement M
+fold_sets_spec =
     tie.close
     (tie.spec
     invariant-loop

@@ -13,48 +13,48 @@ use Rattle.interval.proofs.Folding.{low_front}
 use Rattle.interval.proofs.fold.low_sets.Statement.{statement}
 use Rattle.interval.proofs.fold.low_sets.Tie as tie
 
-abbrev invariant-loop : tie.invariant-loop
+abbrev invariant-loop : tie.invariant-loop-k
 invariant-loop words sets upper k₀ k = Sought sets (λ j. not (eqb (bit_and (at words j) upper) 0)) k
 
-abbrev decreases-loop : tie.decreases-loop
+abbrev decreases-loop : tie.decreases-loop-k
 decreases-loop words sets upper k₀ k = sets - k
 
-loop-holds : tie.Need-loop-init invariant-loop decreases-loop
+loop-holds : tie.Need-loop-k-init invariant-loop decreases-loop
 loop-holds c = sought-start
 
-mul-if1 : tie.Need-overflow-mul-if1 invariant-loop decreases-loop
+mul-if1 : tie.Need-offset_bounds-words-k invariant-loop decreases-loop
 mul-if1 c = search rules
 
-element-copy-out-if1 : tie.Need-element-copy-out-if1 invariant-loop decreases-loop
+element-copy-out-if1 : tie.Need-bounds-words-k invariant-loop decreases-loop
 element-copy-out-if1 c = search rules
 
-returns : tie.Need-returns invariant-loop decreases-loop
+returns : tie.Need-returns-then-words-k-ne0 invariant-loop decreases-loop
 returns c =
     let k = c.before.before in
     let z = k.before.before in
-    sought-found k.before.loop.invariant k.loop-test.true (ap not (ne_eqb _ 0 c.if1.true))
+    sought-found k.before.loop-k.invariant k.loop-k-test.true (ap not (ne_eqb _ 0 c.if-words-k-ne0.true))
     ∙ low_front z.args.sets z.args.upper z.args.words.now (omega (arith, z.requires))
 
-add-k : tie.Need-overflow-add-k invariant-loop decreases-loop
+add-k : tie.Need-overflow_add-k invariant-loop decreases-loop
 add-k c = search rules
 
-loop-less : tie.Need-loop-smaller invariant-loop decreases-loop
+loop-less : tie.Need-loop-k-smaller invariant-loop decreases-loop
 loop-less c = search rules
 
-loop-again : tie.Need-loop-preserved invariant-loop decreases-loop
+loop-again : tie.Need-loop-k-preserved invariant-loop decreases-loop
 loop-again c =
     let k = c.before.before in
-    sought-next k.before.loop.invariant k.loop-test.true (ap not (eq-eqb _ 0 c.if1.false))
+    sought-next k.before.loop-k.invariant k.loop-k-test.true (ap not (eq-eqb _ 0 c.if-words-k-ne0.false))
 
-returns-2 : tie.Need-returns-2 invariant-loop decreases-loop
+returns-2 : tie.Need-returns invariant-loop decreases-loop
 returns-2 c =
     let z = c.before.before in
-    let u = c.before.loop in
+    let u = c.before.loop-k in
     let e : u.k ≡ z.args.sets = omega (arith, u.invariant.within) in
     rw e at (sought-end u.invariant (omega arith)) ∙ low_front z.args.sets z.args.upper z.args.words.now (omega (arith, z.requires))
 
-pub low-sets-spec : {M : Type 1} → statement M
-low-sets-spec =
+pub low_sets_spec : {M : Type 1} → statement M
+low_sets_spec =
     tie.close
     (tie.spec
     invariant-loop

@@ -25,5 +25,5 @@ returns c i =
     (bit_and_lem (bit_xor a.low a.high) a.upper i ∙ ap (λ (p : Bool). p && bit a.upper i) (bit_xor_lem a.low a.high i))
     ∙ toggled (bit a.low i) (bit a.high i) (bit a.upper i)
 
-pub merge-spec : {M : Type 1} → statement M
-merge-spec = tie.close (tie.spec returns)
+pub merge_spec : {M : Type 1} → statement M
+merge_spec = tie.close (tie.spec returns)

@@ -12,65 +12,65 @@ use Rattle.limited.proofs.Weighing.{weight_none, weight-more, weight-same, weigh
 use Rattle.limited.proofs.limits.load_on.Statement.{statement}
 use Rattle.limited.proofs.limits.load_on.Tie as tie
 
-abbrev invariant-loop : tie.invariant-loop
+abbrev invariant-loop : tie.invariant-loop-i
 invariant-loop rows rate segments label theirs s sum₀ i₀ sum i = (i ≤ rows) × (sum ≡ weight_on i rate segments label theirs s)
 
-abbrev decreases-loop : tie.decreases-loop
+abbrev decreases-loop : tie.decreases-loop-i
 decreases-loop rows rate segments label theirs s sum₀ i₀ sum i = rows - i
 
-loop-holds : tie.Need-loop-init invariant-loop decreases-loop
+loop-holds : tie.Need-loop-i-init invariant-loop decreases-loop
 loop-holds c = (omega arith, sym (weight_none _ _ _ _ _))
 
-slots-at-requires : tie.Need-slots-at-requires invariant-loop decreases-loop
+slots-at-requires : tie.Need-slots_at-requires invariant-loop decreases-loop
 slots-at-requires c κs = omega (arith, c.before.before.requires.0.few)
 
-mul-counts : tie.Need-overflow-mul-counts invariant-loop decreases-loop
+mul-counts : tie.Need-offset_bounds-segments-i invariant-loop decreases-loop
 mul-counts c = omega arith
 
-element-copy-out-counts : tie.Need-element-copy-out-counts invariant-loop decreases-loop
+element-copy-out-counts : tie.Need-bounds-segments-i invariant-loop decreases-loop
 element-copy-out-counts c = omega (arith, c.before.before.before.requires.0.few)
 
 counts-requires : tie.Need-counts-requires invariant-loop decreases-loop
 counts-requires c κs = c.before.before.before.before.requires.1
 
-slots-at-requires-2 : tie.Need-slots-at-requires-2 invariant-loop decreases-loop
+slots-at-requires-2 : tie.Need-slots_at-sum-requires invariant-loop decreases-loop
 slots-at-requires-2 c κs = omega (arith, c.before.before.before.before.before.before.requires.0.few)
 
-add-sum : tie.Need-overflow-add-sum invariant-loop decreases-loop
+add-sum : tie.Need-overflow_add-sum invariant-loop decreases-loop
 add-sum c =
     let u = c.before.before.before.before.before.before in
     let a = u.before.args in
     let S = u.before.requires.0 in
     omega (
       arith,
-      u.loop.invariant.1,
-      weight_small a.rate.now a.segments.now a.label.now a.theirs a.s a.rows u.loop.i S u.loop.invariant.0,
-      c.slots-at2.ensures,
-      S.small u.loop.i (omega arith),
+      u.loop-i.invariant.1,
+      weight_small a.rate.now a.segments.now a.label.now a.theirs a.s a.rows u.loop-i.i S u.loop-i.invariant.0,
+      c.slots_at-sum.ensures,
+      S.small u.loop-i.i (omega arith),
       S.few,
     )
 
-add-i : tie.Need-overflow-add-i invariant-loop decreases-loop
+add-i : tie.Need-overflow_add-i invariant-loop decreases-loop
 add-i c = omega (arith, c.before.before.before.before.before.before.requires.0.few)
 
-loop-less : tie.Need-loop-smaller invariant-loop decreases-loop
+loop-less : tie.Need-loop-i-smaller invariant-loop decreases-loop
 loop-less c = omega arith
 
-loop-again : tie.Need-loop-preserved invariant-loop decreases-loop
+loop-again : tie.Need-loop-i-preserved invariant-loop decreases-loop
 loop-again c =
     let u = c.before.before.before.before.before in
     let a = u.before.args in
-    let i = u.loop.i in
+    let i = u.loop-i.i in
     let w = bit (at a.segments.now i) a.s in
     let counted : c.before.counts.result ≡ (owns (party a.theirs) (at a.label.now i) && w) =
     c.before.counts.ensures ∙ ap (λ (l : ℕ). owns (party a.theirs) l && w) c.before.before.before.slots_at.ensures in (
       omega arith,
       ⊎_elim
-          (λ t. t.2 ∙ ap₂ (λ (x y : ℕ). x + y) u.loop.invariant.1 t.1.ensures
-          ∙ sym (weight-more a.rate.now a.segments.now a.label.now a.theirs a.s i (sym counted ∙ t.0.taken)))
-          (λ t. t.1 ∙ u.loop.invariant.1
+          (λ t. t.2 ∙ ap₂ (λ (x y : ℕ). x + y) u.loop-i.invariant.1 t.1.ensures
+          ∙ sym (weight-more a.rate.now a.segments.now a.label.now a.theirs a.s i (sym counted ∙ t.0.true)))
+          (λ t. t.1 ∙ u.loop-i.invariant.1
           ∙ sym (weight-same a.rate.now a.segments.now a.label.now a.theirs a.s i (sym counted ∙ t.0.left)))
-          c.if1.branch,
+          c.if-counts.branch,
     )
 
 returns : tie.Need-returns invariant-loop decreases-loop
@@ -78,13 +78,13 @@ returns c =
     let u = c.before in
     let a = u.before.args in
     let S = u.before.requires.0 in
-    let all : u.loop.i ≡ a.rows = omega arith in
-    let sum = rw all at u.loop.invariant.1 in
+    let all : u.loop-i.i ≡ a.rows = omega arith in
+    let sum = rw all at u.loop-i.invariant.1 in
     let small = weight_small a.rate.now a.segments.now a.label.now a.theirs a.s a.rows a.rows S (omega arith) in
     (sum, omega (arith, sum, S.few, small))
 
-pub load-on-spec : {M : Type 1} → statement M
-load-on-spec =
+pub load_on_spec : {M : Type 1} → statement M
+load_on_spec =
     tie.close
     (tie.spec
     invariant-loop

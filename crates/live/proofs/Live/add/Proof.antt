@@ -35,139 +35,139 @@ sized c = record {
 }
 
 -- what the tests so far have found
-ordered : (c : tie.Else1) → InOrder (live_of c.before.before.args.self)
-ordered c = granted c.before.is-in-order.ensures c.if1.false
+ordered : (c : tie.Else-not-is_in_order) → InOrder (live_of c.before.before.args.self)
+ordered c = granted c.before.is_in_order.ensures c.if-not-is_in_order.false
 
-clean : (c : tie.Else2)
+clean : (c : tie.Else-number-ne-DONE)
     → let z = c.before.before.before.before.before.args in
     None (faults (single z.self.elements 1 (row_of z.entry)) 0)
 clean c =
     let z = c.before.before.before.before.before.args in
     let t = single z.self.elements 1 (row_of z.entry) in
     none_of (faults t 0) 0 (faults_numbered t 0)
-    (rw (c.if2.false, c.before.before.clockwise.ensures) at c.before.row-fault.ensures)
+    (rw (c.if-number-ne-DONE.false, c.before.before.clockwise-row.ensures) at c.before.row_fault-number.ensures)
 
-abbrev sound : tie.After-earlier-of → tie.Else2
+abbrev sound : tie.After-earlier_of-other → tie.Else-number-ne-DONE
 sound c = c.before.before.before.before.before.before.before.before.before
 
-abbrev start : tie.After-earlier-of → tie.Start
+abbrev start : tie.After-earlier_of-other → tie.Start
 start c = (sound c).before.before.before.before.before
 
 -- the row that is sought is the entry's
-sought : (c : tie.After-earlier-of)
+sought : (c : tie.After-earlier_of-other)
     → let z = (start c).args in
-    c.before.before.before.before.has-row.result
+    c.before.before.before.before.has_row-pasted.result
     ≡ any max_rows (equal (at z.self.period) (at z.self.first) (at z.self.second) (row_of z.entry))
 sought c =
     let z = (start c).args in
-    c.before.before.before.before.has-row.ensures
+    c.before.before.before.before.has_row-pasted.ensures
     ∙ ap (λ (r : Row). any max_rows (equal (at z.self.period) (at z.self.first) (at z.self.second) r))
-    (sound c).before.before.clockwise.ensures
+    (sound c).before.before.clockwise-row.ensures
 
 -- what the numbers handed to `earlier_of` say, of what it answers
-found : (c : tie.After-earlier-of)
-    → c.earlier-of.result
-    ≡ cond c.before.before.before.before.has-row.result 18 (cond (eqb c.before.lowest-free.result max_rows) 24 0)
-    → let z = (start c).args in SeatNumber z.self z.entry c.earlier-of.result
+found : (c : tie.After-earlier_of-other)
+    → c.earlier_of-other.result
+    ≡ cond c.before.before.before.before.has_row-pasted.result 18 (cond (eqb c.before.lowest_free-k.result max_rows) 24 0)
+    → let z = (start c).args in SeatNumber z.self z.entry c.earlier_of-other.result
 unfolding repeated
 found c e =
     e ∙ ap₂ (λ (a b : Bool). cond a 18 (cond b 24 0)) (sought c)
-    (ap (λ (k : ℕ). eqb k max_rows) c.before.lowest-free.ensures)
+    (ap (λ (k : ℕ). eqb k max_rows) c.before.lowest_free-k.ensures)
 
 -- 18 and 24 are not found
-clear : (c : tie.Else3)
+clear : (c : tie.Else-other-ne-DONE)
     → let z = (start c.before).args in
     (T (repeated (live_of z.self) (entry_of z.entry)) → ⊥) × (free (live_of z.self) < max_rows)
 clear c =
     let b = c.before in
     let z = start b in
     add-clear z.args.self z.args.entry (sized z) (ordered (sound b).before.before.before) (clean (sound b))
-    b.earlier-of.result (found b b.earlier-of.ensures) c.if3.false
+    b.earlier_of-other.result (found b b.earlier_of-other.ensures) c.if-other-ne-DONE.false
 
 -- the place that is found is the lowest free one
-same : (c : tie.Else3) → c.before.before.lowest-free.result ≡ free (live_of (start c.before).args.self)
-same c = c.before.before.lowest-free.ensures
+same : (c : tie.Else-other-ne-DONE) → c.before.before.lowest_free-k.result ≡ free (live_of (start c.before).args.self)
+same c = c.before.before.lowest_free-k.ensures
 
 -- the row is put there
-placed : (c : tie.After-put)
+placed : (c : tie.After-put-after)
     → let z = (start c.before.before).args in
-    PutIn z.self (free (live_of z.self)) z.entry c.put.result
-placed c = rw (same c.before) at c.put.ensures
+    PutIn z.self (free (live_of z.self)) z.entry c.put-after.result
+placed c = rw (same c.before) at c.put-after.ensures
 
-is-in-order-requires : tie.Need-is-in-order-requires
+is-in-order-requires : tie.Need-is_in_order-requires
 is-in-order-requires c κs = search rules
 
 refused-requires : tie.Need-refused-requires
 refused-requires c κs = search rules
 
-returns : tie.Need-returns
+returns : tie.Need-returns-then-not-is_in_order
 returns c =
     let z = c.before.before.before in
     rw c.refused.ensures
-    (add-off z.args.self z.args.entry (sized z) (denied c.before.before.is-in-order.ensures c.before.if1.true))
+    (add-off z.args.self z.args.entry (sized z) (denied c.before.before.is_in_order.ensures c.before.if-not-is_in_order.true))
 
-clockwise-requires : tie.Need-clockwise-requires
+clockwise-requires : tie.Need-clockwise-row-requires
 clockwise-requires c κs = search rules
 
-row-fault-requires : tie.Need-row-fault-requires
+row-fault-requires : tie.Need-row_fault-number-requires
 row-fault-requires c κs = search rules
 
-refused-requires-2 : tie.Need-refused-requires-2
+refused-requires-2 : tie.Need-refused-requires-then-number-ne-DONE
 refused-requires-2 c κs = search rules
 
-returns-2 : tie.Need-returns-2
+returns-2 : tie.Need-returns-then-number-ne-DONE
 returns-2 c =
     let r = c.before.before in
     let z = r.before.before.before.before in
-    rw c.refused2.ensures
-    (add-fault z.args.self z.args.entry (sized z) (ordered r.before.before) _ c.before.if2.true
-    (rw r.before.clockwise.ensures at r.row-fault.ensures))
+    rw c.refused-then-number-ne-DONE.ensures
+    (add-fault z.args.self z.args.entry (sized z) (ordered r.before.before) _ c.before.if-number-ne-DONE.true
+    (rw r.before.clockwise-row.ensures at r.row_fault-number.ensures))
 
-has-row-requires : tie.Need-has-row-requires
+has-row-requires : tie.Need-has_row-pasted-requires
 has-row-requires c κs = search rules
 
-lowest-free-requires : tie.Need-lowest-free-requires
+lowest-free-requires : tie.Need-lowest_free-k-requires
 lowest-free-requires c κs = search rules
 
-earlier-of-requires : tie.Need-earlier-of-requires
+earlier-of-requires : tie.Need-earlier_of-other-requires
 earlier-of-requires c κs = search rules
 
-refused-requires-3 : tie.Need-refused-requires-3
+refused-requires-3 : tie.Need-refused-requires-then-other-ne-DONE
 refused-requires-3 c κs = search rules
 
-returns-3 : tie.Need-returns-3
+returns-3 : tie.Need-returns-then-other-ne-DONE
 returns-3 c =
     let b = c.before.before in
     let z = start b in
-    rw c.refused3.ensures
+    rw c.refused-then-other-ne-DONE.ensures
     (add-found z.args.self z.args.entry (sized z) (ordered (sound b).before.before.before) (clean (sound b))
-    b.earlier-of.result (found b b.earlier-of.ensures) c.before.if3.true)
+    b.earlier_of-other.result (found b b.earlier_of-other.ensures) c.before.if-other-ne-DONE.true)
 
-put-requires : tie.Need-put-requires
+put-requires : tie.Need-put-after-requires
 put-requires c κs =
     let b = c.before in
     (omega (arith, (clear c).1, same c), ordered (sound b).before.before.before, inl (row_sound _ 0 (clean (sound b))))
 
-refused-requires-4 : tie.Need-refused-requires-4
+refused-requires-4 : tie.Need-refused-requires-then-after-eq0
 refused-requires-4 c κs = search rules
 
-returns-4 : tie.Need-returns-4
+returns-4 : tie.Need-returns-then-after-eq0
 returns-4 c =
     let p = c.before.before.before in
     let e = p.before in
     let b = e.before in
     let z = start b in
-    rw c.refused4.ensures
+    rw c.refused-then-after-eq0.ensures
     (add-long z.args.self z.args.entry (sized z) (ordered (sound b).before.before.before) (clean (sound b)) (clear e).0
-    (some_free (live_of z.args.self) (clear e).1) (put-long (sized z) (clear e).1 (placed p) c.before.if4.true))
+    (some_free (live_of z.args.self) (clear e).1) (put-long (sized z) (clear e).1 (placed p) c.before.if-after-eq0.true))
 
 done-requires : tie.Need-done-requires
 done-requires c κs = search rules
 
-cast-t24 : tie.Need-overflow-cast-t24
+cast-t24 : tie.Need-overflow_cast-result
 cast-t24 c = let e = c.before.before.before.before in omega (arith, (clear e).1, same e)
 
-returns-5 : tie.Need-returns-5
+returns-5 : tie.Need-returns
 returns-5 c =
     let p = c.before.before.before in
     let e = p.before in
@@ -176,7 +176,7 @@ returns-5 c =
     rw (answer_done _ c.done.ensures, same e)
     (add_done z.args.self z.args.entry (sized z) (ordered (sound b).before.before.before) (clean (sound b)) (clear e).0
     (some_free (live_of z.args.self) (clear e).1) (clear e).1
-    (put-short (sized z) (clear e).1 (placed p) c.before.if4.false) (placed p))
+    (put-short (sized z) (clear e).1 (placed p) c.before.if-after-eq0.false) (placed p))
 
 pub add_spec : {M : Type 1} → statement M
 add_spec =

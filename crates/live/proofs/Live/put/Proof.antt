@@ -19,50 +19,50 @@ sized c = record {
   sums = search rules;
 }
 
-mul-cost : tie.Need-overflow-mul-cost
+mul-cost : tie.Need-offset_bounds-cost-k
 mul-cost c = search rules
 
-array-write-cost : tie.Need-array-write-cost
+array-write-cost : tie.Need-bounds-cost-k
 array-write-cost c = search rules
 
-mul-period : tie.Need-overflow-mul-period
+mul-period : tie.Need-offset_bounds-period-k
 mul-period c = search rules
 
-array-write-period : tie.Need-array-write-period
+array-write-period : tie.Need-bounds-period-k
 array-write-period c = search rules
 
-cast-first : tie.Need-overflow-cast-first
+cast-first : tie.Need-overflow_cast-first
 cast-first c =
     let z = c.before.before.before.before.before.before in
     omega (arith, (new_seat_fits z.args.self.elements z.args.entry z.requires.1.rows.high z.requires.2).0)
 
-array-write-first : tie.Need-array-write-first
+array-write-first : tie.Need-bounds-first-k
 array-write-first c = search rules
 
-cast-second : tie.Need-overflow-cast-second
+cast-second : tie.Need-overflow_cast-second
 cast-second c =
     let z = c.before.before.before.before.before.before.before in
     omega (arith, (new_seat_fits z.args.self.elements z.args.entry z.requires.1.rows.high z.requires.2).1)
 
-array-write-second : tie.Need-array-write-second
+array-write-second : tie.Need-bounds-second-k
 array-write-second c = search rules
 
-mul-label : tie.Need-overflow-mul-label
+mul-label : tie.Need-offset_bounds-label-k
 mul-label c = search rules
 
-array-write-label : tie.Need-array-write-label
+array-write-label : tie.Need-bounds-label-k
 array-write-label c = search rules
 
-denominator-of-requires : tie.Need-denominator-of-requires
+denominator-of-requires : tie.Need-denominator_of-d-requires
 denominator-of-requires c κs =
     let z = c.before.before.before.before.before.before.before.before in
     passing_periods _ (put_passing z.args.self z.args.k z.args.entry (sized z) z.requires.0 z.requires.1.rows z.requires.2)
 
-sums-of-requires : tie.Need-sums-of-requires
+sums-of-requires : tie.Need-sums_of-sums-requires
 sums-of-requires c κs =
     let d = c.before.before.before.before in
     let z = d.before.before.before.before.before.before.before.before.before in (
-      omega (arith, capped_small d.denominator-of.ensures, z.requires.1.short),
+      omega (arith, capped_small d.denominator_of-d.ensures, z.requires.1.short),
       put_passing z.args.self z.args.k z.args.entry (sized z) z.requires.0 z.requires.1.rows z.requires.2,
     )
 
@@ -77,9 +77,9 @@ returns c =
       first = refl;
       second = refl;
       label = refl;
-      denominator = d.denominator-of.ensures;
-      sums = c.sums-of.ensures.1 [];
-      size = c.sums-of.ensures.0;
+      denominator = d.denominator_of-d.ensures;
+      sums = c.sums_of-sums.ensures.1 [];
+      size = c.sums_of-sums.ensures.0;
     }
 
 pub put_spec : {M : Type 1} → statement M

@@ -13,5 +13,5 @@ returns c = λ j. record {
   live = c.before.args.self;
 }
 
-pub refused-spec : {M : Type 1} → statement M
-refused-spec = tie.close (tie.spec at-requires returns)
+pub refused_spec : {M : Type 1} → statement M
+refused_spec = tie.close (tie.spec at-requires returns)

@@ -9,62 +9,62 @@ use Rattle.live.proofs.Present.{Packing, packing-start, packing-free, packing-he
 use Rattle.live.proofs.files.put_present.Statement.{statement}
 use Rattle.live.proofs.files.put_present.Tie as tie
 
-abbrev invariant-loop : tie.invariant-loop
+abbrev invariant-loop : tie.invariant-loop-i
 invariant-loop cost period first second label out₀ rows₀ i₀ out rows i = Packing cost period first second label out₀ out rows i
 
-abbrev decreases-loop : tie.decreases-loop
+abbrev decreases-loop : tie.decreases-loop-i
 decreases-loop cost period first second label out₀ rows₀ i₀ out rows i = max_rows - i
 
-loop-holds : tie.Need-loop-init invariant-loop decreases-loop
+loop-holds : tie.Need-loop-i-init invariant-loop decreases-loop
 loop-holds c = packing-start _
 
-slots-at-requires : tie.Need-slots-at-requires invariant-loop decreases-loop
+slots-at-requires : tie.Need-slots_at-requires invariant-loop decreases-loop
 slots-at-requires c κs = search rules
 
-mul-row-at : tie.Need-overflow-mul-row-at invariant-loop decreases-loop
+mul-row-at : tie.Need-offset_bounds-label-i invariant-loop decreases-loop
 mul-row-at c = search rules
 
-element-copy-out-row-at : tie.Need-element-copy-out-row-at invariant-loop decreases-loop
+element-copy-out-row-at : tie.Need-bounds-label-i invariant-loop decreases-loop
 element-copy-out-row-at c = omega arith
 
-row-at-requires : tie.Need-row-at-requires invariant-loop decreases-loop
+row-at-requires : tie.Need-row_at-requires invariant-loop decreases-loop
 row-at-requires c κs = search rules
 
-mul-put-numbers : tie.Need-overflow-mul-put-numbers invariant-loop decreases-loop
-mul-put-numbers c = let P = c.before.before.before.before.before.loop.invariant in omega (arith, P.few, P.fewer)
+mul-put-numbers : tie.Need-overflow_mul-rows invariant-loop decreases-loop
+mul-put-numbers c = let P = c.before.before.before.before.before.loop-i.invariant in omega (arith, P.few, P.fewer)
 
-put-numbers-requires : tie.Need-put-numbers-requires invariant-loop decreases-loop
+put-numbers-requires : tie.Need-put_numbers-requires invariant-loop decreases-loop
 put-numbers-requires c κs =
     let u = c.before.before.before.before.before.before in
-    omega (arith, u.loop.invariant.fewer, u.loop.invariant.filled.same, u.before.before.requires)
+    omega (arith, u.loop-i.invariant.fewer, u.loop-i.invariant.filled.same, u.before.before.requires)
 
-add-rows : tie.Need-overflow-add-rows invariant-loop decreases-loop
+add-rows : tie.Need-overflow_add-rows invariant-loop decreases-loop
 add-rows c = search rules
 
-add-i : tie.Need-overflow-add-i invariant-loop decreases-loop
+add-i : tie.Need-overflow_add-i invariant-loop decreases-loop
 add-i c = search rules
 
-loop-less : tie.Need-loop-smaller invariant-loop decreases-loop
+loop-less : tie.Need-loop-i-smaller invariant-loop decreases-loop
 loop-less c = search rules
 
-loop-again : tie.Need-loop-preserved invariant-loop decreases-loop
+loop-again : tie.Need-loop-i-preserved invariant-loop decreases-loop
 loop-again c =
     let s = c.before in
     let u = s.before.before in
     ⊎_elim
-    (λ w. rw (w.7, w.8) (packing-held u.loop.invariant (omega arith) (λ e. w.0.taken (s.slots_at.ensures ∙ e)) u.before.before.requires
+    (λ w. rw (w.7, w.8) (packing-held u.loop-i.invariant (omega arith) (λ e. w.0.true (s.slots_at.ensures ∙ e)) u.before.before.requires
     w.2.ensures w.4.ensures))
-    (λ w. rw (w.1, w.2) (packing-free u.loop.invariant (omega arith) (sym s.slots_at.ensures ∙ w.0.left)))
-    c.if1.branch
+    (λ w. rw (w.1, w.2) (packing-free u.loop-i.invariant (omega arith) (sym s.slots_at.ensures ∙ w.0.left)))
+    c.if-slots_at-ne0.branch
 
-same_length : tie.Need-same-length invariant-loop decreases-loop
-same_length c = c.before.loop.invariant.filled.same
+same_length : tie.Need-shape_of-out invariant-loop decreases-loop
+same_length c = c.before.loop-i.invariant.filled.same
 
 returns : tie.Need-returns invariant-loop decreases-loop
-returns c = packing-end c.before.loop.invariant (omega arith)
+returns c = packing-end c.before.loop-i.invariant (omega arith)
 
-pub put-present-spec : {M : Type 1} → statement M
-put-present-spec =
+pub put_present_spec : {M : Type 1} → statement M
+put_present_spec =
     tie.close
     (tie.spec
     invariant-loop

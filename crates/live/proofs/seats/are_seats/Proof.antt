@@ -12,56 +12,56 @@ use Rattle.live.proofs.Seated.{Upto, upto-start, upto_next, upto-end, upto-stop,
 use Rattle.live.proofs.seats.are_seats.Statement.{statement}
 use Rattle.live.proofs.seats.are_seats.Tie as tie
 
-abbrev invariant-loop : tie.invariant-loop
+abbrev invariant-loop : tie.invariant-loop-i
 invariant-loop elements cost period first second label i₀ i = Upto max_rows (Seat (column_live elements cost period first second label)) i
 
-abbrev decreases-loop : tie.decreases-loop
+abbrev decreases-loop : tie.decreases-loop-i
 decreases-loop elements cost period first second label i₀ i = max_rows - i
 
-loop-holds : tie.Need-loop-init invariant-loop decreases-loop
+loop-holds : tie.Need-loop-i-init invariant-loop decreases-loop
 loop-holds c = upto-start
 
-mul-row-at : tie.Need-overflow-mul-row-at invariant-loop decreases-loop
+mul-row-at : tie.Need-offset_bounds-label-i invariant-loop decreases-loop
 mul-row-at c = search rules
 
-element-copy-out-row-at : tie.Need-element-copy-out-row-at invariant-loop decreases-loop
+element-copy-out-row-at : tie.Need-bounds-label-i invariant-loop decreases-loop
 element-copy-out-row-at c = omega arith
 
-row-at-requires : tie.Need-row-at-requires invariant-loop decreases-loop
+row-at-requires : tie.Need-row_at-requires invariant-loop decreases-loop
 row-at-requires c κs = search rules
 
-is-seat-requires : tie.Need-is-seat-requires invariant-loop decreases-loop
+is-seat-requires : tie.Need-is_seat-requires invariant-loop decreases-loop
 is-seat-requires c κs = search rules
 
-returns : tie.Need-returns invariant-loop decreases-loop
+returns : tie.Need-returns-then-not-is_seat invariant-loop decreases-loop
 returns c =
     let s = c.before in
     let r = s.before in
     let u = r.before.before.before in
-    upto-stop u.loop.i (omega arith)
-    (λ q. denied s.is-seat.ensures c.if1.true
+    upto-stop u.loop-i.i (omega arith)
+    (λ q. denied s.is_seat.ensures c.if-not-is_seat.true
     (of-seat (place_row u.before.args.elements (at u.before.args.label.now) r.row_at.ensures) q))
 
-add-i : tie.Need-overflow-add-i invariant-loop decreases-loop
+add-i : tie.Need-overflow_add-i invariant-loop decreases-loop
 add-i c = search rules
 
-loop-less : tie.Need-loop-smaller invariant-loop decreases-loop
+loop-less : tie.Need-loop-i-smaller invariant-loop decreases-loop
 loop-less c = search rules
 
-loop-again : tie.Need-loop-preserved invariant-loop decreases-loop
+loop-again : tie.Need-loop-i-preserved invariant-loop decreases-loop
 loop-again c =
     let s = c.before in
     let r = s.before in
     let u = r.before.before.before in
-    upto_next u.loop.invariant (omega arith)
+    upto_next u.loop-i.invariant (omega arith)
     (seat-of (place_row u.before.args.elements (at u.before.args.label.now) r.row_at.ensures)
-    (granted s.is-seat.ensures c.if1.false))
+    (granted s.is_seat.ensures c.if-not-is_seat.false))
 
-returns-2 : tie.Need-returns-2 invariant-loop decreases-loop
-returns-2 c = upto-end c.before.loop.invariant (omega arith)
+returns-2 : tie.Need-returns invariant-loop decreases-loop
+returns-2 c = upto-end c.before.loop-i.invariant (omega arith)
 
-pub are-seats-spec : {M : Type 1} → statement M
-are-seats-spec =
+pub are_seats_spec : {M : Type 1} → statement M
+are_seats_spec =
     tie.close
     (tie.spec
     invariant-loop

@@ -18,48 +18,48 @@ abbrev Single : (cost period first second : List ℕ) → ℕ → Type 0
 Single cost period first second i =
     T (ltb 0 (at period i)) → T (pasted (column_places 0 cost period first second) i) → ⊥
 
-abbrev invariant-loop : tie.invariant-loop
+abbrev invariant-loop : tie.invariant-loop-i
 invariant-loop cost period first second i₀ i = Upto max_rows (Single cost period first second) i
 
-abbrev decreases-loop : tie.decreases-loop
+abbrev decreases-loop : tie.decreases-loop-i
 decreases-loop cost period first second i₀ i = max_rows - i
 
-loop-holds : tie.Need-loop-init invariant-loop decreases-loop
+loop-holds : tie.Need-loop-i-init invariant-loop decreases-loop
 loop-holds c = upto-start
 
-is-repeated-requires : tie.Need-is-repeated-requires invariant-loop decreases-loop
+is-repeated-requires : tie.Need-is_repeated-requires invariant-loop decreases-loop
 is-repeated-requires c κs = search rules
 
-returns : tie.Need-returns invariant-loop decreases-loop
+returns : tie.Need-returns-then-is_repeated invariant-loop decreases-loop
 unfolding pasted
 returns c elements =
     let d = c.before in
     let u = d.before.before in
     let z = u.before.args in
-    let t = of_true (sym (d.is-repeated.ensures 0) ∙ c.if1.true) in
-    upto-stop u.loop.i (omega arith)
-    (λ n. n (fst (ltb 0 (at z.period.now u.loop.i)) _ t) (snd (ltb 0 (at z.period.now u.loop.i)) _ t))
+    let t = of_true (sym (d.is_repeated.ensures 0) ∙ c.if-is_repeated.true) in
+    upto-stop u.loop-i.i (omega arith)
+    (λ n. n (fst (ltb 0 (at z.period.now u.loop-i.i)) _ t) (snd (ltb 0 (at z.period.now u.loop-i.i)) _ t))
 
-add-i : tie.Need-overflow-add-i invariant-loop decreases-loop
+add-i : tie.Need-overflow_add-i invariant-loop decreases-loop
 add-i c = search rules
 
-loop-less : tie.Need-loop-smaller invariant-loop decreases-loop
+loop-less : tie.Need-loop-i-smaller invariant-loop decreases-loop
 loop-less c = search rules
 
-loop-again : tie.Need-loop-preserved invariant-loop decreases-loop
+loop-again : tie.Need-loop-i-preserved invariant-loop decreases-loop
 loop-again c =
     let d = c.before in
     let u = d.before.before in
     let z = u.before.args in
-    upto_next u.loop.invariant (omega arith)
-    (λ h p. of_false (sym (d.is-repeated.ensures 0) ∙ c.if1.false) (both (ltb 0 (at z.period.now u.loop.i)) _ h p))
+    upto_next u.loop-i.invariant (omega arith)
+    (λ h p. of_false (sym (d.is_repeated.ensures 0) ∙ c.if-is_repeated.false) (both (ltb 0 (at z.period.now u.loop-i.i)) _ h p))
 
-returns-2 : tie.Need-returns-2 invariant-loop decreases-loop
+returns-2 : tie.Need-returns invariant-loop decreases-loop
 unfolding pasted
-returns-2 c elements = upto-end c.before.loop.invariant (omega arith)
+returns-2 c elements = upto-end c.before.loop-i.invariant (omega arith)
 
-pub are-single-spec : {M : Type 1} → statement M
-are-single-spec =
+pub are_single_spec : {M : Type 1} → statement M
+are_single_spec =
     tie.close
     (tie.spec
     invariant-loop

@@ -10,42 +10,42 @@ use Rattle.live.specs.Seats.{equal}
 use Rattle.live.proofs.seats.has_row.Statement.{statement}
 use Rattle.live.proofs.seats.has_row.Tie as tie
 
-abbrev invariant-loop : tie.invariant-loop
+abbrev invariant-loop : tie.invariant-loop-j
 invariant-loop count period first second row j₀ j = Sought count (equal (at period) (at first) (at second) row) j
 
-abbrev decreases-loop : tie.decreases-loop
+abbrev decreases-loop : tie.decreases-loop-j
 decreases-loop count period first second row j₀ j = count - j
 
-loop-holds : tie.Need-loop-init invariant-loop decreases-loop
+loop-holds : tie.Need-loop-j-init invariant-loop decreases-loop
 loop-holds c = sought-start
 
-is-equal-requires : tie.Need-is-equal-requires invariant-loop decreases-loop
+is-equal-requires : tie.Need-is_equal-requires invariant-loop decreases-loop
 is-equal-requires c κs = search rules
 
-returns : tie.Need-returns invariant-loop decreases-loop
+returns : tie.Need-returns-then-is_equal invariant-loop decreases-loop
 returns c =
     let d = c.before in
     let u = d.before.before in
-    sym (is_true _ (any_of u.before.args.count _ u.loop.j (omega arith) (of_true (sym d.is-equal.ensures ∙ c.if1.true))))
+    sym (is_true _ (any_of u.before.args.count _ u.loop-j.j (omega arith) (of_true (sym d.is_equal.ensures ∙ c.if-is_equal.true))))
 
-add-j : tie.Need-overflow-add-j invariant-loop decreases-loop
+add-j : tie.Need-overflow_add-j invariant-loop decreases-loop
 add-j c = search rules
 
-loop-less : tie.Need-loop-smaller invariant-loop decreases-loop
+loop-less : tie.Need-loop-j-smaller invariant-loop decreases-loop
 loop-less c = search rules
 
-loop-again : tie.Need-loop-preserved invariant-loop decreases-loop
+loop-again : tie.Need-loop-j-preserved invariant-loop decreases-loop
 loop-again c =
     let d = c.before in
-    sought-next d.before.before.loop.invariant (omega arith) (sym d.is-equal.ensures ∙ c.if1.false)
+    sought-next d.before.before.loop-j.invariant (omega arith) (sym d.is_equal.ensures ∙ c.if-is_equal.false)
 
-returns-2 : tie.Need-returns-2 invariant-loop decreases-loop
+returns-2 : tie.Need-returns invariant-loop decreases-loop
 returns-2 c =
     let u = c.before in
-    sym (any_none u.before.args.count _ (λ j l. u.loop.invariant.none j (omega arith)))
+    sym (any_none u.before.args.count _ (λ j l. u.loop-j.invariant.none j (omega arith)))
 
-pub has-row-spec : {M : Type 1} → statement M
-has-row-spec =
+pub has_row_spec : {M : Type 1} → statement M
+has_row_spec =
     tie.close
     (tie.spec
     invariant-loop

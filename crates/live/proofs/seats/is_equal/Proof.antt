@@ -8,40 +8,40 @@ use Rattle.live.proofs.Seated.{first-differs, second-differs, third-decides}
 use Rattle.live.proofs.seats.is_equal.Statement.{statement}
 use Rattle.live.proofs.seats.is_equal.Tie as tie
 
-end-at-requires : tie.Need-end-at-requires
+end-at-requires : tie.Need-end_at-requires
 end-at-requires c κs = search rules
 
-cast-if1 : tie.Need-overflow-cast-if1
+cast-if1 : tie.Need-overflow_cast-row
 cast-if1 c = search rules
 
-returns : tie.Need-returns
+returns : tie.Need-returns-then-end_at-row
 returns c =
     let d = c.before.before in
     let z = d.before.args in
     first-differs (at z.first.now z.j) (at z.second.now z.j) (at z.period.now z.j) z.row.first z.row.second
-    z.row.period (λ e. c.if1.true (d.end-at.ensures ∙ e))
+    z.row.period (λ e. c.if-end_at-row.true (d.end_at.ensures ∙ e))
 
-end-at-requires-2 : tie.Need-end-at-requires-2
+end-at-requires-2 : tie.Need-end_at-requires-2
 end-at-requires-2 c κs = search rules
 
-cast-if2 : tie.Need-overflow-cast-if2
+cast-if2 : tie.Need-overflow_cast-row-2
 cast-if2 c = search rules
 
-returns-2 : tie.Need-returns-2
+returns-2 : tie.Need-returns-then-end_at-row-2
 returns-2 c =
     let s = c.before.before in
     let d = s.before.before.before in
     let z = d.before.args in
     second-differs (at z.first.now z.j) (at z.second.now z.j) (at z.period.now z.j) z.row.first z.row.second
-    z.row.period (sym d.end-at.ensures ∙ s.before.if1.false) (λ e. c.if2.true (s.end-at2.ensures ∙ e))
+    z.row.period (sym d.end_at.ensures ∙ s.before.if-end_at-row.false) (λ e. c.if-end_at-row-2.true (s.end_at-2.ensures ∙ e))
 
-slots-at-requires : tie.Need-slots-at-requires
+slots-at-requires : tie.Need-slots_at-requires
 slots-at-requires c κs = search rules
 
-cast-result : tie.Need-overflow-cast-result
+cast-result : tie.Need-overflow_cast-result
 cast-result c = search rules
 
-returns-3 : tie.Need-returns-3
+returns-3 : tie.Need-returns
 returns-3 c =
     let e = c.before.before in
     let s = e.before.before in
@@ -49,10 +49,10 @@ returns-3 c =
     let z = d.before.args in
     ap (λ (p : ℕ). eqb p z.row.period) c.before.slots_at.ensures
     ∙ third-decides (at z.first.now z.j) (at z.second.now z.j) (at z.period.now z.j) z.row.first z.row.second
-    z.row.period (sym d.end-at.ensures ∙ s.before.if1.false) (sym s.end-at2.ensures ∙ e.if2.false)
+    z.row.period (sym d.end_at.ensures ∙ s.before.if-end_at-row.false) (sym s.end_at-2.ensures ∙ e.if-end_at-row-2.false)
 
-pub is-equal-spec : {M : Type 1} → statement M
-is-equal-spec =
+pub is_equal_spec : {M : Type 1} → statement M
+is_equal_spec =
     tie.close
     (tie.spec
     end-at-requires

@@ -10,46 +10,46 @@ use Rattle.table.proofs.ByRow.{by_row_start, by_row_put}
 use Rattle.live.proofs.tally.counted.Statement.{statement}
 use Rattle.live.proofs.tally.counted.Tie as tie
 
-abbrev invariant-loop : tie.invariant-loop
+abbrev invariant-loop : tie.invariant-loop-i
 invariant-loop period all₀ i₀ all i = (i ≤ max_rows) × ByRow i (λ j. max 1 (at period j)) all
 
-abbrev decreases-loop : tie.decreases-loop
+abbrev decreases-loop : tie.decreases-loop-i
 decreases-loop period all₀ i₀ all i = max_rows - i
 
-loop-holds : tie.Need-loop-init invariant-loop decreases-loop
+loop-holds : tie.Need-loop-i-init invariant-loop decreases-loop
 loop-holds c = (omega arith, by_row_start _)
 
-mul-at-least-one : tie.Need-overflow-mul-at-least-one invariant-loop decreases-loop
+mul-at-least-one : tie.Need-offset_bounds-period-i invariant-loop decreases-loop
 mul-at-least-one c = search rules
 
-element-copy-out-at-least-one : tie.Need-element-copy-out-at-least-one invariant-loop decreases-loop
+element-copy-out-at-least-one : tie.Need-bounds-period-i invariant-loop decreases-loop
 element-copy-out-at-least-one c = search rules
 
-at-least-one-requires : tie.Need-at-least-one-requires invariant-loop decreases-loop
+at-least-one-requires : tie.Need-at_least_one-requires invariant-loop decreases-loop
 at-least-one-requires c κs = search rules
 
-mul-all : tie.Need-overflow-mul-all invariant-loop decreases-loop
+mul-all : tie.Need-offset_bounds-all-i invariant-loop decreases-loop
 mul-all c = search rules
 
-array-write-all : tie.Need-array-write-all invariant-loop decreases-loop
-array-write-all c = omega (arith, c.before.before.before.loop.invariant.1.size)
+array-write-all : tie.Need-bounds-all-i invariant-loop decreases-loop
+array-write-all c = omega (arith, c.before.before.before.loop-i.invariant.1.size)
 
-add-i : tie.Need-overflow-add-i invariant-loop decreases-loop
+add-i : tie.Need-overflow_add-i invariant-loop decreases-loop
 add-i c = search rules
 
-loop-less : tie.Need-loop-smaller invariant-loop decreases-loop
+loop-less : tie.Need-loop-i-smaller invariant-loop decreases-loop
 loop-less c = search rules
 
-loop-again : tie.Need-loop-preserved invariant-loop decreases-loop
+loop-again : tie.Need-loop-i-preserved invariant-loop decreases-loop
 loop-again c =
     let d = c.before.before.before in
-    (omega arith, by_row_put _ d.loop.invariant.1 (omega arith) c.at_least_one.ensures)
+    (omega arith, by_row_put _ d.loop-i.invariant.1 (omega arith) c.at_least_one.ensures)
 
 returns : tie.Need-returns invariant-loop decreases-loop
 returns c =
     let d = c.before in
-    let e : d.loop.i ≡ max_rows = omega (arith, d.loop.invariant.0) in
-    rw e at d.loop.invariant.1
+    let e : d.loop-i.i ≡ max_rows = omega (arith, d.loop-i.invariant.0) in
+    rw e at d.loop-i.invariant.1
 
 pub counted_spec : {M : Type 1} → statement M
 counted_spec =

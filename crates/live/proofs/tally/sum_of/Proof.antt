@@ -10,47 +10,47 @@ use Rattle.live.proofs.Sums.{Adding, adding-start, adding-next, adding_end, plac
 use Rattle.live.proofs.tally.sum_of.Statement.{statement}
 use Rattle.live.proofs.tally.sum_of.Tie as tie
 
-abbrev invariant-loop : tie.invariant-loop
+abbrev invariant-loop : tie.invariant-loop-i
 invariant-loop elements d cost period first second s total₀ i₀ total i = Adding d (column_places elements cost period first second) s i total
 
-abbrev decreases-loop : tie.decreases-loop
+abbrev decreases-loop : tie.decreases-loop-i
 decreases-loop elements d cost period first second s total₀ i₀ total i = max_rows - i
 
-loop-holds : tie.Need-loop-init invariant-loop decreases-loop
+loop-holds : tie.Need-loop-i-init invariant-loop decreases-loop
 loop-holds c = adding-start
 
-row-at-requires : tie.Need-row-at-requires invariant-loop decreases-loop
+row-at-requires : tie.Need-row_at-requires invariant-loop decreases-loop
 row-at-requires c κs = search rules
 
-load-of-requires : tie.Need-load-of-requires invariant-loop decreases-loop
+load-of-requires : tie.Need-load_of-total-requires invariant-loop decreases-loop
 load-of-requires c κs =
     let u = c.before.before in
     let z = u.before in
     let is = place_row z.args.elements (λ j. 0) c.row_at.ensures in
-    (z.requires.2.small, z.requires.0, z.requires.1, λ p. row_alone is (z.requires.2.row u.loop.i (omega arith) (omega (arith, is.period, p))))
+    (z.requires.2.small, z.requires.0, z.requires.1, λ p. row_alone is (z.requires.2.row u.loop-i.i (omega arith) (omega (arith, is.period, p))))
 
-add_total : tie.Need-overflow-add-total invariant-loop decreases-loop
-add_total c = omega (arith, c.load_of.ensures.1, c.before.before.before.loop.invariant.small, c.before.before.before.loop.invariant.few)
+add_total : tie.Need-overflow_add-total invariant-loop decreases-loop
+add_total c = omega (arith, c.load_of-total.ensures.1, c.before.before.before.loop-i.invariant.small, c.before.before.before.loop-i.invariant.few)
 
-add-i : tie.Need-overflow-add-i invariant-loop decreases-loop
+add-i : tie.Need-overflow_add-i invariant-loop decreases-loop
 add-i c = search rules
 
-loop-less : tie.Need-loop-smaller invariant-loop decreases-loop
+loop-less : tie.Need-loop-i-smaller invariant-loop decreases-loop
 loop-less c = search rules
 
-loop-again : tie.Need-loop-preserved invariant-loop decreases-loop
+loop-again : tie.Need-loop-i-preserved invariant-loop decreases-loop
 loop-again c =
     let u = c.before.before.before in
     let z = u.before.args in
-    adding-next _ u.loop.invariant (omega arith)
-    (c.load_of.ensures.0 ∙ load_alone z.d z.s (place_row z.elements (λ j. 0) c.before.row_at.ensures))
-    c.load_of.ensures.1
+    adding-next _ u.loop-i.invariant (omega arith)
+    (c.load_of-total.ensures.0 ∙ load_alone z.d z.s (place_row z.elements (λ j. 0) c.before.row_at.ensures))
+    c.load_of-total.ensures.1
 
 returns : tie.Need-returns invariant-loop decreases-loop
-returns c label = adding_end _ _ c.before.loop.invariant (omega arith) c.before.before.requires.1
+returns c label = adding_end _ _ c.before.loop-i.invariant (omega arith) c.before.before.requires.1
 
-pub sum-of-spec : {M : Type 1} → statement M
-sum-of-spec =
+pub sum_of_spec : {M : Type 1} → statement M
+sum_of_spec =
     tie.close
     (tie.spec
     invariant-loop

@@ -4,7 +4,7 @@ use Rattle.loads.proofs.Words.{first_differ}
 use Rattle.loads.proofs.flow.pick.Statement.{statement}
 use Rattle.loads.proofs.flow.pick.Tie as tie
 
-cast-result : tie.Need-overflow-cast-result
+cast-result : tie.Need-overflow_cast-result
 cast-result c = omega (arith, (first_differ 64 c.args.v c.args.w c.ranges.v.fits c.ranges.w.fits c.requires).0)
 
 returns : tie.Need-returns

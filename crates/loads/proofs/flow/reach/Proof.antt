@@ -9,33 +9,33 @@ use Rattle.loads.proofs.Ways.{entered-seen, entered-new}
 use Rattle.loads.proofs.flow.reach.Statement.{statement}
 use Rattle.loads.proofs.flow.reach.Tie as tie
 
-shr-if1 : tie.Need-overflow-shr-if1
+shr-if1 : tie.Need-overflow_shr-seen
 shr-if1 c = search rules
 
-returns : tie.Need-returns
+returns : tie.Need-returns-then-seen-p-eq1
 returns c =
     let z = c.before in
     let a = z.args in
-    (z.requires.1, entered-seen a.seen _ a.p a.w (bit_odd a.seen a.p c.if1.true))
+    (z.requires.1, entered-seen a.seen _ a.p a.w (bit_odd a.seen a.p c.if-seen-p-eq1.true))
 
-mul-by : tie.Need-overflow-mul-by
+mul-by : tie.Need-offset_bounds-by-p
 mul-by c = search rules
 
-element-write-by : tie.Need-element-write-by
+element-write-by : tie.Need-bounds-by-p
 element-write-by c = search rules
 
-shl-result : tie.Need-overflow-shl-result
+shl-result : tie.Need-overflow_shl-result
 shl-result c = search rules
 
-returns-2 : tie.Need-returns-2
+returns-2 : tie.Need-returns
 returns-2 c =
     let z = c.before in
     let a = z.args in
     let l : a.p < 64 = omega (arith, z.requires.0) in (
       simp length-set z.requires.1,
-      entered-new a.seen _ a.p a.w _ _ (bit_even a.seen a.p c.if1.false) (λ v. bit_one_more a.seen a.p v l)
+      entered-new a.seen _ a.p a.w _ _ (bit_even a.seen a.p c.if-seen-p-eq1.false) (λ v. bit_one_more a.seen a.p v l)
           (put_set a.by.now a.p a.w (omega (arith, z.requires.0, z.requires.1))),
     )
 
-pub reach-spec : {M : Type 1} → statement M
-reach-spec = tie.close (tie.spec shr-if1 returns mul-by element-write-by shl-result returns-2)
+pub reach_spec : {M : Type 1} → statement M
+reach_spec = tie.close (tie.spec shr-if1 returns mul-by element-write-by shl-result returns-2)

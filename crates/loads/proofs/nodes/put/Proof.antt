@@ -14,45 +14,45 @@ use Rattle.loads.proofs.Leaving.{marked_next}
 use Rattle.loads.proofs.nodes.put.Statement.{statement}
 use Rattle.loads.proofs.nodes.put.Tie as tie
 
-abbrev invariant-loop : tie.invariant-loop
+abbrev invariant-loop : tie.invariant-loop-done
 invariant-loop rows v to₀ done₀ to done = ((i : ℕ) → bit done i ≡ true → bit rows i ≡ true) × Marked done v to₀ to
 
-abbrev decreases-loop : tie.decreases-loop
+abbrev decreases-loop : tie.decreases-loop-done
 decreases-loop rows v to₀ done₀ to done = count 64 (λ i. not (bit done i))
 
 -- the row that is taken
-picked : (p : tie.After-pick invariant-loop decreases-loop)
-    → (bit p.before.before.before.args.rows p.pick.result ≡ true)
-    × (bit p.before.before.loop.done p.pick.result ≡ false)
-picked p = in_first _ _ p.pick.ensures.1 (p.before.before.loop.invariant.0 p.pick.result)
+picked : (p : tie.After-pick-i invariant-loop decreases-loop)
+    → (bit p.before.before.before.args.rows p.pick-i.result ≡ true)
+    × (bit p.before.before.loop-done.done p.pick-i.result ≡ false)
+picked p = in_first _ _ p.pick-i.ensures.1 (p.before.before.loop-done.invariant.0 p.pick-i.result)
 
-loop-holds : tie.Need-loop-init invariant-loop decreases-loop
+loop-holds : tie.Need-loop-done-init invariant-loop decreases-loop
 loop-holds c = (
   λ i q. absurd (false≢true (sym (bit_zero i) ∙ q)),
   record { size = c.requires; inside = λ i q. absurd (false≢true (sym (bit_zero i) ∙ q)); outside = λ i q. refl },
 )
 
-pick-requires : tie.Need-pick-requires invariant-loop decreases-loop
-pick-requires c κs = λ q. c.loop-test.true (sym q)
+pick-requires : tie.Need-pick-i-requires invariant-loop decreases-loop
+pick-requires c κs = λ q. c.loop-done-test.true (sym q)
 
-element-write-to : tie.Need-element-write-to invariant-loop decreases-loop
-element-write-to c = omega (arith, c.pick.ensures.0, c.before.before.loop.invariant.1.size)
+element-write-to : tie.Need-bounds-to-i invariant-loop decreases-loop
+element-write-to c = omega (arith, c.pick-i.ensures.0, c.before.before.loop-done.invariant.1.size)
 
-shl-done : tie.Need-overflow-shl-done invariant-loop decreases-loop
-shl-done c = omega (arith, c.pick.ensures.0)
+shl-done : tie.Need-overflow_shl-done invariant-loop decreases-loop
+shl-done c = omega (arith, c.pick-i.ensures.0)
 
-loop-less : tie.Need-loop-smaller invariant-loop decreases-loop
+loop-less : tie.Need-loop-done-smaller invariant-loop decreases-loop
 loop-less c =
-    let l = c.pick.ensures.0 in
-    let d = c.before.before.loop.done in
-    fewer d _ c.pick.result l (picked c).1 (λ v. bit_one_more d c.pick.result v l)
+    let l = c.pick-i.ensures.0 in
+    let d = c.before.before.loop-done.done in
+    fewer d _ c.pick-i.result l (picked c).1 (λ v. bit_one_more d c.pick-i.result v l)
 
-loop-again : tie.Need-loop-preserved invariant-loop decreases-loop
+loop-again : tie.Need-loop-done-preserved invariant-loop decreases-loop
 loop-again c =
-    let u = c.before.before.loop in
+    let u = c.before.before.loop-done in
     let a = c.before.before.before.args in
-    let i = c.pick.result in
-    let l = c.pick.ensures.0 in
+    let i = c.pick-i.result in
+    let l = c.pick-i.ensures.0 in
     let M = u.invariant.1 in
     let p = put_set u.to i a.v (omega (arith, M.size, l)) in (
       λ j q. one_of (bit u.done j) j i (sym (bit_one_more u.done i j l) ∙ q) (u.invariant.0 j) (λ k. rw k (picked c).0),
@@ -61,7 +61,7 @@ loop-again c =
 
 returns : tie.Need-returns invariant-loop decreases-loop
 returns c =
-    let u = c.before.loop in
+    let u = c.before.loop-done in
     let q : u.done ≡ c.before.before.args.rows = omega arith in
     rw q at u.invariant.1
 

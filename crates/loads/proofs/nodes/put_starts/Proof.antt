@@ -18,104 +18,104 @@ use Rattle.loads.proofs.Sorted.{Sorted, sorted_start, sorted_more, sorted-end}
 use Rattle.loads.proofs.nodes.put_starts.Statement.{statement}
 use Rattle.loads.proofs.nodes.put_starts.Tie as tie
 
-abbrev invariant-loop : tie.invariant-loop
+abbrev invariant-loop : tie.invariant-loop-k
 invariant-loop rows sets words tail₀ out₀ left₀ k₀ tail out left k =
     (k ≤ sets) × Leaving rows (lowest_set sets words) (λ i. (j : ℕ) → j < k → T (bit (at words j) i) → ⊥) left tail
     × (length out ≡ nodes_most) × Sorted rows left tail (at out)
 
-abbrev decreases-loop : tie.decreases-loop
+abbrev decreases-loop : tie.decreases-loop-k
 decreases-loop rows sets words tail₀ out₀ left₀ k₀ tail out left k = sets - k
 
-all-rows-requires : tie.Need-all-rows-requires invariant-loop decreases-loop
+all-rows-requires : tie.Need-all_rows-left-requires invariant-loop decreases-loop
 all-rows-requires c κs = search rules
 
-loop-holds : tie.Need-loop-init invariant-loop decreases-loop
+loop-holds : tie.Need-loop-k-init invariant-loop decreases-loop
 loop-holds c = (
   omega arith,
-  rw c.before.requires.2 (leaving_start _ _ _ _ c.all-rows.ensures (λ i j l. absurd (omega arith))),
+  rw c.before.requires.2 (leaving_start _ _ _ _ c.all_rows-left.ensures (λ i j l. absurd (omega arith))),
   rw c.before.requires.3 refl,
-  rw c.before.requires.3 (sorted_start _ _ c.before.args.tail.now c.all-rows.ensures),
+  rw c.before.requires.3 (sorted_start _ _ c.before.args.tail.now c.all_rows-left.ensures),
 )
 
-mul-here : tie.Need-overflow-mul-here invariant-loop decreases-loop
+mul-here : tie.Need-offset_bounds-words-k invariant-loop decreases-loop
 mul-here c = omega arith
 
-element-copy-out-here : tie.Need-element-copy-out-here invariant-loop decreases-loop
+element-copy-out-here : tie.Need-bounds-words-k invariant-loop decreases-loop
 element-copy-out-here c = omega arith
 
-cast-put : tie.Need-overflow-cast-put invariant-loop decreases-loop
+cast-put : tie.Need-overflow_cast-k invariant-loop decreases-loop
 cast-put c = omega arith
 
 put-requires : tie.Need-put-requires invariant-loop decreases-loop
-put-requires c κs = c.before.before.before.loop.invariant.1.size
+put-requires c κs = c.before.before.before.loop-k.invariant.1.size
 
-mul-out : tie.Need-overflow-mul-out invariant-loop decreases-loop
+mul-out : tie.Need-offset_bounds-out-k invariant-loop decreases-loop
 mul-out c = omega arith
 
-element-copy-out-out : tie.Need-element-copy-out-out invariant-loop decreases-loop
-element-copy-out-out c = let l = c.before.before.before in omega (arith, l.before.loop.invariant.2, l.before.before.before.requires.1)
+element-copy-out-out : tie.Need-bounds-out-k invariant-loop decreases-loop
+element-copy-out-out c = let l = c.before.before.before in omega (arith, l.before.loop-k.invariant.2, l.before.before.before.requires.1)
 
-mul-out-2 : tie.Need-overflow-mul-out-2 invariant-loop decreases-loop
+mul-out-2 : tie.Need-offset_bounds-out-k-in-loop-k invariant-loop decreases-loop
 mul-out-2 c = omega arith
 
-element-write-out : tie.Need-element-write-out invariant-loop decreases-loop
+element-write-out : tie.Need-bounds-out-k-in-loop-k invariant-loop decreases-loop
 element-write-out c =
     let l = c.before.before.before.before in
-    omega (arith, l.before.loop.invariant.2, l.before.before.before.requires.1)
+    omega (arith, l.before.loop-k.invariant.2, l.before.before.before.requires.1)
 
-add-k : tie.Need-overflow-add-k invariant-loop decreases-loop
+add-k : tie.Need-overflow_add-k invariant-loop decreases-loop
 add-k c = omega arith
 
-loop-less : tie.Need-loop-smaller invariant-loop decreases-loop
+loop-less : tie.Need-loop-k-smaller invariant-loop decreases-loop
 loop-less c = omega arith
 
-loop-again : tie.Need-loop-preserved invariant-loop decreases-loop
+loop-again : tie.Need-loop-k-preserved invariant-loop decreases-loop
 loop-again c =
     let p = c.before in
     let l = p.before.before.before in
-    let u = l.before.loop in
+    let u = l.before.loop-k in
     let z = l.before.before.before in
     let a = z.args in
     let w = at a.words.now u.k in (
       omega arith,
       leaving-next u.invariant.1 w u.k p.put.ensures _
-          (λ i m o b. sym (lowest_is a.sets (λ j. bit (at a.words.now j) i) u.k l.loop-test.true (of_true b) o))
+          (λ i m o b. sym (lowest_is a.sets (λ j. bit (at a.words.now j) i) u.k l.loop-k-test.true (of_true b) o))
           (λ i o b. below_more _ _ o (of_false b)),
       simp length-set u.invariant.2,
       sorted_more u.invariant.1 u.out u.k u.invariant.3 (omega (arith, u.invariant.2, z.requires.1)) w p.put.ensures,
     )
 
-cast-put-2 : tie.Need-overflow-cast-put-2 invariant-loop decreases-loop
+cast-put-2 : tie.Need-overflow_cast-sets invariant-loop decreases-loop
 cast-put-2 c = omega arith
 
 put-requires-2 : tie.Need-put-requires-2 invariant-loop decreases-loop
-put-requires-2 c κs = c.before.before.loop.invariant.1.size
+put-requires-2 c κs = c.before.before.loop-k.invariant.1.size
 
-mul-out-3 : tie.Need-overflow-mul-out-3 invariant-loop decreases-loop
+mul-out-3 : tie.Need-offset_bounds-out-sets invariant-loop decreases-loop
 mul-out-3 c = omega (arith, c.before.before.before.before.before.requires.1)
 
-element-copy-out-out-2 : tie.Need-element-copy-out-out-2 invariant-loop decreases-loop
-element-copy-out-out-2 c = let u = c.before.before.before in omega (arith, u.loop.invariant.2, u.before.before.requires.1)
+element-copy-out-out-2 : tie.Need-bounds-out-sets invariant-loop decreases-loop
+element-copy-out-out-2 c = let u = c.before.before.before in omega (arith, u.loop-k.invariant.2, u.before.before.requires.1)
 
-mul-out-4 : tie.Need-overflow-mul-out-4 invariant-loop decreases-loop
+mul-out-4 : tie.Need-offset_bounds-out-sets-2 invariant-loop decreases-loop
 mul-out-4 c = omega (arith, c.before.before.before.before.before.before.requires.1)
 
-element-write-out-2 : tie.Need-element-write-out-2 invariant-loop decreases-loop
-element-write-out-2 c = let u = c.before.before.before.before in omega (arith, u.loop.invariant.2, u.before.before.requires.1)
+element-write-out-2 : tie.Need-bounds-out-sets-2 invariant-loop decreases-loop
+element-write-out-2 c = let u = c.before.before.before.before in omega (arith, u.loop-k.invariant.2, u.before.before.requires.1)
 
 returns : tie.Need-returns invariant-loop decreases-loop
 returns c =
     let p = c.before in
-    let u = p.before.before.before.loop in
+    let u = p.before.before.before.loop-k in
     let z = p.before.before.before.before.before in
     let a = z.args in (
-      leaving-end u.invariant.1 a.sets p.put2.ensures
+      leaving-end u.invariant.1 a.sets p.put-2.ensures
           (λ i m o. sym (lowest_none a.sets (λ j. bit (at a.words.now j) i) (λ j l. o j (omega (arith, u.invariant.0))))),
-      λ v i l. sorted-end u.invariant.1 u.out a.sets u.invariant.3 (omega (arith, u.invariant.2, z.requires.1)) p.put2.ensures v i,
+      λ v i l. sorted-end u.invariant.1 u.out a.sets u.invariant.3 (omega (arith, u.invariant.2, z.requires.1)) p.put-2.ensures v i,
     )
 
-pub put-starts-spec : {M : Type 1} → statement M
-put-starts-spec =
+pub put_starts_spec : {M : Type 1} → statement M
+put_starts_spec =
     tie.close
     (tie.spec
     invariant-loop

@@ -36,71 +36,71 @@ above_is sets k p h g a t = omega (arith, highest_is sets p (k - 1) (omega arith
 above_none : (sets : ℕ) (p : ℕ → Bool) → Above sets 0 p → 1 ≡ suc (highest sets p)
 above_none sets p a = omega (arith, highest_none sets p (λ j l. a j (omega arith) l))
 
-abbrev invariant-loop : tie.invariant-loop
+abbrev invariant-loop : tie.invariant-loop-k
 invariant-loop rows sets words head₀ into₀ left₀ k₀ head into left k =
     (k ≤ sets) × Leaving rows (λ i. suc (highest_set sets words i)) (λ i. Above sets k (λ j. bit (at words j) i)) left head
     × (length into ≡ nodes_most) × Sorted rows left head (at into)
 
-abbrev decreases-loop : tie.decreases-loop
+abbrev decreases-loop : tie.decreases-loop-k
 decreases-loop rows sets words head₀ into₀ left₀ k₀ head into left k = k
 
-all-rows-requires : tie.Need-all-rows-requires invariant-loop decreases-loop
+all-rows-requires : tie.Need-all_rows-left-requires invariant-loop decreases-loop
 all-rows-requires c κs = search rules
 
-loop-holds : tie.Need-loop-init invariant-loop decreases-loop
+loop-holds : tie.Need-loop-k-init invariant-loop decreases-loop
 loop-holds c = (
   omega arith,
-  rw c.before.requires.2 (leaving_start _ _ _ _ c.all-rows.ensures (λ i j l m. absurd (omega arith))),
+  rw c.before.requires.2 (leaving_start _ _ _ _ c.all_rows-left.ensures (λ i j l m. absurd (omega arith))),
   rw c.before.requires.3 refl,
-  rw c.before.requires.3 (sorted_start _ _ c.before.args.head.now c.all-rows.ensures),
+  rw c.before.requires.3 (sorted_start _ _ c.before.args.head.now c.all_rows-left.ensures),
 )
 
-sub-here : tie.Need-overflow-sub-here invariant-loop decreases-loop
+sub-here : tie.Need-overflow_sub-here invariant-loop decreases-loop
 sub-here c = omega arith
 
-mul-here : tie.Need-overflow-mul-here invariant-loop decreases-loop
+mul-here : tie.Need-offset_bounds-words-k invariant-loop decreases-loop
 mul-here c = omega arith
 
-element-copy-out-here : tie.Need-element-copy-out-here invariant-loop decreases-loop
+element-copy-out-here : tie.Need-bounds-words-k invariant-loop decreases-loop
 element-copy-out-here c = omega arith
 
-cast-put : tie.Need-overflow-cast-put invariant-loop decreases-loop
+cast-put : tie.Need-overflow_cast-k invariant-loop decreases-loop
 cast-put c = omega arith
 
 put-requires : tie.Need-put-requires invariant-loop decreases-loop
-put-requires c κs = c.before.before.before.loop.invariant.1.size
+put-requires c κs = c.before.before.before.loop-k.invariant.1.size
 
-mul-into : tie.Need-overflow-mul-into invariant-loop decreases-loop
+mul-into : tie.Need-offset_bounds-into-k invariant-loop decreases-loop
 mul-into c = omega arith
 
-element-copy-out-into : tie.Need-element-copy-out-into invariant-loop decreases-loop
+element-copy-out-into : tie.Need-bounds-into-k invariant-loop decreases-loop
 element-copy-out-into c =
     let u = c.before.before.before.before in
-    omega (arith, u.loop.invariant.0, u.loop.invariant.2, u.before.before.requires.1)
+    omega (arith, u.loop-k.invariant.0, u.loop-k.invariant.2, u.before.before.requires.1)
 
-mul-into-2 : tie.Need-overflow-mul-into-2 invariant-loop decreases-loop
+mul-into-2 : tie.Need-offset_bounds-into-k-in-loop-k invariant-loop decreases-loop
 mul-into-2 c = omega arith
 
-element-write-into : tie.Need-element-write-into invariant-loop decreases-loop
+element-write-into : tie.Need-bounds-into-k-in-loop-k invariant-loop decreases-loop
 element-write-into c =
     let u = c.before.before.before.before.before in
-    omega (arith, u.loop.invariant.0, u.loop.invariant.2, u.before.before.requires.1)
+    omega (arith, u.loop-k.invariant.0, u.loop-k.invariant.2, u.before.before.requires.1)
 
-sub-k : tie.Need-overflow-sub-k invariant-loop decreases-loop
+sub-k : tie.Need-overflow_sub-k invariant-loop decreases-loop
 sub-k c = omega arith
 
-loop-less : tie.Need-loop-smaller invariant-loop decreases-loop
+loop-less : tie.Need-loop-k-smaller invariant-loop decreases-loop
 loop-less c = omega arith
 
-loop-again : tie.Need-loop-preserved invariant-loop decreases-loop
+loop-again : tie.Need-loop-k-preserved invariant-loop decreases-loop
 loop-again c =
     let p = c.before in
     let l = p.before.before.before in
-    let u = l.before.loop in
+    let u = l.before.loop-k in
     let z = l.before.before.before in
     let a = z.args in
     let w = at a.words.now (u.k - 1) in
-    let h : 0 < u.k = omega (arith, l.loop-test.true) in (
+    let h : 0 < u.k = omega (arith, l.loop-k-test.true) in (
       omega arith,
       leaving-next u.invariant.1 w u.k p.put.ensures _
           (λ i m o b. above_is a.sets u.k (λ j. bit (at a.words.now j) i) h u.invariant.0 o (of_true b))
@@ -110,27 +110,27 @@ loop-again c =
     )
 
 put-requires-2 : tie.Need-put-requires-2 invariant-loop decreases-loop
-put-requires-2 c κs = c.before.before.loop.invariant.1.size
+put-requires-2 c κs = c.before.before.loop-k.invariant.1.size
 
-element-copy-out-into-2 : tie.Need-element-copy-out-into-2 invariant-loop decreases-loop
-element-copy-out-into-2 c = omega (arith, c.before.before.before.loop.invariant.2)
+element-copy-out-into-2 : tie.Need-bounds-into-1 invariant-loop decreases-loop
+element-copy-out-into-2 c = omega (arith, c.before.before.before.loop-k.invariant.2)
 
-element-write-into-2 : tie.Need-element-write-into-2 invariant-loop decreases-loop
-element-write-into-2 c = omega (arith, c.before.before.before.before.loop.invariant.2)
+element-write-into-2 : tie.Need-bounds-into-1-2 invariant-loop decreases-loop
+element-write-into-2 c = omega (arith, c.before.before.before.before.loop-k.invariant.2)
 
 returns : tie.Need-returns invariant-loop decreases-loop
 returns c =
     let p = c.before in
-    let u = p.before.before.before.loop in
+    let u = p.before.before.before.loop-k in
     let a = p.before.before.before.before.before.args in
     let e : u.k ≡ 0 = omega arith in (
-      leaving-end u.invariant.1 1 p.put2.ensures
+      leaving-end u.invariant.1 1 p.put-2.ensures
           (λ i m o. above_none a.sets (λ j. bit (at a.words.now j) i) (λ j l g. o j (omega arith) g)),
-      λ v i l. sorted-end u.invariant.1 u.into 1 u.invariant.3 (omega (arith, u.invariant.2)) p.put2.ensures v i,
+      λ v i l. sorted-end u.invariant.1 u.into 1 u.invariant.3 (omega (arith, u.invariant.2)) p.put-2.ensures v i,
     )
 
-pub put-stops-spec : {M : Type 1} → statement M
-put-stops-spec =
+pub put_stops_spec : {M : Type 1} → statement M
+put_stops_spec =
     tie.close
     (tie.spec
     invariant-loop

@@ -9,55 +9,55 @@ use Rattle.maker.proofs.Words.{moves-none, moves-length}
 use Rattle.maker.proofs.moves.count.Statement.{statement}
 use Rattle.maker.proofs.moves.count.Tie as tie
 
-abbrev invariant-loop : tie.invariant-loop
+abbrev invariant-loop : tie.invariant-loop-slot
 invariant-loop plan hyper into from n₀ slot₀ n slot = (slot ≤ hyper) × (n ≡ length (plan_moves into from slot plan)) × (n ≤ 2 * slot)
 
-abbrev decreases-loop : tie.decreases-loop
+abbrev decreases-loop : tie.decreases-loop-slot
 decreases-loop plan hyper into from n₀ slot₀ n slot = hyper - slot
 
-loop-holds : tie.Need-loop-init invariant-loop decreases-loop
+loop-holds : tie.Need-loop-slot-init invariant-loop decreases-loop
 loop-holds c =
     let a = c.before.args in
     (omega arith, sym (moves-none a.into a.from a.plan.now), omega arith)
 
-mul-word : tie.Need-overflow-mul-word invariant-loop decreases-loop
+mul-word : tie.Need-offset_bounds-plan-slot invariant-loop decreases-loop
 mul-word c = search rules
 
-shared-slice-read-word : tie.Need-shared-slice-read-word invariant-loop decreases-loop
+shared-slice-read-word : tie.Need-bounds-plan-slot invariant-loop decreases-loop
 shared-slice-read-word c = omega (arith, c.before.before.before.before.requires.0)
 
-one-requires : tie.Need-one-requires invariant-loop decreases-loop
-one-requires c κs = c.before.before.before.before.requires.2.into c.before.before.loop.slot c.before.loop-test.true
+one-requires : tie.Need-one-n-requires invariant-loop decreases-loop
+one-requires c κs = c.before.before.before.before.requires.2.into c.before.before.loop-slot.slot c.before.loop-slot-test.true
 
-add-n : tie.Need-overflow-add-n invariant-loop decreases-loop
-add-n c = omega (arith, c.one.ensures.1, c.before.before.before.loop.invariant.2, c.before.before.before.before.before.requires.1)
+add-n : tie.Need-overflow_add-n invariant-loop decreases-loop
+add-n c = omega (arith, c.one-n.ensures.1, c.before.before.before.loop-slot.invariant.2, c.before.before.before.before.before.requires.1)
 
-one-requires-2 : tie.Need-one-requires-2 invariant-loop decreases-loop
-one-requires-2 c κs = c.before.before.before.before.before.requires.2.from c.before.before.before.loop.slot
-    c.before.before.loop-test.true
+one-requires-2 : tie.Need-one-n-requires-in-loop-slot invariant-loop decreases-loop
+one-requires-2 c κs = c.before.before.before.before.before.requires.2.from c.before.before.before.loop-slot.slot
+    c.before.before.loop-slot-test.true
 
-add-n-2 : tie.Need-overflow-add-n-2 invariant-loop decreases-loop
+add-n-2 : tie.Need-overflow_add-n-in-loop-slot invariant-loop decreases-loop
 add-n-2 c =
     omega (
       arith,
-      c.before.one.ensures.1,
-      c.one2.ensures.1,
-      c.before.before.before.before.loop.invariant.2,
+      c.before.one-n.ensures.1,
+      c.one-n-in-loop-slot.ensures.1,
+      c.before.before.before.before.loop-slot.invariant.2,
       c.before.before.before.before.before.before.requires.1,
     )
 
-add-slot : tie.Need-overflow-add-slot invariant-loop decreases-loop
+add-slot : tie.Need-overflow_add-slot invariant-loop decreases-loop
 add-slot c = search rules
 
-loop-less : tie.Need-loop-smaller invariant-loop decreases-loop
+loop-less : tie.Need-loop-slot-smaller invariant-loop decreases-loop
 loop-less c = search rules
 
-loop-again : tie.Need-loop-preserved invariant-loop decreases-loop
+loop-again : tie.Need-loop-slot-preserved invariant-loop decreases-loop
 loop-again c =
     let z = c.before.before.before.before.before.before in
-    let u = c.before.before.before.before.loop in
-    let e = c.before.one.ensures in
-    let f = c.one2.ensures in (
+    let u = c.before.before.before.before.loop-slot in
+    let e = c.before.one-n.ensures in
+    let f = c.one-n-in-loop-slot.ensures in (
       omega arith,
       omega (
         arith,
@@ -72,7 +72,7 @@ loop-again c =
 
 returns : tie.Need-returns invariant-loop decreases-loop
 returns c =
-    let u = c.before.loop in
+    let u = c.before.loop-slot in
     let all : u.slot ≡ c.before.before.before.args.hyper = omega (arith, u.invariant.0) in (
       u.invariant.1 ∙ ap (λ n. length (plan_moves c.before.before.before.args.into c.before.before.before.args.from n
           c.before.before.before.args.plan.now)) all,

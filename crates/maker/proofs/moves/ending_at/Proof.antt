@@ -14,45 +14,45 @@ use Rattle.maker.proofs.Words.{ending_none}
 use Rattle.maker.proofs.moves.ending_at.Statement.{statement}
 use Rattle.maker.proofs.moves.ending_at.Tie as tie
 
-abbrev invariant-loop : tie.invariant-loop
+abbrev invariant-loop : tie.invariant-loop-i
 invariant-loop rows ends element word₀ i₀ w i = (i ≤ rows) × (w ≡ ending_at i (at ends) element)
 
-abbrev decreases-loop : tie.decreases-loop
+abbrev decreases-loop : tie.decreases-loop-i
 decreases-loop rows ends element word₀ i₀ w i = rows - i
 
-loop-holds : tie.Need-loop-init invariant-loop decreases-loop
+loop-holds : tie.Need-loop-i-init invariant-loop decreases-loop
 loop-holds c = (omega arith, sym (ending_none (at c.args.ends.now) c.args.element))
 
-end-at-requires : tie.Need-end-at-requires invariant-loop decreases-loop
+end-at-requires : tie.Need-end_at-requires invariant-loop decreases-loop
 end-at-requires c κs = omega (arith, c.before.before.requires)
 
-shl-word : tie.Need-overflow-shl-word invariant-loop decreases-loop
+shl-word : tie.Need-overflow_shl-word invariant-loop decreases-loop
 shl-word c = omega (arith, c.before.before.before.before.requires)
 
-add-i : tie.Need-overflow-add-i invariant-loop decreases-loop
+add-i : tie.Need-overflow_add-i invariant-loop decreases-loop
 add-i c = search rules
 
-loop-less : tie.Need-loop-smaller invariant-loop decreases-loop
+loop-less : tie.Need-loop-i-smaller invariant-loop decreases-loop
 loop-less c = search rules
 
-loop-again : tie.Need-loop-preserved invariant-loop decreases-loop
+loop-again : tie.Need-loop-i-preserved invariant-loop decreases-loop
 loop-again c =
     let z = c.before.before.before.before in
-    let u = c.before.before.before.loop in
-    let e = c.before.end-at.ensures in
+    let u = c.before.before.before.loop-i in
+    let e = c.before.end_at.ensures in
     let p : ℕ → Bool = λ i. eqb (at z.args.ends.now i) z.args.element in (
       omega arith,
       ⊎_elim
-          (λ w. w.1 ∙ word_in u.i p _ (omega (arith, z.requires)) u.invariant.1 (eqb_of _ _ (sym e ∙ w.0.taken)))
+          (λ w. w.1 ∙ word_in u.i p _ (omega (arith, z.requires)) u.invariant.1 (eqb_of _ _ (sym e ∙ w.0.true)))
           (λ w. w.1 ∙ word_out u.i p _ u.invariant.1 (λ t. w.0.left (e ∙ eqb→eq _ _ t)))
-          c.if1.branch,
+          c.if-end_at-element.branch,
     )
 
 returns : tie.Need-returns invariant-loop decreases-loop
 returns c =
-    let all : c.before.loop.i ≡ c.before.before.args.rows = omega (arith, c.before.loop.invariant.0) in
-    rw all at c.before.loop.invariant.1
+    let all : c.before.loop-i.i ≡ c.before.before.args.rows = omega (arith, c.before.loop-i.invariant.0) in
+    rw all at c.before.loop-i.invariant.1
 
-pub ending-at-spec : {M : Type 1} → statement M
-ending-at-spec =
+pub ending_at_spec : {M : Type 1} → statement M
+ending_at_spec =
     tie.close (tie.spec invariant-loop decreases-loop loop-holds end-at-requires shl-word add-i loop-less loop-again returns)

@@ -14,53 +14,53 @@ use Rattle.maker.proofs.Words.{bit_is, bit_is_not}
 use Rattle.maker.proofs.moves.is_bad.Statement.{statement}
 use Rattle.maker.proofs.moves.is_bad.Tie as tie
 
-abbrev invariant-loop : tie.invariant-loop
+abbrev invariant-loop : tie.invariant-loop-i
 invariant-loop rows routes word used₀ i₀ used i = (i ≤ rows) × ((t : Table) → t.rows ≡ rows → Segmented t routes → Used t word i used)
 
-abbrev decreases-loop : tie.decreases-loop
+abbrev decreases-loop : tie.decreases-loop-i
 decreases-loop rows routes word used₀ i₀ used i = rows - i
 
 -- its rows run one way
 ways : {t : Table} {xs : List ℕ} → Segmented t xs → (i : ℕ) → i < t.rows → (j : ℕ) → j < i → t.way j ≡ t.way i
 ways L i l j k = L.way j (omega (arith, l, k)) ∙ sym (L.way i l)
 
-past-last-requires : tie.Need-past-last-requires invariant-loop decreases-loop
+past-last-requires : tie.Need-past_last-requires invariant-loop decreases-loop
 past-last-requires c κs = search rules
 
-returns : tie.Need-returns invariant-loop decreases-loop
+returns : tie.Need-returns-then-past_last invariant-loop decreases-loop
 returns c t e l =
-    let q = c.before.past-last.ensures.holds c.if1.true in
+    let q = c.before.past_last.ensures.holds c.if-past_last.true in
     decides_yes (inl (q.0, omega (arith, e, q.1), q.2))
 
-loop-holds : tie.Need-loop-init invariant-loop decreases-loop
+loop-holds : tie.Need-loop-i-init invariant-loop decreases-loop
 loop-holds c = (omega arith, λ t e l. used_start t _)
 
-shr-if2 : tie.Need-overflow-shr-if2 invariant-loop decreases-loop
+shr-if2 : tie.Need-overflow_shr-word invariant-loop decreases-loop
 shr-if2 c = omega (arith, c.before.before.before.before.requires)
 
-segments-at-requires : tie.Need-segments-at-requires invariant-loop decreases-loop
+segments-at-requires : tie.Need-segments_at-segments-requires invariant-loop decreases-loop
 segments-at-requires c κs = omega (arith, c.before.before.before.before.before.requires)
 
-returns-2 : tie.Need-returns-2 invariant-loop decreases-loop
+returns-2 : tie.Need-returns-then-used-segments-ne0 invariant-loop decreases-loop
 returns-2 c t e l =
-    let u = c.before.before.before.before.loop in
-    let m = c.before.before.before.loop-test.true in
-    let g = c.before.segments-at.ensures ∙ l.row u.i (omega (arith, e, m)) in
+    let u = c.before.before.before.before.loop-i in
+    let m = c.before.before.before.loop-i-test.true in
+    let g = c.before.segments_at-segments.ensures ∙ l.row u.i (omega (arith, e, m)) in
     let a = c.before.before.before.before.before.before.before.args in
-    decides_yes (used-stop (u.invariant.1 t e l) (bit_is a.word u.i c.before.before.if2.true) (ways l u.i (omega (arith, e, m)))
+    decides_yes (used-stop (u.invariant.1 t e l) (bit_is a.word u.i c.before.before.if-word-i-eq1.true) (ways l u.i (omega (arith, e, m)))
     (omega (arith, e, m))
-    (λ z. c.if3.true (ap (bit_and u.used) g ∙ z)))
+    (λ z. c.if-used-segments-ne0.true (ap (bit_and u.used) g ∙ z)))
 
-add-i : tie.Need-overflow-add-i invariant-loop decreases-loop
+add-i : tie.Need-overflow_add-i invariant-loop decreases-loop
 add-i c = search rules
 
-loop-less : tie.Need-loop-smaller invariant-loop decreases-loop
+loop-less : tie.Need-loop-i-smaller invariant-loop decreases-loop
 loop-less c = search rules
 
-loop-again : tie.Need-loop-preserved invariant-loop decreases-loop
+loop-again : tie.Need-loop-i-preserved invariant-loop decreases-loop
 loop-again c =
-    let u = c.before.before.loop in
-    let m = c.before.loop-test.true in
+    let u = c.before.before.loop-i in
+    let m = c.before.loop-i-test.true in
     let a = c.before.before.before.before.before.args in (
       omega arith,
       λ t e l.
@@ -68,20 +68,20 @@ loop-again c =
           (λ w.
           let g = w.1.ensures ∙ l.row u.i (omega (arith, e, m)) in
           rw (w.3 ∙ ap (bit_or u.used) g)
-          (used-add (u.invariant.1 t e l) (bit_is a.word u.i w.0.taken) (ways l u.i (omega (arith, e, m)))
+          (used-add (u.invariant.1 t e l) (bit_is a.word u.i w.0.true) (ways l u.i (omega (arith, e, m)))
           (ap (bit_and u.used) (sym g) ∙ w.2.left)))
           (λ w. rw w.1 (used_skip (u.invariant.1 t e l) (bit_is_not a.word u.i w.0.left)))
-          c.if2.branch,
+          c.if-word-i-eq1.branch,
     )
 
-returns-3 : tie.Need-returns-3 invariant-loop decreases-loop
+returns-3 : tie.Need-returns invariant-loop decreases-loop
 returns-3 c t e l =
-    let u = c.before.loop in
-    let p = c.before.before.before.past-last.ensures.fails c.before.before.if1.false in
+    let u = c.before.loop-i in
+    let p = c.before.before.before.past_last.ensures.fails c.before.before.if-past_last.false in
     decides_no (used_end (u.invariant.1 t e l) (omega (arith, e, u.invariant.0)) (λ q. p (q.0, omega (arith, e, q.1), q.2)))
 
-pub is-bad-spec : {M : Type 1} → statement M
-is-bad-spec =
+pub is_bad_spec : {M : Type 1} → statement M
+is_bad_spec =
     tie.close
     (tie.spec
     invariant-loop

@@ -6,12 +6,12 @@ use Rattle.maker.proofs.Words.{some_bit, picked_none, picked_one}
 use Rattle.maker.proofs.moves.one.Statement.{statement}
 use Rattle.maker.proofs.moves.one.Tie as tie
 
-returns : tie.Need-returns
-returns c = (λ s d. rw (c.if1.true, picked_none s d), omega arith)
+returns : tie.Need-returns-then-word-eq0
+returns c = (λ s d. rw (c.if-word-eq0.true, picked_none s d), omega arith)
 
-returns-2 : tie.Need-returns-2
+returns-2 : tie.Need-returns
 returns-2 c =
-    let b = some_bit c.before.args.word (omega (arith, c.before.ranges.word)) c.if1.false in
+    let b = some_bit c.before.args.word (omega (arith, c.before.ranges.word)) c.if-word-eq0.false in
     (λ s d. sym (ap length (picked_one c.before.args.word s d b.0 c.before.requires b.1 b.2)), omega arith)
 
 pub one_spec : {M : Type 1} → statement M

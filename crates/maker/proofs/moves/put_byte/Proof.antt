@@ -8,35 +8,35 @@ use Rattle.maker.proofs.Words.{put-none, put_one}
 use Rattle.maker.proofs.moves.put_byte.Statement.{statement}
 use Rattle.maker.proofs.moves.put_byte.Tie as tie
 
-returns : tie.Need-returns
-returns c = let a = c.before.before.args in put-none in_file a.word a.slot a.way _ a.n a.out.now c.if1.true
+returns : tie.Need-returns-then-word-eq0
+returns c = let a = c.before.before.args in put-none in_file a.word a.slot a.way _ a.n a.out-1.now c.if-word-eq0.true
 
-move-of-requires : tie.Need-move-of-requires
-move-of-requires c κs = let s = c.before.before in (s.requires.0, c.if1.false, s.requires.1)
+move-of-requires : tie.Need-move_of-requires
+move-of-requires c κs = let s = c.before.before in (s.requires.0, c.if-word-eq0.false, s.requires.1)
 
-mul-put-bytes : tie.Need-overflow-mul-put-bytes
+mul-put-bytes : tie.Need-overflow_mul-n
 mul-put-bytes c = search rules
 
-add-put-bytes : tie.Need-overflow-add-put-bytes
+add-put-bytes : tie.Need-overflow_add-n
 add-put-bytes c = search rules
 
-put-bytes-requires : tie.Need-put-bytes-requires
-put-bytes-requires c κs = let M = c.before.move-of.ensures in
+put-bytes-requires : tie.Need-put_bytes-requires
+put-bytes-requires c κs = let M = c.before.move_of.ensures in
     let s = c.before.before.before.before in
     (omega (arith, ap length M.one, s.requires.3), omega (arith, M.row), omega (arith, M.way, s.requires.2))
 
-add-result : tie.Need-overflow-add-result
+add-result : tie.Need-overflow_add-result
 add-result c = search rules
 
-same_length : tie.Need-same-length
+same_length : tie.Need-shape_of-out
 same_length c = search rules
 
-returns-2 : tie.Need-returns-2
+returns-2 : tie.Need-returns
 returns-2 c =
     let m = c.before.before.before.before in
-    put_one in_file _ _ _ _ m.move-of.ensures c.before.before.put-bytes.ensures
+    put_one in_file _ _ _ _ m.move_of.ensures c.before.before.put_bytes.ensures
 
-pub put-byte-spec : {M : Type 1} → statement M
-put-byte-spec =
+pub put_byte_spec : {M : Type 1} → statement M
+put_byte_spec =
     tie.close
     (tie.spec returns move-of-requires mul-put-bytes add-put-bytes put-bytes-requires add-result same_length returns-2)

@@ -12,77 +12,77 @@ use Rattle.maker.proofs.Words.{Written, written_start, written-room, written_nex
 use Rattle.maker.proofs.moves.put_numbers.Statement.{statement}
 use Rattle.maker.proofs.moves.put_numbers.Tie as tie
 
-abbrev invariant-loop : tie.invariant-loop
+abbrev invariant-loop : tie.invariant-loop-slot
 invariant-loop plan hyper into from out₀ n₀ slot₀ out n slot =
     (slot ≤ hyper) × Written in_memory into from plan [] out₀ out n (entry_numbers * n) slot
 
-abbrev decreases-loop : tie.decreases-loop
+abbrev decreases-loop : tie.decreases-loop-slot
 decreases-loop plan hyper into from out₀ n₀ slot₀ out n slot = hyper - slot
 
-loop-holds : tie.Need-loop-init invariant-loop decreases-loop
+loop-holds : tie.Need-loop-slot-init invariant-loop decreases-loop
 loop-holds c =
     let a = c.before.before.args in
-    (omega arith, written_start in_memory a.into a.from a.plan.now (filled_start a.out.now))
+    (omega arith, written_start in_memory a.into a.from a.plan.now (filled_start a.out-1.now))
 
-mul-word : tie.Need-overflow-mul-word invariant-loop decreases-loop
+mul-word : tie.Need-offset_bounds-plan-slot invariant-loop decreases-loop
 mul-word c = search rules
 
-shared-slice-read-word : tie.Need-shared-slice-read-word invariant-loop decreases-loop
+shared-slice-read-word : tie.Need-bounds-plan-slot invariant-loop decreases-loop
 shared-slice-read-word c = omega (arith, c.before.before.before.before.before.requires.0)
 
-put-number-requires : tie.Need-put-number-requires invariant-loop decreases-loop
+put-number-requires : tie.Need-put_number-n-requires invariant-loop decreases-loop
 put-number-requires c κs =
     let z = c.before.before in
     let s = z.before.before.before.before in
-    let l = z.loop-test.true in
-    let W = z.before.loop.invariant.1 in (
-      s.requires.2.into z.before.loop.slot l,
+    let l = z.loop-slot-test.true in
+    let W = z.before.loop-slot.invariant.1 in (
+      s.requires.2.into z.before.loop-slot.slot l,
       omega (arith, s.requires.1, l),
       omega (arith, written-room W s.args.hyper l, W.filled.same, s.requires.3),
     )
 
-put-number-requires-2 : tie.Need-put-number-requires-2 invariant-loop decreases-loop
+put-number-requires-2 : tie.Need-put_number-n-requires-in-loop-slot invariant-loop decreases-loop
 put-number-requires-2 c κs =
     let z = c.before.before.before.before.before.before in
     let s = z.before.before.before.before in
-    let l = z.loop-test.true in
-    let W = z.before.loop.invariant.1 in
-    let P = c.before.before.before.put-number.ensures in (
-      s.requires.2.from z.before.loop.slot l,
+    let l = z.loop-slot-test.true in
+    let W = z.before.loop-slot.invariant.1 in
+    let P = c.before.before.before.put_number-n.ensures in (
+      s.requires.2.from z.before.loop-slot.slot l,
       omega (arith, s.requires.1, l),
       omega (arith, written-room W s.args.hyper l, W.filled.same, P.count, s.requires.3),
     )
 
-add-slot : tie.Need-overflow-add-slot invariant-loop decreases-loop
+add-slot : tie.Need-overflow_add-slot invariant-loop decreases-loop
 add-slot c = search rules
 
-loop-less : tie.Need-loop-smaller invariant-loop decreases-loop
+loop-less : tie.Need-loop-slot-smaller invariant-loop decreases-loop
 loop-less c = search rules
 
-loop-again : tie.Need-loop-preserved invariant-loop decreases-loop
+loop-again : tie.Need-loop-slot-preserved invariant-loop decreases-loop
 loop-again c =
     let z = c.before.before.before.before.before.before.before.before.before in
     let s = z.before.before.before.before in
-    let W = z.before.loop.invariant.1 in
-    let P = c.before.before.before.before.before.before.put-number.ensures in
-    let Q = c.before.before.put-number2.ensures in
-    let r = written-room W s.args.hyper z.loop-test.true in (
-      omega (arith, z.loop-test.true),
+    let W = z.before.loop-slot.invariant.1 in
+    let P = c.before.before.before.before.before.before.put_number-n.ensures in
+    let Q = c.before.before.put_number-n-in-loop-slot.ensures in
+    let r = written-room W s.args.hyper z.loop-slot-test.true in (
+      omega (arith, z.loop-slot-test.true),
       written_next W entry_numbers (λ x. refl) _ P (omega (arith, P.count)) Q (omega (arith, Q.count))
           (omega (arith, r, P.count, Q.count, s.requires.3)),
     )
 
-same_length : tie.Need-same-length invariant-loop decreases-loop
-same_length c = c.before.loop.invariant.1.filled.same
+same_length : tie.Need-shape_of-out invariant-loop decreases-loop
+same_length c = c.before.loop-slot.invariant.1.filled.same
 
 returns : tie.Need-returns invariant-loop decreases-loop
 returns c =
-    let u = c.before.loop in
+    let u = c.before.loop-slot in
     let all : u.slot ≡ c.before.before.before.before.args.hyper = omega (arith, u.invariant.0) in
     rw all at (filled_lent u.invariant.1.filled)
 
-pub put-numbers-spec : {M : Type 1} → statement M
-put-numbers-spec =
+pub put_numbers_spec : {M : Type 1} → statement M
+put_numbers_spec =
     tie.close
     (tie.spec
     invariant-loop

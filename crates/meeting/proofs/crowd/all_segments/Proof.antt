@@ -10,11 +10,11 @@ use Rattle.meeting.proofs.crowd.all_segments.Tie as tie
 stretch-requires : tie.Need-stretch-requires
 stretch-requires c κs = search rules
 
-cast-result : tie.Need-overflow-cast-result
+cast-result : tie.Need-overflow_cast-result
 cast-result c = omega (arith, stretch_fits c.stretch.ensures, pow_mono c.before.requires)
 
 returns : tie.Need-returns
 returns c = search rules
 
-pub all-segments-spec : {M : Type 1} → statement M
-all-segments-spec = tie.close (tie.spec stretch-requires cast-result returns)
+pub all_segments_spec : {M : Type 1} → statement M
+all_segments_spec = tie.close (tie.spec stretch-requires cast-result returns)

@@ -10,53 +10,53 @@ use Rattle.meeting.proofs.Left.{left, left_start, left_kept, left_same, in-set, 
 use Rattle.meeting.proofs.crowd.common.Statement.{statement}
 use Rattle.meeting.proofs.crowd.common.Tie as tie
 
-abbrev invariant-loop : tie.invariant-loop
+abbrev invariant-loop : tie.invariant-loop-i
 invariant-loop segments rows set elements left₀ i₀ now i =
     (i ≤ rows) × (now ≡ left elements i (λ k s. not (bit set k) || bit (at segments k) s))
 
-abbrev decreases-loop : tie.decreases-loop
+abbrev decreases-loop : tie.decreases-loop-i
 decreases-loop segments rows set elements left₀ i₀ now i = rows - i
 
-all-segments-requires : tie.Need-all-segments-requires invariant-loop decreases-loop
+all-segments-requires : tie.Need-all_segments-left-requires invariant-loop decreases-loop
 all-segments-requires c κs = omega arith
 
-loop-holds : tie.Need-loop-init invariant-loop decreases-loop
-loop-holds c = (omega arith, left_start _ c.all-segments.ensures)
+loop-holds : tie.Need-loop-i-init invariant-loop decreases-loop
+loop-holds c = (omega arith, left_start _ c.all_segments-left.ensures)
 
-shr-if1 : tie.Need-overflow-shr-if1 invariant-loop decreases-loop
+shr-if1 : tie.Need-overflow_shr-set invariant-loop decreases-loop
 shr-if1 c = omega arith
 
-mul_left : tie.Need-overflow-mul-left invariant-loop decreases-loop
+mul_left : tie.Need-offset_bounds-segments-i invariant-loop decreases-loop
 mul_left c = omega arith
 
-element-copy-out-left : tie.Need-element-copy-out-left invariant-loop decreases-loop
+element-copy-out-left : tie.Need-bounds-segments-i invariant-loop decreases-loop
 element-copy-out-left c = omega arith
 
-add-i : tie.Need-overflow-add-i invariant-loop decreases-loop
+add-i : tie.Need-overflow_add-i invariant-loop decreases-loop
 add-i c = omega arith
 
-loop-less : tie.Need-loop-smaller invariant-loop decreases-loop
+loop-less : tie.Need-loop-i-smaller invariant-loop decreases-loop
 loop-less c = omega arith
 
-loop-again : tie.Need-loop-preserved invariant-loop decreases-loop
+loop-again : tie.Need-loop-i-preserved invariant-loop decreases-loop
 loop-again c =
-    let u = c.before.before.loop in
+    let u = c.before.before.loop-i in
     let z = c.before.before.before.before.args in
     let word = at z.segments.now u.i in (
       omega arith,
       ⊎_elim
-          (λ w. rw w.2 (left_kept z.elements u.i _ word u.invariant.1 (λ s. in-set (bit word s) z.set u.i w.0.taken)))
+          (λ w. rw w.2 (left_kept z.elements u.i _ word u.invariant.1 (λ s. in-set (bit word s) z.set u.i w.0.true)))
           (λ w. rw w.1 (left_same z.elements u.i _ u.invariant.1 (λ s. not-in-set (bit word s) z.set u.i w.0.left)))
-          c.if1.branch,
+          c.if-set-i-eq1.branch,
     )
 
 returns : tie.Need-returns invariant-loop decreases-loop
 returns c =
-    let all : c.before.loop.i ≡ c.before.before.before.args.rows = omega arith in
-    rw all at c.before.loop.invariant.1
+    let all : c.before.loop-i.i ≡ c.before.before.before.args.rows = omega arith in
+    rw all at c.before.loop-i.invariant.1
 
-pub common-spec : {M : Type 1} → statement M
-common-spec =
+pub common_spec : {M : Type 1} → statement M
+common_spec =
     tie.close
     (tie.spec
     invariant-loop

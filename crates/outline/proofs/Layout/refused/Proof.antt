@@ -10,5 +10,5 @@ none-requires c κs = search rules
 returns : tie.Need-returns
 returns c = rw c.none.ensures refl
 
-pub refused-spec : {M : Type 1} → statement M
-refused-spec = tie.close (tie.spec none-requires returns)
+pub refused_spec : {M : Type 1} → statement M
+refused_spec = tie.close (tie.spec none-requires returns)

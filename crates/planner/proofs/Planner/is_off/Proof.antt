@@ -10,43 +10,43 @@ use Rattle.planner.proofs.Off.{off-late, off-spare-total, state-bounded, off-dec
 use Rattle.planner.proofs.Planner.is_off.Statement.{statement}
 use Rattle.planner.proofs.Planner.is_off.Tie as tie
 
-is-late-requires : tie.Need-is-late-requires
+is-late-requires : tie.Need-is_late-requires
 is-late-requires c κs = search rules
 
-returns : tie.Need-returns
-returns c t A e = decides_yes (off-late A c.before.before.args.t1 e (sym c.before.is-late.ensures ∙ c.if1.true))
+returns : tie.Need-returns-then-is_late
+returns c t A e = decides_yes (off-late A c.before.before.args.t1 e (sym c.before.is_late.ensures ∙ c.if-is_late.true))
 
-spare-clear-requires : tie.Need-spare-clear-requires
+spare-clear-requires : tie.Need-spare_clear-requires
 spare-clear-requires c κs = search rules
 
-returns-2 : tie.Need-returns-2
+returns-2 : tie.Need-returns-then-not-spare_clear
 returns-2 c t A e =
     let S = c.before.before.before.before.before.before in
-    decides_yes (off-spare-total A S.args.t1 e (c.before.spare-clear.ensures.fails (not-true _ c.if2.true)))
+    decides_yes (off-spare-total A S.args.t1 e (c.before.spare_clear.ensures.fails (not-true _ c.if-not-spare_clear.true)))
 
 -- the first test, from past the second
-abbrev in-time : tie.Else2 → tie.Else1
+abbrev in-time : tie.Else-not-spare_clear → tie.Else-is_late
 in-time c = c.before.before.before.before
 
-late : (c : tie.Else1)
+late : (c : tie.Else-is_late)
     → (let a = c.before.before.args in late_at a.t1.stage a.slot a.t3.outline.time.hyper ≡ false)
-late c = sym c.before.is-late.ensures ∙ c.if1.false
+late c = sym c.before.is_late.ensures ∙ c.if-is_late.false
 
-keeps-step-requires : tie.Need-keeps-step-requires
+keeps-step-requires : tie.Need-keeps_step-requires
 keeps-step-requires c κs =
     let E = in-time c.before.before.before.before.before in
     let S = E.before.before in
-    (state-bounded S.pre.1 S.args.t1 S.pre.2 (late E), few_sets S.pre.1)
+    (state-bounded S.requires.1 S.args.t1 S.requires.2 (late E), few_sets S.requires.1)
 
-returns-3 : tie.Need-returns-3
+returns-3 : tie.Need-returns
 returns-3 c t A e =
     let C = c.before.before.before.before.before.before in
     let E = in-time C in
-    off-decided A E.before.before.args.t1 e (late E) (C.before.spare-clear.ensures.holds (not-false _ C.if2.false))
-    c.keeps-step.result c.keeps-step.ensures
+    off-decided A E.before.before.args.t1 e (late E) (C.before.spare_clear.ensures.holds (not-false _ C.if-not-spare_clear.false))
+    c.keeps_step.result c.keeps_step.ensures
 
-pub is-off-spec : {M : Type 1} → statement M
-is-off-spec =
+pub is_off_spec : {M : Type 1} → statement M
+is_off_spec =
     tie.close
     (tie.spec
     is-late-requires

@@ -8,7 +8,7 @@ use Rattle.planner.proofs.Planner.standings.Tie as tie
 analyse-requires : tie.Need-analyse-requires
 analyse-requires c κs = search rules
 
-standings-on-requires : tie.Need-standings-on-requires
+standings-on-requires : tie.Need-standings_on-requires
 standings-on-requires c κs = usable (file_ask _) c.analyse.ensures
 
 returns : tie.Need-returns
@@ -16,7 +16,7 @@ returns c =
     let A = c.before.analyse in
     let S = c.before.before.before in
     standings-asked (file_ask S.args.file.now) (file_proper S.args.file.now).numbered A.ensures S.args.self
-    c.standings-on.result c.standings-on.ensures
+    c.standings_on.result c.standings_on.ensures
 
-pub standings-spec : {M : Type 1} → statement M
-standings-spec = tie.close (tie.spec analyse-requires standings-on-requires returns)
+pub standings_spec : {M : Type 1} → statement M
+standings_spec = tie.close (tie.spec analyse-requires standings-on-requires returns)

@@ -14,10 +14,10 @@ size c = search rules
 analyse-requires : tie.Need-analyse-requires
 analyse-requires c κs = search rules
 
-step-on-requires : tie.Need-step-on-requires
+step-on-requires : tie.Need-step_on-requires
 step-on-requires c κs = usable (file_ask _) c.before.analyse.ensures
 
-same_length : tie.Need-same-length
+same_length : tie.Need-shape_of-out
 same_length c = search rules
 
 returns : tie.Need-returns
@@ -26,8 +26,8 @@ returns c =
     let A = O.before.before in
     let S = A.before.before.before in
     let f = S.args.file.now in
-    step-asked (file_ask f) (file_proper f).numbered A.analyse.ensures S.args.self O.step-on.result S.args.out.now _
-    (size S) O.step-on.ensures
+    step-asked (file_ask f) (file_proper f).numbered A.analyse.ensures S.args.self O.step_on.result S.args.out-1.now _
+    (size S) O.step_on.ensures
 
 pub step_spec : {M : Type 1} → statement M
 step_spec = tie.close (tie.spec analyse-requires step-on-requires same_length returns)

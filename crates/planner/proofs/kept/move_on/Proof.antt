@@ -55,9 +55,9 @@ use Rattle.planner.proofs.Planner.TheLaws as T'
 use Rattle.planner.specs.contracts.MovedOn as S
 use Rattle.planner.proofs.MovedOn.TheLaws as S'
 use Rattle.planner.specs.contracts.Planner.step as step
-use Rattle.planner.proofs.Planner.step.Symbol as step-def
-use Rattle.planner.proofs.Planner.step.Symbol.{name as #planner·step}
-use Rattle.planner.proofs.Planner.step.Met as step_thm
+use Rattle.planner.proofs.Planner.step-moved.Symbol as step-def
+use Rattle.planner.proofs.Planner.step-moved.Symbol.{name as #planner·step}
+use Rattle.planner.proofs.Planner.step-moved.Met as step_thm
 use Rattle.planner.specs.contracts.kept.move_on.Key.{name as #kept·move-on}
 use Rattle.planner.specs.contracts.kept.move_on as move-on
 use Rattle.planner.proofs.kept.move_on.Statement as stated
@@ -143,7 +143,7 @@ module _
 
   goes : Is T.the_row h (mach h ∷ [])
       → ent 𝓤 (sep 𝓤 (A.lft κ₁ q₁) (sep 𝓤 (A.lft κ₂ q₂) (sep 𝓤 (sem 𝓛 File) (sem 𝓛 Words))))
-      ((StepContract 𝓛 at_mem run).pre to_step)
+      ((StepContract 𝓛 at_mem run).requires to_step)
   goes was =
       qed 𝓛 ((‵ (flft κ₁ q₁) ⊛ ‵ (flft κ₂ q₂) ⊛ ‵ File ⊛ ‵ Words) ∷ []) ∵ split ! $ move ! (1 ∷ []) $ split ! $ move ! (1 ∷ []) $ split ! $
       -- [file; words; the second token; the first]
@@ -199,7 +199,7 @@ module _
         move ! (6 ∷ []) $ fsplit ! $ use1 𝓛 (‵ File ⊛ ‵ File) ((shr_slice_copy 𝓛 (named 1) κ₁ u8).twice f (v ∷ [])) $ split ! $
         move ! (2 ∷ []) $ fsplit ! $ move ! (9 ∷ []) $ split ! $ move ! (1 ∷ []) $ split ! $
         move ! (5 ∷ 3 ∷ []) $ join ! $ move ! (1 ∷ 0 ∷ []) $ join ! $ move ! (2 ∷ 0 ∷ []) $ join ! $
-        use1 𝓛 (raw ((StepContract 𝓛 at_mem run).pre to_step)) (goes was) $
+        use1 𝓛 (raw ((StepContract 𝓛 at_mem run).requires to_step)) (goes was) $
         -- [what `step` asks; true; true; what file owns; the planner's cell; what it owns; the open borrow; obs; auth; _7; …; _1; …;
         -- room for _0; …]
         calls_at ! fm (StepContract 𝓛 at_mem run) known to_step
@@ -268,9 +268,9 @@ move_on_meets {𝓤 = 𝓤} 𝓛 at_mem run 𝓣 known =
     (move-on.clauses 𝓛 at_mem run) (WpFn 𝓤 𝓛.H 𝓣.C 𝓣.Λ code.function) (WpFn-mono 𝓤 𝓛.H 𝓛.laws 𝓣 code.function)
     (move-on-walks 𝓛 at_mem run 𝓣.C 𝓣.Λ (fm_of 𝓤 𝓛.H 𝓛.laws 𝓣) known)
 
-pub move-on-spec : {M : Type 1} → stated.statement M
+pub move_on_spec : {M : Type 1} → stated.statement M
 unfolding code.routine tables_of
-move-on-spec 𝓤 𝓛 𝓜 𝓡 =
+move_on_spec 𝓤 𝓛 𝓜 𝓡 =
     entered 𝓤 𝓛.H (triple_of 𝓛 move-on.signature (move-on.spec 𝓛 𝓜.mem 𝓡.run))
     (tables 𝓤 𝓛.H 𝓜 𝓡 code.env).C (tables 𝓤 𝓛.H 𝓜 𝓡 code.env).Λ #kept·move-on code.function (code.unfolded 𝓤 𝓛.H 𝓜 𝓡)
     (move_on_meets 𝓛 𝓜.mem 𝓡.run (tables_of 𝓤 𝓛.H 𝓜 (tables 𝓤 𝓛.H 𝓜 𝓡 code.env))

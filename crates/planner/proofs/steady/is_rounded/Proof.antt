@@ -10,34 +10,34 @@ use Rattle.rules.specs.Bounds.{max_rows, max_slots}
 use Rattle.planner.proofs.steady.is_rounded.Statement.{statement}
 use Rattle.planner.proofs.steady.is_rounded.Tie as tie
 
-add-if1 : tie.Need-overflow-add-if1
+add-if1 : tie.Need-overflow_add-total
 add-if1 c = search rules
 
-mul-if1 : tie.Need-overflow-mul-if1
+mul-if1 : tie.Need-overflow_mul-total
 mul-if1 c =
     let l : c.args.total + 1 ≤ max_rows * max_slots + 1 = omega arith in
     omega (arith, mul-le-mul l c.requires.3)
 
-mul-result : tie.Need-overflow-mul-result
+mul-result : tie.Need-overflow_mul-result
 mul-result c = omega (arith, mul-le-mul c.before.requires.0 c.before.requires.3)
 
-add-result : tie.Need-overflow-add-result
+add-result : tie.Need-overflow_add-result
 add-result c = search rules
 
-returns : tie.Need-returns
+returns : tie.Need-returns-then-share-total
 returns c =
     let n = c.before.args.total in
     let a = c.before.args.share in
     let h = c.before.args.hyper in
     record {
-      holds = λ e. rounded-of a h c.before.requires.2 n c.if1.true (ltb-true (n * h) (a + h) e);
+      holds = λ e. rounded-of a h c.before.requires.2 n c.if-share-total.true (ltb-true (n * h) (a + h) e);
       fails = λ e r. omega (arith, ltb-false (n * h) (a + h) e, (rounded-is a h c.before.requires.2 n r).1);
     }
 
-returns-2 : tie.Need-returns-2
+returns-2 : tie.Need-returns-else-share-total
 returns-2 c =
-    rw (le-ltb _ _ c.if1.false)
-    (decides_no (λ r. omega (arith, c.if1.false, (rounded-is _ _ c.before.requires.2 _ r).0)))
+    rw (le-ltb _ _ c.if-share-total.false)
+    (decides_no (λ r. omega (arith, c.if-share-total.false, (rounded-is _ _ c.before.requires.2 _ r).0)))
 
-pub is-rounded-spec : {M : Type 1} → statement M
-is-rounded-spec = tie.close (tie.spec add-if1 mul-if1 mul-result add-result returns returns-2)
+pub is_rounded_spec : {M : Type 1} → statement M
+is_rounded_spec = tie.close (tie.spec add-if1 mul-if1 mul-result add-result returns returns-2)

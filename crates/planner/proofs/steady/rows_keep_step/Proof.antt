@@ -12,59 +12,59 @@ use Rattle.planner.specs.Step.{RowsKeep}
 use Rattle.planner.proofs.steady.rows_keep_step.Statement.{statement}
 use Rattle.planner.proofs.steady.rows_keep_step.Tie as tie
 
-abbrev invariant-loop : tie.invariant-loop
+abbrev invariant-loop : tie.invariant-loop-i
 invariant-loop rows hyper slot rate totals i₀ i = (i ≤ rows) × RowsKeep i hyper slot (at rate) (at totals)
 
-abbrev decreases-loop : tie.decreases-loop
+abbrev decreases-loop : tie.decreases-loop-i
 decreases-loop rows hyper slot rate totals i₀ i = rows - i
 
-loop-holds : tie.Need-loop-init invariant-loop decreases-loop
+loop-holds : tie.Need-loop-i-init invariant-loop decreases-loop
 loop-holds c = (omega arith, λ i l. absurd (omega arith))
 
-slots-at-requires : tie.Need-slots-at-requires invariant-loop decreases-loop
+slots-at-requires : tie.Need-slots_at-requires invariant-loop decreases-loop
 slots-at-requires c κs = omega arith
 
-mul-row-keeps-step : tie.Need-overflow-mul-row-keeps-step invariant-loop decreases-loop
+mul-row-keeps-step : tie.Need-offset_bounds-totals-i invariant-loop decreases-loop
 mul-row-keeps-step c = omega arith
 
-element-copy-out-row-keeps-step : tie.Need-element-copy-out-row-keeps-step invariant-loop decreases-loop
+element-copy-out-row-keeps-step : tie.Need-bounds-totals-i invariant-loop decreases-loop
 element-copy-out-row-keeps-step c = omega arith
 
-row-keeps-step-requires : tie.Need-row-keeps-step-requires invariant-loop decreases-loop
+row-keeps-step-requires : tie.Need-row_keeps_step-requires invariant-loop decreases-loop
 row-keeps-step-requires c κs =
     let s = c.before in
     let z = s.before.before in
     let b = z.before.requires in
-    (b.some, b.short, b.inside, rw s.slots_at.ensures (b.light z.loop.i (omega arith)))
+    (b.some, b.short, b.inside, rw s.slots_at.ensures (b.light z.loop-i.i (omega arith)))
 
 -- what the test says of the row
-row_keeps : (c : tie.After-row-keeps-step invariant-loop decreases-loop)
+row_keeps : (c : tie.After-row_keeps_step invariant-loop decreases-loop)
     → let z = c.before.before.before.before in
     let a = z.before.args in
-    Decides (Rounded (at a.totals.now z.loop.i) (at a.rate.now z.loop.i * a.slot) a.hyper) c.row-keeps-step.result
-row_keeps c = rw c.before.before.slots_at.ensures at c.row-keeps-step.ensures
+    Decides (Rounded (at a.totals.now z.loop-i.i) (at a.rate.now z.loop-i.i * a.slot) a.hyper) c.row_keeps_step.result
+row_keeps c = rw c.before.before.slots_at.ensures at c.row_keeps_step.ensures
 
-returns : tie.Need-returns invariant-loop decreases-loop
+returns : tie.Need-returns-then-not-row_keeps_step invariant-loop decreases-loop
 returns c =
     let z = c.before.before.before.before.before in
-    decides_no (λ k. (row_keeps c.before).fails (not-true _ c.if1.true) (k z.loop.i (omega arith)))
+    decides_no (λ k. (row_keeps c.before).fails (not-true _ c.if-not-row_keeps_step.true) (k z.loop-i.i (omega arith)))
 
-add-i : tie.Need-overflow-add-i invariant-loop decreases-loop
+add-i : tie.Need-overflow_add-i invariant-loop decreases-loop
 add-i c = omega arith
 
-loop-less : tie.Need-loop-smaller invariant-loop decreases-loop
+loop-less : tie.Need-loop-i-smaller invariant-loop decreases-loop
 loop-less c = omega arith
 
-loop-again : tie.Need-loop-preserved invariant-loop decreases-loop
+loop-again : tie.Need-loop-i-preserved invariant-loop decreases-loop
 loop-again c =
     let z = c.before.before.before.before.before in
-    (omega arith, below_more _ _ z.loop.invariant.1 ((row_keeps c.before).holds (not-false _ c.if1.false)))
+    (omega arith, below_more _ _ z.loop-i.invariant.1 ((row_keeps c.before).holds (not-false _ c.if-not-row_keeps_step.false)))
 
-returns-2 : tie.Need-returns-2 invariant-loop decreases-loop
-returns-2 c = decides_yes (λ i l. c.before.loop.invariant.1 i (omega arith))
+returns-2 : tie.Need-returns invariant-loop decreases-loop
+returns-2 c = decides_yes (λ i l. c.before.loop-i.invariant.1 i (omega arith))
 
-pub rows-keep-step-spec : {M : Type 1} → statement M
-rows-keep-step-spec =
+pub rows_keep_step_spec : {M : Type 1} → statement M
+rows_keep_step_spec =
     tie.close
     (tie.spec
     invariant-loop

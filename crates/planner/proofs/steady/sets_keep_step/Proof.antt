@@ -16,74 +16,74 @@ use Rattle.planner.proofs.Keeping.{rate-le, slot-le, total-le, set_rounded}
 use Rattle.planner.proofs.steady.sets_keep_step.Statement.{statement}
 use Rattle.planner.proofs.steady.sets_keep_step.Tie as tie
 
-abbrev invariant-loop : tie.invariant-loop
+abbrev invariant-loop : tie.invariant-loop-k
 invariant-loop rows hyper slot rate sets words totals k₀ k = (k ≤ sets) × SetsKeep rows hyper slot (at rate) k (at words) (at totals)
 
-abbrev decreases-loop : tie.decreases-loop
+abbrev decreases-loop : tie.decreases-loop-k
 decreases-loop rows hyper slot rate sets words totals k₀ k = sets - k
 
-loop-holds : tie.Need-loop-init invariant-loop decreases-loop
+loop-holds : tie.Need-loop-k-init invariant-loop decreases-loop
 loop-holds c = (omega arith, λ k l. absurd (omega arith))
 
-mul-sums-in : tie.Need-overflow-mul-sums-in invariant-loop decreases-loop
+mul-sums-in : tie.Need-offset_bounds-words-k invariant-loop decreases-loop
 mul-sums-in c = omega arith
 
-element-copy-out-sums-in : tie.Need-element-copy-out-sums-in invariant-loop decreases-loop
+element-copy-out-sums-in : tie.Need-bounds-words-k invariant-loop decreases-loop
 element-copy-out-sums-in c = omega arith
 
-sums-in-requires : tie.Need-sums-in-requires invariant-loop decreases-loop
+sums-in-requires : tie.Need-sums_in-sums-requires invariant-loop decreases-loop
 sums-in-requires c κs =
     let z = c.before.before.before in
     let b = z.requires.0 in
     (b.few, λ i l. (rate-le b i l, total-le b (at z.args.totals.now) z.requires.2 i l))
 
-mul-is-rounded : tie.Need-overflow-mul-is-rounded invariant-loop decreases-loop
+mul-is-rounded : tie.Need-overflow_mul-sums invariant-loop decreases-loop
 mul-is-rounded c =
     let b = c.before.before.before.before.before.requires.0 in
-    omega (arith, mul-le-mul c.before.sums-in.ensures.1 (slot-le b))
+    omega (arith, mul-le-mul c.before.sums_in-sums.ensures.1 (slot-le b))
 
-is-rounded-requires : tie.Need-is-rounded-requires invariant-loop decreases-loop
+is-rounded-requires : tie.Need-is_rounded-requires invariant-loop decreases-loop
 is-rounded-requires c κs =
     let b = c.before.before.before.before.before.requires.0 in
-    let s = c.before.sums-in.ensures in
+    let s = c.before.sums_in-sums.ensures in
     (s.3, omega (arith, mul-le-mul s.1 (slot-le b)), b.some, b.short)
 
 -- what the test says of the set
-rounded : (c : tie.After-sums-in invariant-loop decreases-loop)
+rounded : (c : tie.After-sums_in-sums invariant-loop decreases-loop)
     → let z = c.before.before.before in
     let a = z.before.args in
-    Rounded c.sums-in.result.total (c.sums-in.result.rate * a.slot) a.hyper
-    ↔ Rounded (sum_in a.rows (bit (at a.words.now z.loop.k)) (at a.totals.now))
-    (sum_in a.rows (bit (at a.words.now z.loop.k)) (λ i. at a.rate.now i * a.slot)) a.hyper
+    Rounded c.sums_in-sums.result.total (c.sums_in-sums.result.rate * a.slot) a.hyper
+    ↔ Rounded (sum_in a.rows (bit (at a.words.now z.loop-k.k)) (at a.totals.now))
+    (sum_in a.rows (bit (at a.words.now z.loop-k.k)) (λ i. at a.rate.now i * a.slot)) a.hyper
 rounded c =
     let z = c.before.before.before in
     let a = z.before.args in
-    set_rounded a.rows a.hyper a.slot (at a.words.now z.loop.k) (at a.rate.now) (at a.totals.now)
-    c.sums-in.ensures.0 c.sums-in.ensures.2
+    set_rounded a.rows a.hyper a.slot (at a.words.now z.loop-k.k) (at a.rate.now) (at a.totals.now)
+    c.sums_in-sums.ensures.0 c.sums_in-sums.ensures.2
 
-returns : tie.Need-returns invariant-loop decreases-loop
+returns : tie.Need-returns-then-not-is_rounded invariant-loop decreases-loop
 returns c =
     let s = c.before.before.before in
     let z = s.before.before.before in
-    decides_no (λ f. c.before.is-rounded.ensures.fails (not-true _ c.if1.true) ((rounded s).1 (f z.loop.k (omega arith))))
+    decides_no (λ f. c.before.is_rounded.ensures.fails (not-true _ c.if-not-is_rounded.true) ((rounded s).1 (f z.loop-k.k (omega arith))))
 
-add-k : tie.Need-overflow-add-k invariant-loop decreases-loop
+add-k : tie.Need-overflow_add-k invariant-loop decreases-loop
 add-k c = omega arith
 
-loop-less : tie.Need-loop-smaller invariant-loop decreases-loop
+loop-less : tie.Need-loop-k-smaller invariant-loop decreases-loop
 loop-less c = omega arith
 
-loop-again : tie.Need-loop-preserved invariant-loop decreases-loop
+loop-again : tie.Need-loop-k-preserved invariant-loop decreases-loop
 loop-again c =
     let s = c.before.before.before in
     let z = s.before.before.before in
-    (omega arith, below_more _ _ z.loop.invariant.1 ((rounded s).0 (c.before.is-rounded.ensures.holds (not-false _ c.if1.false))))
+    (omega arith, below_more _ _ z.loop-k.invariant.1 ((rounded s).0 (c.before.is_rounded.ensures.holds (not-false _ c.if-not-is_rounded.false))))
 
-returns-2 : tie.Need-returns-2 invariant-loop decreases-loop
-returns-2 c = decides_yes (λ k l. c.before.loop.invariant.1 k (omega arith))
+returns-2 : tie.Need-returns invariant-loop decreases-loop
+returns-2 c = decides_yes (λ k l. c.before.loop-k.invariant.1 k (omega arith))
 
-pub sets-keep-step-spec : {M : Type 1} → statement M
-sets-keep-step-spec =
+pub sets_keep_step_spec : {M : Type 1} → statement M
+sets_keep_step_spec =
     tie.close
     (tie.spec
     invariant-loop

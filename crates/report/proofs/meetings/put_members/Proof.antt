@@ -11,54 +11,54 @@ use Rattle.report.proofs.Members.{member-line, no_line}
 use Rattle.report.proofs.meetings.put_members.Statement.{statement}
 use Rattle.report.proofs.meetings.put_members.Tie as tie
 
-abbrev invariant-loop : tie.invariant-loop
+abbrev invariant-loop : tie.invariant-loop-k
 invariant-loop name word first bits out₀ at next₀ k₀ out next k =
     (k ≤ bits) × PutsLines (member_lines (λ i. numbered name (first + i)) k word) k out₀ at out next
 
-abbrev decreases-loop : tie.decreases-loop
+abbrev decreases-loop : tie.decreases-loop-k
 decreases-loop name word first bits out₀ at next₀ k₀ out next k = bits - k
 
-loop-holds : tie.Need-loop-init invariant-loop decreases-loop
+loop-holds : tie.Need-loop-k-init invariant-loop decreases-loop
 loop-holds c = (omega arith, lines_none _ _ _)
 
-shr-if1 : tie.Need-overflow-shr-if1 invariant-loop decreases-loop
+shr-if1 : tie.Need-overflow_shr-word invariant-loop decreases-loop
 shr-if1 c = omega arith
 
-add-put-value : tie.Need-overflow-add-put-value invariant-loop decreases-loop
+add-put-value : tie.Need-overflow_add-first invariant-loop decreases-loop
 add-put-value c = omega arith
 
-put-value-requires : tie.Need-put-value-requires invariant-loop decreases-loop
+put-value-requires : tie.Need-put_value-next-requires invariant-loop decreases-loop
 put-value-requires c κs = omega arith
 
-add-k : tie.Need-overflow-add-k invariant-loop decreases-loop
+add-k : tie.Need-overflow_add-k invariant-loop decreases-loop
 add-k c = omega arith
 
-loop-less : tie.Need-loop-smaller invariant-loop decreases-loop
+loop-less : tie.Need-loop-k-smaller invariant-loop decreases-loop
 loop-less c = omega arith
 
-loop-again : tie.Need-loop-preserved invariant-loop decreases-loop
+loop-again : tie.Need-loop-k-preserved invariant-loop decreases-loop
 loop-again c =
     let u = c.before.before in
     let z = u.before.before.before.args in
-    let k = u.loop.k in
+    let k = u.loop-k.k in
     let line = numbered z.name.now (z.first + k) in (
       omega arith,
       ⊎_elim
-          (λ w. rw (w.5, w.6) (lines_next _ k u.loop.invariant.1 line (member-line line z.word k w.0.taken) w.2.ensures))
-          (λ w. rw (w.1, w.2) (lines-skip _ k u.loop.invariant.1 (no_line line z.word k w.0.left)))
-          c.if1.branch,
+          (λ w. rw (w.5, w.6) (lines_next _ k u.loop-k.invariant.1 line (member-line line z.word k w.0.true) w.2.ensures))
+          (λ w. rw (w.1, w.2) (lines-skip _ k u.loop-k.invariant.1 (no_line line z.word k w.0.left)))
+          c.if-word-k-eq1.branch,
     )
 
-same_length : tie.Need-same-length invariant-loop decreases-loop
-same_length c = c.before.loop.invariant.1.0.same
+same_length : tie.Need-shape_of-out invariant-loop decreases-loop
+same_length c = c.before.loop-k.invariant.1.0.same
 
 returns : tie.Need-returns invariant-loop decreases-loop
 returns c =
-    let all : c.before.loop.k ≡ c.before.before.before.before.args.bits = omega arith in
-    rw all at c.before.loop.invariant.1
+    let all : c.before.loop-k.k ≡ c.before.before.before.before.args.bits = omega arith in
+    rw all at c.before.loop-k.invariant.1
 
-pub put-members-spec : {M : Type 1} → statement M
-put-members-spec =
+pub put_members_spec : {M : Type 1} → statement M
+put_members_spec =
     tie.close
     (tie.spec
     invariant-loop

@@ -12,16 +12,16 @@ use Rattle.report.proofs.meetings.put_segments.Tie as tie
 slice-aggregate-put-members : tie.Need-slice-aggregate-put-members
 slice-aggregate-put-members c = search rules
 
-put-members-requires : tie.Need-put-members-requires
+put-members-requires : tie.Need-put_members-requires
 put-members-requires c κs = search rules
 
-same_length : tie.Need-same-length
+same_length : tie.Need-shape_of-out
 same_length c = search rules
 
 returns : tie.Need-returns
 returns c =
     put_same (λ k. segment (1 + k)) (λ k. segment (suc k)) max_elements _ (λ k. ap segment (one-add k))
-    c.before.before.put-members.ensures
+    c.before.before.put_members.ensures
 
-pub put-segments-spec : {M : Type 1} → statement M
-put-segments-spec = tie.close (tie.spec slice-aggregate-put-members put-members-requires same_length returns)
+pub put_segments_spec : {M : Type 1} → statement M
+put_segments_spec = tie.close (tie.spec slice-aggregate-put-members put-members-requires same_length returns)

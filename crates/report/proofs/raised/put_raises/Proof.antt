@@ -11,65 +11,65 @@ use Rattle.report.proofs.RaisedLines.{lines-grown, lines-kept}
 use Rattle.report.proofs.raised.put_raises.Statement.{statement}
 use Rattle.report.proofs.raised.put_raises.Tie as tie
 
-abbrev invariant-loop : tie.invariant-loop
+abbrev invariant-loop : tie.invariant-loop-i
 invariant-loop rows old new out₀ next₀ i₀ out next i = (i ≤ rows) × PutsLines (raised_lines i (at old) (at new)) i out₀ 0 out next
 
-abbrev decreases-loop : tie.decreases-loop
+abbrev decreases-loop : tie.decreases-loop-i
 decreases-loop rows old new out₀ next₀ i₀ out next i = rows - i
 
-loop-holds : tie.Need-loop-init invariant-loop decreases-loop
+loop-holds : tie.Need-loop-i-init invariant-loop decreases-loop
 loop-holds c = (omega arith, lines_none _ _ _)
 
-slots-at-requires : tie.Need-slots-at-requires invariant-loop decreases-loop
+slots-at-requires : tie.Need-slots_at-was-requires invariant-loop decreases-loop
 slots-at-requires c κs = omega arith
 
-slots-at-requires-2 : tie.Need-slots-at-requires-2 invariant-loop decreases-loop
+slots-at-requires-2 : tie.Need-slots_at-is-requires invariant-loop decreases-loop
 slots-at-requires-2 c κs = omega arith
 
-put-raise-requires : tie.Need-put-raise-requires invariant-loop decreases-loop
+put-raise-requires : tie.Need-put_raise-next-requires invariant-loop decreases-loop
 put-raise-requires c κs =
     let u = c.before.before.before.before.before in
     let p = u.before.before.requires in (
       omega (arith, p.few),
-      omega (arith, c.before.before.before.slots_at.ensures, p.was u.loop.i (omega arith)),
-      omega (arith, c.before.before.slots-at2.ensures, p.is u.loop.i (omega arith)),
-      omega (arith, p.few, u.loop.invariant.1.1),
+      omega (arith, c.before.before.before.slots_at-was.ensures, p.was u.loop-i.i (omega arith)),
+      omega (arith, c.before.before.slots_at-is.ensures, p.is u.loop-i.i (omega arith)),
+      omega (arith, p.few, u.loop-i.invariant.1.1),
     )
 
-add-i : tie.Need-overflow-add-i invariant-loop decreases-loop
+add-i : tie.Need-overflow_add-i invariant-loop decreases-loop
 add-i c = omega arith
 
-loop-less : tie.Need-loop-smaller invariant-loop decreases-loop
+loop-less : tie.Need-loop-i-smaller invariant-loop decreases-loop
 loop-less c = omega arith
 
-loop-again : tie.Need-loop-preserved invariant-loop decreases-loop
+loop-again : tie.Need-loop-i-preserved invariant-loop decreases-loop
 loop-again c =
     let s = c.before in
     let u = s.before.before.before in
     let z = u.before.before.args in
     let old = at z.old.now in
     let new = at z.new.now in
-    let P = u.loop.invariant.1 in (
+    let P = u.loop-i.invariant.1 in (
       omega arith,
       ⊎_elim
           (λ w.
           rw (w.5, w.6)
-          (lines-grown old new u.loop.i P _ _ s.before.slots_at.ensures s.slots-at2.ensures w.0.taken w.2.ensures))
+          (lines-grown old new u.loop-i.i P _ _ s.before.slots_at-was.ensures s.slots_at-is.ensures w.0.true w.2.ensures))
           (λ w.
-          rw (w.1, w.2) (lines-kept old new u.loop.i P _ _ s.before.slots_at.ensures s.slots-at2.ensures w.0.left))
-          c.if1.branch,
+          rw (w.1, w.2) (lines-kept old new u.loop-i.i P _ _ s.before.slots_at-was.ensures s.slots_at-is.ensures w.0.left))
+          c.if-was-is.branch,
     )
 
-same_length : tie.Need-same-length invariant-loop decreases-loop
-same_length c = c.before.loop.invariant.1.0.same
+same_length : tie.Need-shape_of-out invariant-loop decreases-loop
+same_length c = c.before.loop-i.invariant.1.0.same
 
 returns : tie.Need-returns invariant-loop decreases-loop
 returns c =
-    let all : c.before.loop.i ≡ c.before.before.before.args.rows = omega arith in
-    rw all at c.before.loop.invariant.1
+    let all : c.before.loop-i.i ≡ c.before.before.before.args.rows = omega arith in
+    rw all at c.before.loop-i.invariant.1
 
-pub put-raises-spec : {M : Type 1} → statement M
-put-raises-spec =
+pub put_raises_spec : {M : Type 1} → statement M
+put_raises_spec =
     tie.close
     (tie.spec
     invariant-loop

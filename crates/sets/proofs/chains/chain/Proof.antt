@@ -8,60 +8,60 @@ use Rattle.sets.proofs.Chained.{chain_start, chain_more, chain_end}
 use Rattle.sets.proofs.chains.chain.Statement.{statement}
 use Rattle.sets.proofs.chains.chain.Tie as tie
 
-abbrev invariant-loop : tie.invariant-loop
+abbrev invariant-loop : tie.invariant-loop-i
 invariant-loop first rows head₀ next₀ i₀ head next i = (i ≤ rows) × ChainedFrom rows (at first) i head next
 
-abbrev decreases-loop : tie.decreases-loop
+abbrev decreases-loop : tie.decreases-loop-i
 decreases-loop first rows head₀ next₀ i₀ head next i = i
 
-loop-holds : tie.Need-loop-init invariant-loop decreases-loop
+loop-holds : tie.Need-loop-i-init invariant-loop decreases-loop
 loop-holds c = (omega arith, rw (c.requires.2, c.requires.3) (chain_start _ _))
 
-sub-end-at : tie.Need-overflow-sub-end-at invariant-loop decreases-loop
+sub-end-at : tie.Need-overflow_sub-i invariant-loop decreases-loop
 sub-end-at c = omega arith
 
-end-at-requires : tie.Need-end-at-requires invariant-loop decreases-loop
+end-at-requires : tie.Need-end_at-element-requires invariant-loop decreases-loop
 end-at-requires c κs = omega arith
 
 -- the row's first end has a head
-low : (c : tie.After-end-at invariant-loop decreases-loop)
-    → at c.before.before.before.args.first.now (c.before.before.loop.i - 1) < all_heads
-low c = c.before.before.before.requires.1 (c.before.before.loop.i - 1) (omega arith)
+low : (c : tie.After-end_at-element invariant-loop decreases-loop)
+    → at c.before.before.before.args.first.now (c.before.before.loop-i.i - 1) < all_heads
+low c = c.before.before.before.requires.1 (c.before.before.loop-i.i - 1) (omega arith)
 
-element-copy-out-next : tie.Need-element-copy-out-next invariant-loop decreases-loop
+element-copy-out-next : tie.Need-bounds-head-element invariant-loop decreases-loop
 element-copy-out-next c = omega (arith, low c)
 
-sub-next : tie.Need-overflow-sub-next invariant-loop decreases-loop
+sub-next : tie.Need-overflow_sub-next invariant-loop decreases-loop
 sub-next c = omega arith
 
-element-write-next : tie.Need-element-write-next invariant-loop decreases-loop
+element-write-next : tie.Need-bounds-next-i invariant-loop decreases-loop
 element-write-next c = omega arith
 
-cast-head : tie.Need-overflow-cast-head invariant-loop decreases-loop
+cast-head : tie.Need-overflow_cast-head invariant-loop decreases-loop
 cast-head c = omega arith
 
-element-write-head : tie.Need-element-write-head invariant-loop decreases-loop
+element-write-head : tie.Need-bounds-head-element-in-loop-i invariant-loop decreases-loop
 element-write-head c = omega (arith, low c.before)
 
-sub-i : tie.Need-overflow-sub-i invariant-loop decreases-loop
+sub-i : tie.Need-overflow_sub-i-in-loop-i invariant-loop decreases-loop
 sub-i c = omega arith
 
-loop-less : tie.Need-loop-smaller invariant-loop decreases-loop
+loop-less : tie.Need-loop-i-smaller invariant-loop decreases-loop
 loop-less c = omega arith
 
-loop-again : tie.Need-loop-preserved invariant-loop decreases-loop
+loop-again : tie.Need-loop-i-preserved invariant-loop decreases-loop
 loop-again c =
     let d = c.before in (
       omega arith,
-      chain_more d.before.before.loop.invariant.1 (omega arith) (omega arith) (omega arith) d.end-at.ensures
+      chain_more d.before.before.loop-i.invariant.1 (omega arith) (omega arith) (omega arith) d.end_at-element.ensures
           (omega (arith, low d)),
     )
 
 returns : tie.Need-returns invariant-loop decreases-loop
-returns c = chain_end c.before.loop.invariant.1 (omega arith)
+returns c = chain_end c.before.loop-i.invariant.1 (omega arith)
 
-pub chain-spec : {M : Type 1} → statement M
-chain-spec =
+pub chain_spec : {M : Type 1} → statement M
+chain_spec =
     tie.close
     (tie.spec
     invariant-loop

@@ -9,50 +9,50 @@ use Rattle.stretches.proofs.Stretches.{repeated_one, repeated-more, repeated-all
 use Rattle.slots.proofs.parting.repeat.Statement.{statement}
 use Rattle.slots.proofs.parting.repeat.Tie as tie
 
-abbrev invariant-loop : tie.invariant-loop
+abbrev invariant-loop : tie.invariant-loop-s
 invariant-loop from to words₀ word s₀ words s =
     (from < s) × (s ≤ to) × (to ≤ length words) × (word ≡ at words₀ from) × Repeated from s words₀ words
 
-abbrev decreases-loop : tie.decreases-loop
+abbrev decreases-loop : tie.decreases-loop-s
 decreases-loop from to words₀ word s₀ words s = to - s
 
-mul-word : tie.Need-overflow-mul-word invariant-loop decreases-loop
+mul-word : tie.Need-offset_bounds-words-from invariant-loop decreases-loop
 mul-word c = omega arith
 
-slice-read-word : tie.Need-slice-read-word invariant-loop decreases-loop
+slice-read-word : tie.Need-bounds-words-from invariant-loop decreases-loop
 slice-read-word c = omega arith
 
-add-s : tie.Need-overflow-add-s invariant-loop decreases-loop
+add-s : tie.Need-overflow_add-s invariant-loop decreases-loop
 add-s c = omega arith
 
-loop-holds : tie.Need-loop-init invariant-loop decreases-loop
+loop-holds : tie.Need-loop-s-init invariant-loop decreases-loop
 loop-holds c = (omega arith, omega arith, omega arith, refl, repeated_one _ _)
 
-mul_words : tie.Need-overflow-mul-words invariant-loop decreases-loop
+mul_words : tie.Need-offset_bounds-words-s invariant-loop decreases-loop
 mul_words c = omega arith
 
-slice-write-words : tie.Need-slice-write-words invariant-loop decreases-loop
+slice-write-words : tie.Need-bounds-words-s invariant-loop decreases-loop
 slice-write-words c = omega arith
 
-add-s-2 : tie.Need-overflow-add-s-2 invariant-loop decreases-loop
+add-s-2 : tie.Need-overflow_add-s-in-loop-s invariant-loop decreases-loop
 add-s-2 c = omega arith
 
-loop-less : tie.Need-loop-smaller invariant-loop decreases-loop
+loop-less : tie.Need-loop-s-smaller invariant-loop decreases-loop
 loop-less c = omega arith
 
-loop-again : tie.Need-loop-preserved invariant-loop decreases-loop
+loop-again : tie.Need-loop-s-preserved invariant-loop decreases-loop
 loop-again c =
-    let l = c.before.loop.invariant in
+    let l = c.before.loop-s.invariant in
     (omega arith, omega arith, simp length-set (omega arith), l.3, repeated-more l.4 (omega arith) (omega arith) l.3)
 
-same_length : tie.Need-same-length invariant-loop decreases-loop
-same_length c = c.before.loop.invariant.4.long
+same_length : tie.Need-shape_of-words invariant-loop decreases-loop
+same_length c = c.before.loop-s.invariant.4.long
 
 returns : tie.Need-returns invariant-loop decreases-loop
-returns c = repeated-all c.before.loop.invariant.4 (omega arith)
+returns c = repeated-all c.before.loop-s.invariant.4 (omega arith)
 
-pub repeat-spec : {M : Type 1} → statement M
-repeat-spec =
+pub repeat_spec : {M : Type 1} → statement M
+repeat_spec =
     tie.close
     (tie.spec
     invariant-loop

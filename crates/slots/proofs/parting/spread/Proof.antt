@@ -10,40 +10,40 @@ use Rattle.stretches.proofs.Stretches.{Spreading, spreading-start, spreading-mor
 use Rattle.slots.proofs.parting.spread.Statement.{statement}
 use Rattle.slots.proofs.parting.spread.Tie as tie
 
-abbrev invariant-loop : tie.invariant-loop
+abbrev invariant-loop : tie.invariant-loop-s
 invariant-loop end after slots words₀ k₀ s₀ words k s =
     (length words ≡ length words₀)
     × ((of begin : ℕ → ℕ) → Tiles slots of begin end after → Spreading slots of begin words₀ k s words)
 
-abbrev decreases-loop : tie.decreases-loop
+abbrev decreases-loop : tie.decreases-loop-s
 decreases-loop end after slots words₀ k₀ s₀ words k s = slots - s
 
-loop-holds : tie.Need-loop-init invariant-loop decreases-loop
+loop-holds : tie.Need-loop-s-init invariant-loop decreases-loop
 loop-holds c = (refl, λ of begin t. spreading-start t _)
 
 -- in a turn: the stretch is one of those there can be, and it ends past slot s
-module _ (c : tie.In-loop invariant-loop decreases-loop) where
-  low : c.before.loop.k < most_stretches
+module _ (c : tie.In-loop-s invariant-loop decreases-loop) where
+  low : c.before.loop-s.k < most_stretches
   low =
       let p = c.before.before.before.requires.0 in
-      cursor-low p.2 (c.before.loop.invariant.1 p.0 p.1 p.2).cursor c.loop-test.true
+      cursor-low p.2 (c.before.loop-s.invariant.1 p.0 p.1 p.2).cursor c.loop-s-test.true
 
-  ends : (c.before.loop.s < at c.before.before.before.args.end.now c.before.loop.k)
-      × (at c.before.before.before.args.end.now c.before.loop.k ≤ c.before.before.before.args.slots)
+  ends : (c.before.loop-s.s < at c.before.before.before.args.end.now c.before.loop-s.k)
+      × (at c.before.before.before.args.end.now c.before.loop-s.k ≤ c.before.before.before.args.slots)
   ends =
       let p = c.before.before.before.requires.0 in
-      cursor-end p.2 (c.before.loop.invariant.1 p.0 p.1 p.2).cursor c.loop-test.true
+      cursor-end p.2 (c.before.loop-s.invariant.1 p.0 p.1 p.2).cursor c.loop-s-test.true
 
-mul-to : tie.Need-overflow-mul-to invariant-loop decreases-loop
+mul-to : tie.Need-offset_bounds-end-k invariant-loop decreases-loop
 mul-to c = omega (arith, low c)
 
-element-copy-out-to : tie.Need-element-copy-out-to invariant-loop decreases-loop
+element-copy-out-to : tie.Need-bounds-end-k invariant-loop decreases-loop
 element-copy-out-to c = low c
 
-cast-to : tie.Need-overflow-cast-to invariant-loop decreases-loop
+cast-to : tie.Need-overflow_cast-to invariant-loop decreases-loop
 cast-to c = record { fits = omega (arith, low c) }
 
-cast-to-2 : tie.Need-overflow-cast-to-2 invariant-loop decreases-loop
+cast-to-2 : tie.Need-overflow_cast-to-in-loop-s invariant-loop decreases-loop
 cast-to-2 c = record { fits = omega (arith, ends c.before) }
 
 repeat-requires : tie.Need-repeat-requires invariant-loop decreases-loop
@@ -51,36 +51,36 @@ repeat-requires c κs =
     let e = ends c.before.before in (omega arith, omega arith)
 
 -- the turn, from its end
-abbrev turn : tie.After-slice-known2 invariant-loop decreases-loop → tie.In-loop invariant-loop decreases-loop
+abbrev turn : tie.After-slice_known-in-loop-s-1 invariant-loop decreases-loop → tie.In-loop-s invariant-loop decreases-loop
 turn c = c.before.before.before.before.before
 
-element-copy-out-k : tie.Need-element-copy-out-k invariant-loop decreases-loop
+element-copy-out-k : tie.Need-bounds-after-k invariant-loop decreases-loop
 element-copy-out-k c = low (turn c)
 
-cast-k : tie.Need-overflow-cast-k invariant-loop decreases-loop
+cast-k : tie.Need-overflow_cast-k invariant-loop decreases-loop
 cast-k c = record { fits = omega (arith, low (turn c)) }
 
-loop-less : tie.Need-loop-smaller invariant-loop decreases-loop
+loop-less : tie.Need-loop-s-smaller invariant-loop decreases-loop
 loop-less c = omega (arith, ends (turn c.before))
 
-loop-again : tie.Need-loop-preserved invariant-loop decreases-loop
+loop-again : tie.Need-loop-s-preserved invariant-loop decreases-loop
 loop-again c =
     let R = c.before.before.before.repeat.ensures in (
-      R.long ∙ (turn c.before).before.loop.inv.0,
+      R.long ∙ (turn c.before).before.loop-s.invariant.0,
       λ of begin t.
-          spreading-more t ((turn c.before).before.loop.inv.1 of begin t) (turn c.before).loop-test.taken refl refl R,
+          spreading-more t ((turn c.before).before.loop-s.invariant.1 of begin t) (turn c.before).loop-s-test.true refl refl R,
     )
 
-same_length : tie.Need-same-length invariant-loop decreases-loop
-same_length c = c.before.loop.invariant.0
+same_length : tie.Need-shape_of-words invariant-loop decreases-loop
+same_length c = c.before.loop-s.invariant.0
 
 returns : tie.Need-returns invariant-loop decreases-loop
 returns c of begin t =
-    let l = c.before.loop.invariant in
-    spreading-end t (l.1 of begin t) c.loop-test.false l.0
+    let l = c.before.loop-s.invariant in
+    spreading-end t (l.1 of begin t) c.loop-s-test.false l.0
 
-pub spread-spec : {M : Type 1} → statement M
-spread-spec =
+pub spread_spec : {M : Type 1} → statement M
+spread_spec =
     tie.close
     (tie.spec
     invariant-loop

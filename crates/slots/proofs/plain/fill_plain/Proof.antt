@@ -13,32 +13,32 @@ use Rattle.slots.proofs.PlainWalk.{Coming, coming_start, coming-end, Along, alon
 use Rattle.slots.proofs.plain.fill_plain.Statement.{statement}
 use Rattle.slots.proofs.plain.fill_plain.Tie as tie
 
-abbrev invariant-loop2 : tie.invariant-loop2
+abbrev invariant-loop2 : tie.invariant-loop-r
 invariant-loop2 first second head next load top slots words₀ element r₀ words r =
     Kept slots words₀ words
     × ((n : ℕ) → ChainedRows n (at first) (at second) top head next → Along n (at first) (at second) (at load) slots element r words)
 
-abbrev decreases-loop2 : tie.decreases-loop2
+abbrev decreases-loop2 : tie.decreases-loop-r
 decreases-loop2 first second head next load top slots words₀ element r₀ words r = rest r
 
-abbrev invariant-loop : tie.invariant-loop
+abbrev invariant-loop : tie.invariant-loop-element
 invariant-loop first second head next load top slots words₀ element₀ words element =
     Kept slots words₀ words
     × ((n : ℕ) → ChainedRows n (at first) (at second) top head next → Coming n (at first) (at second) (at load) slots element words)
 
-abbrev decreases-loop : tie.decreases-loop
+abbrev decreases-loop : tie.decreases-loop-element
 decreases-loop first second head next load top slots words₀ element₀ words element = top - element
 
 -- ---- the places of the code
 
 abbrev AtElements : Type 0
-AtElements = tie.At-loop invariant-loop2 decreases-loop2 invariant-loop decreases-loop
+AtElements = tie.At-loop-element invariant-loop2 decreases-loop2 invariant-loop decreases-loop
 
 abbrev AtRows : Type 0
-AtRows = tie.At-loop2 invariant-loop2 decreases-loop2 invariant-loop decreases-loop
+AtRows = tie.At-loop-r invariant-loop2 decreases-loop2 invariant-loop decreases-loop
 
 abbrev InRows : Type 0
-InRows = tie.In-loop2 invariant-loop2 decreases-loop2 invariant-loop decreases-loop
+InRows = tie.In-loop-r invariant-loop2 decreases-loop2 invariant-loop decreases-loop
 
 abbrev start : AtElements → tie.Start invariant-loop2 decreases-loop2 invariant-loop decreases-loop
 start c = c.before.before.before.before.before.before
@@ -51,112 +51,112 @@ start_rows c = start c.before.before.before
 clear-requires : tie.Need-clear-requires invariant-loop2 decreases-loop2 invariant-loop decreases-loop
 clear-requires c κs = c.before.before.requires.1
 
-loop-holds : tie.Need-loop-init invariant-loop2 decreases-loop2 invariant-loop decreases-loop
+loop-holds : tie.Need-loop-element-init invariant-loop2 decreases-loop2 invariant-loop decreases-loop
 loop-holds c =
     (kept_none _ _, λ n O. coming_start (λ j h. (O.line j h).0) c.before.before.clear.ensures)
 
 -- ---- at an element
 
-element-copy-out-r : tie.Need-element-copy-out-r invariant-loop2 decreases-loop2 invariant-loop decreases-loop
-element-copy-out-r c = omega (arith, (start c.before).pre.0.1.low, c.loop-test.true)
+element-copy-out-r : tie.Need-bounds-head-element invariant-loop2 decreases-loop2 invariant-loop decreases-loop
+element-copy-out-r c = omega (arith, (start c.before).requires.0.1.low, c.loop-element-test.true)
 
-loop2-holds : tie.Need-loop2-init invariant-loop2 decreases-loop2 invariant-loop decreases-loop
+loop2-holds : tie.Need-loop-r-init invariant-loop2 decreases-loop2 invariant-loop decreases-loop
 loop2-holds c =
-    let l = c.before.before.loop in (
+    let l = c.before.before.loop-element in (
       kept_none _ _,
-      λ n O. along-start (l.invariant.1 n O) (O.chained.heads l.element (omega (arith, O.low, c.before.loop-test.true))),
+      λ n O. along-start (l.invariant.1 n O) (O.chained.heads l.element (omega (arith, O.low, c.before.loop-element-test.true))),
     )
 
 -- ---- a row
 
 -- r links to one of the rows
-row_is : (c : InRows) → (1 ≤ c.before.loop2.r) × (c.before.loop2.r ≤ (start_rows c.before).pre.0.0)
-    × ((start_rows c.before).pre.0.0 ≤ max_rows)
+row_is : (c : InRows) → (1 ≤ c.before.loop-r.r) × (c.before.loop-r.r ≤ (start_rows c.before).requires.0.0)
+    × ((start_rows c.before).requires.0.0 ≤ max_rows)
 row_is c =
-    let O = (start_rows c.before).pre.0 in
-    (omega (arith, c.loop2-test.true), link_row (c.before.loop2.invariant.1 O.0 O.1).link, O.1.few)
+    let O = (start_rows c.before).requires.0 in
+    (omega (arith, c.loop-r-test.true), link_row (c.before.loop-r.invariant.1 O.0 O.1).link, O.1.few)
 
 -- there is room for all slots
-room : (c : AtRows) → (start_rows c).args.slots ≤ length c.loop2.words
+room : (c : AtRows) → (start_rows c).args.slots ≤ length c.loop-r.words
 room c =
     let L = c.before.before.before in
     omega (
       arith,
       (start L).requires.1,
       L.before.before.before.clear.ensures.kept.long,
-      L.loop.invariant.0.long,
-      c.loop2.invariant.0.long,
+      L.loop-element.invariant.0.long,
+      c.loop-r.invariant.0.long,
     )
 
-sub-i : tie.Need-overflow-sub-i invariant-loop2 decreases-loop2 invariant-loop decreases-loop
+sub-i : tie.Need-overflow_sub-i invariant-loop2 decreases-loop2 invariant-loop decreases-loop
 sub-i c = (row_is c).0
 
-cast-i : tie.Need-overflow-cast-i invariant-loop2 decreases-loop2 invariant-loop decreases-loop
+cast-i : tie.Need-overflow_cast-i invariant-loop2 decreases-loop2 invariant-loop decreases-loop
 cast-i c = record { fits = omega (arith, row_is c) }
 
-slots-at-requires : tie.Need-slots-at-requires invariant-loop2 decreases-loop2 invariant-loop decreases-loop
+slots-at-requires : tie.Need-slots_at-requires invariant-loop2 decreases-loop2 invariant-loop decreases-loop
 slots-at-requires c κs = omega (arith, row_is c)
 
-place-row-requires : tie.Need-place-row-requires invariant-loop2 decreases-loop2 invariant-loop decreases-loop
+place-row-requires : tie.Need-place_row-requires invariant-loop2 decreases-loop2 invariant-loop decreases-loop
 place-row-requires c κs =
     let I = c.before.before in
     (omega (arith, row_is I), room I.before)
 
-abbrev rows_of : tie.After-slice-known3 invariant-loop2 decreases-loop2 invariant-loop decreases-loop → InRows
+abbrev rows_of : tie.After-slice_known-in-loop-r-1 invariant-loop2 decreases-loop2 invariant-loop decreases-loop → InRows
 rows_of c = c.before.before.before.before.before
 
-element-copy-out-r-2 : tie.Need-element-copy-out-r-2 invariant-loop2 decreases-loop2 invariant-loop decreases-loop
+element-copy-out-r-2 : tie.Need-bounds-next-i invariant-loop2 decreases-loop2 invariant-loop decreases-loop
 element-copy-out-r-2 c = omega (arith, row_is (rows_of c))
 
-loop2-less : tie.Need-loop2-smaller invariant-loop2 decreases-loop2 invariant-loop decreases-loop
+loop2-less : tie.Need-loop-r-smaller invariant-loop2 decreases-loop2 invariant-loop decreases-loop
 loop2-less c =
     let I = rows_of c.before in
     let r = row_is I in
-    let O = (start_rows I.before).pre.0.1 in
-    rest_less (O.chained.nexts (I.before.loop2.r - 1) (omega arith) (omega arith)) O.few r.0 (omega arith) r.1
+    let O = (start_rows I.before).requires.0.1 in
+    rest_less (O.chained.nexts (I.before.loop-r.r - 1) (omega arith) (omega arith)) O.few r.0 (omega arith) r.1
 
-loop2-again : tie.Need-loop2-preserved invariant-loop2 decreases-loop2 invariant-loop decreases-loop
+loop2-again : tie.Need-loop-r-preserved invariant-loop2 decreases-loop2 invariant-loop decreases-loop
 loop2-again c =
     let I = rows_of c.before in
-    let l = I.before.loop2 in
+    let l = I.before.loop-r in
     let d = c.before.before.before in
-    let P = rw d.before.before.slots_at.ensures at d.place-row.ensures in (
-      kept_trans l.inv.0 P.kept,
+    let P = rw d.before.before.slots_at.ensures at d.place_row.ensures in (
+      kept_trans l.invariant.0 P.kept,
       λ n O.
-          let A = l.inv.1 n O in
+          let A = l.invariant.1 n O in
           along-more O.few A (row_is I).0 refl
           (O.chained.nexts (l.r - 1) (omega arith) (omega (arith, row_is I, link_row A.link))) P,
     )
 
 -- ---- on to the next element
 
-add-element : tie.Need-overflow-add-element invariant-loop2 decreases-loop2 invariant-loop decreases-loop
-add-element c = omega (arith, c.before.before.before.loop-test.true)
+add-element : tie.Need-overflow_add-element invariant-loop2 decreases-loop2 invariant-loop decreases-loop
+add-element c = omega (arith, c.before.before.before.loop-element-test.true)
 
-loop-less : tie.Need-loop-smaller invariant-loop2 decreases-loop2 invariant-loop decreases-loop
-loop-less c = omega (arith, c.before.before.before.loop-test.true)
+loop-less : tie.Need-loop-element-smaller invariant-loop2 decreases-loop2 invariant-loop decreases-loop
+loop-less c = omega (arith, c.before.before.before.loop-element-test.true)
 
-loop-again : tie.Need-loop-preserved invariant-loop2 decreases-loop2 invariant-loop decreases-loop
+loop-again : tie.Need-loop-element-preserved invariant-loop2 decreases-loop2 invariant-loop decreases-loop
 loop-again c =
-    let l = c.before.loop2 in
-    (kept_trans c.before.before.before.before.loop.invariant.0 l.invariant.0, λ n O. along-end (l.invariant.1 n O) c.loop2-test.false)
+    let l = c.before.loop-r in
+    (kept_trans c.before.before.before.before.loop-element.invariant.0 l.invariant.0, λ n O. along-end (l.invariant.1 n O) c.loop-r-test.false)
 
 -- ---- the end
 
-kept : (c : AtElements) → Kept (start c).args.slots (start c).args.words.now c.loop.words
-kept c = kept_trans c.before.before.before.clear.ensures.kept c.loop.invariant.0
+kept : (c : AtElements) → Kept (start c).args.slots (start c).args.words-1.now c.loop-element.words
+kept c = kept_trans c.before.before.before.clear.ensures.kept c.loop-element.invariant.0
 
-same_length : tie.Need-same-length invariant-loop2 decreases-loop2 invariant-loop decreases-loop
+same_length : tie.Need-shape_of-words invariant-loop2 decreases-loop2 invariant-loop decreases-loop
 same_length c = (kept c.before).long
 
 returns : tie.Need-returns invariant-loop2 decreases-loop2 invariant-loop decreases-loop
 returns c n O =
     let S = start c.before in
-    coming-end (c.before.loop.invariant.1 n O) (λ j h. omega (arith, O.line j h, c.loop-test.false)) (kept c.before)
-    (omega (arith, S.pre.1, (kept c.before).long))
+    coming-end (c.before.loop-element.invariant.1 n O) (λ j h. omega (arith, O.line j h, c.loop-element-test.false)) (kept c.before)
+    (omega (arith, S.requires.1, (kept c.before).long))
 
-pub fill-plain-spec : {M : Type 1} → statement M
-fill-plain-spec =
+pub fill_plain_spec : {M : Type 1} → statement M
+fill_plain_spec =
     tie.close
     (tie.spec
     invariant-loop2

@@ -18,7 +18,7 @@ invariant-slots first second i load slots words₀ row left₀ s₀ words left s
 abbrev decreases-slots : tie.decreases-slots
 decreases-slots first second i load slots words₀ row left₀ s₀ words left s = slots - s
 
-shl-row : tie.Need-overflow-shl-row invariant-slots decreases-slots
+shl-row : tie.Need-overflow_shl-row invariant-slots decreases-slots
 shl-row c = omega arith
 
 slots-holds : tie.Need-slots-init invariant-slots decreases-slots
@@ -28,31 +28,31 @@ slots-holds c = placing-start
 room : (c : tie.In-slots invariant-slots decreases-slots) → c.before.slots.s < length c.before.slots.words
 room c = omega (arith, c.before.slots.invariant.kept.long, c.slots-test.true, c.before.before.before.requires.1)
 
-mul-is-free : tie.Need-overflow-mul-is-free invariant-slots decreases-slots
+mul-is-free : tie.Need-offset_bounds-words-s invariant-slots decreases-slots
 mul-is-free c = record { fits = omega (arith, room c.before) }
 
-slice-read-is-free : tie.Need-slice-read-is-free invariant-slots decreases-slots
+slice-read-is-free : tie.Need-bounds-words-s invariant-slots decreases-slots
 slice-read-is-free c = room c.before.before
 
-is-free-requires : tie.Need-is-free-requires invariant-slots decreases-slots
+is-free-requires : tie.Need-is_free-requires invariant-slots decreases-slots
 is-free-requires c κs = c.before.before.before.before.before.requires.0
 
-mul_words : tie.Need-overflow-mul-words invariant-slots decreases-slots
+mul_words : tie.Need-offset_bounds-words-s-then-is_free invariant-slots decreases-slots
 mul_words c = record { fits = omega (arith, room c.before.before.before.before) }
 
-slice-read-words : tie.Need-slice-read-words invariant-slots decreases-slots
+slice-read-words : tie.Need-bounds-words-s-then-is_free invariant-slots decreases-slots
 slice-read-words c = room c.before.before.before.before.before
 
-mul-words-2 : tie.Need-overflow-mul-words-2 invariant-slots decreases-slots
+mul-words-2 : tie.Need-offset_bounds-words-s-then-is_free-2 invariant-slots decreases-slots
 mul-words-2 c = record { fits = omega (arith, room c.before.before.before.before.before) }
 
-slice-write-words : tie.Need-slice-write-words invariant-slots decreases-slots
+slice-write-words : tie.Need-bounds-words-s-then-is_free-2 invariant-slots decreases-slots
 slice-write-words c = room c.before.before.before.before.before
 
-sub-left : tie.Need-overflow-sub-left invariant-slots decreases-slots
-sub-left c = omega (arith, c.before.before.before.before.if1.false)
+sub-left : tie.Need-overflow_sub-left invariant-slots decreases-slots
+sub-left c = omega (arith, c.before.before.before.before.if-left-eq0.false)
 
-add-s : tie.Need-overflow-add-s invariant-slots decreases-slots
+add-s : tie.Need-overflow_add-s invariant-slots decreases-slots
 add-s c = omega (arith, c.before.before.before.before.slots-test.true)
 
 slots-less : tie.Need-slots-smaller invariant-slots decreases-slots
@@ -69,25 +69,25 @@ slots-again c =
     (λ w.
     rw (w.2, w.3)
     (placing-take l.invariant I.slots-test.true
-    (omega (arith, l.invariant.kept.long, I.before.before.before.requires.1)) (opens ∙ w.0.taken) (omega (arith, e.if1.false))
+    (omega (arith, l.invariant.kept.long, I.before.before.before.requires.1)) (opens ∙ w.0.true) (omega (arith, e.if-left-eq0.false))
     (ap (bit_or (at l.words l.s)) (one_shl z.i I.before.before.before.requires.0))))
     (λ w. rw (w.1, w.2) (placing-skip l.invariant I.slots-test.true (opens ∙ w.0.left)))
-    c.if2.branch
+    c.if-is_free.branch
 
-same_length : tie.Need-same-length invariant-slots decreases-slots
+same_length : tie.Need-shape_of-words-after-slots invariant-slots decreases-slots
 same_length c = c.before.slots.invariant.kept.long
 
-returns : tie.Need-returns invariant-slots decreases-slots
+returns : tie.Need-returns-after-slots invariant-slots decreases-slots
 returns c = placing-end c.before.slots.invariant (inl c.slots-test.false)
 
-same-length-2 : tie.Need-same-length-2 invariant-slots decreases-slots
+same-length-2 : tie.Need-shape_of-words-then-left-eq0 invariant-slots decreases-slots
 same-length-2 c = c.before.before.slots.invariant.kept.long
 
-returns-2 : tie.Need-returns-2 invariant-slots decreases-slots
-returns-2 c = placing-end c.before.before.slots.invariant (inr c.if1.true)
+returns-2 : tie.Need-returns-then-left-eq0 invariant-slots decreases-slots
+returns-2 c = placing-end c.before.before.slots.invariant (inr c.if-left-eq0.true)
 
-pub place-row-spec : {M : Type 1} → statement M
-place-row-spec =
+pub place_row_spec : {M : Type 1} → statement M
+place_row_spec =
     tie.close
     (tie.spec
     invariant-slots

@@ -10,16 +10,16 @@ use Rattle.table.proofs.Faults.{mark_whole}
 use Rattle.table.proofs.marks.is_no_mark.Statement.{statement}
 use Rattle.table.proofs.marks.is_no_mark.Tie as tie
 
-returns : tie.Need-returns
-returns c = decides_yes ((λ e. c.if1.true (ap length e)), (λ e. c.if1.true (ap length e)))
+returns : tie.Need-returns-then-mark-ne3
+returns c = decides_yes ((λ e. c.if-mark-ne3.true (ap length e)), (λ e. c.if-mark-ne3.true (ap length e)))
 
-is-strange-requires : tie.Need-is-strange-requires
+is-strange-requires : tie.Need-is_strange-requires
 is-strange-requires c κs = search rules
 
-returns-2 : tie.Need-returns-2
+returns-2 : tie.Need-returns
 returns-2 c =
     let m = c.before.before.before.args.mark.now in
-    rw (mark_whole m c.before.if1.false) at c.is-strange.ensures
+    rw (mark_whole m c.before.if-mark-ne3.false) at c.is_strange.ensures
 
-pub is-no-mark-spec : {M : Type 1} → statement M
-is-no-mark-spec = tie.close (tie.spec returns is-strange-requires returns-2)
+pub is_no_mark_spec : {M : Type 1} → statement M
+is_no_mark_spec = tie.close (tie.spec returns is-strange-requires returns-2)

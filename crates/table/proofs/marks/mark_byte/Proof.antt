@@ -6,19 +6,19 @@ use Rattle.rules.specs.TableFile.{mark_of}
 use Rattle.table.proofs.marks.mark_byte.Statement.{statement}
 use Rattle.table.proofs.marks.mark_byte.Tie as tie
 
-array-read-result : tie.Need-array-read-result
+array-read-result : tie.Need-bounds-2
 array-read-result c = search rules
 
-array-read-result-2 : tie.Need-array-read-result-2
+array-read-result-2 : tie.Need-bounds-2-else-rings-eq-RINGS
 array-read-result-2 c = search rules
 
-returns : tie.Need-returns
+returns : tie.Need-returns-then-rings-eq-RINGS
 unfolding mark_of
-returns c = rw (eq-eqb c.before.args.rings max_rings c.if1.true)
+returns c = rw (eq-eqb c.before.args.rings max_rings c.if-rings-eq-RINGS.true)
 
-returns-2 : tie.Need-returns-2
+returns-2 : tie.Need-returns-else-rings-eq-RINGS
 unfolding mark_of
-returns-2 c = rw (ne_eqb c.before.args.rings max_rings c.if1.false)
+returns-2 c = rw (ne_eqb c.before.args.rings max_rings c.if-rings-eq-RINGS.false)
 
-pub mark-byte-spec : {M : Type 1} → statement M
-mark-byte-spec = tie.close (tie.spec array-read-result array-read-result-2 returns returns-2)
+pub mark_byte_spec : {M : Type 1} → statement M
+mark_byte_spec = tie.close (tie.spec array-read-result array-read-result-2 returns returns-2)

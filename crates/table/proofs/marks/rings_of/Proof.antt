@@ -7,19 +7,19 @@ use Rattle.rules.specs.TableFile.{rings_of}
 use Rattle.table.proofs.marks.rings_of.Statement.{statement}
 use Rattle.table.proofs.marks.rings_of.Tie as tie
 
-shared-slice-read-if1 : tie.Need-shared-slice-read-if1
+shared-slice-read-if1 : tie.Need-bounds-file-2
 shared-slice-read-if1 c = search rules
 
-array-read-if1 : tie.Need-array-read-if1
+array-read-if1 : tie.Need-bounds-2
 array-read-if1 c = search rules
 
-returns : tie.Need-returns
+returns : tie.Need-returns-then-file
 unfolding rings_of
-returns c = rw (eq-eqb _ _ c.if1.true)
+returns c = rw (eq-eqb _ _ c.if-file.true)
 
-returns-2 : tie.Need-returns-2
+returns-2 : tie.Need-returns
 unfolding rings_of
-returns-2 c = rw (ne_eqb _ _ c.if1.false)
+returns-2 c = rw (ne_eqb _ _ c.if-file.false)
 
-pub rings-of-spec : {M : Type 1} → statement M
-rings-of-spec = tie.close (tie.spec shared-slice-read-if1 array-read-if1 returns returns-2)
+pub rings_of_spec : {M : Type 1} → statement M
+rings_of_spec = tie.close (tie.spec shared-slice-read-if1 array-read-if1 returns returns-2)

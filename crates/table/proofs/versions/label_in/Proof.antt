@@ -5,13 +5,13 @@ use Rattle.rules.specs.TableFile.{label_in}
 use Rattle.table.proofs.versions.label_in.Statement.{statement}
 use Rattle.table.proofs.versions.label_in.Tie as tie
 
-returns : tie.Need-returns
+returns : tie.Need-returns-then-rings-eq-RINGS
 unfolding label_in
-returns c = rw (eq-eqb c.before.args.rings max_rings c.if1.true)
+returns c = rw (eq-eqb c.before.args.rings max_rings c.if-rings-eq-RINGS.true)
 
-returns-2 : tie.Need-returns-2
+returns-2 : tie.Need-returns-else-rings-eq-RINGS
 unfolding label_in
-returns-2 c = rw (ne_eqb c.before.args.rings max_rings c.if1.false)
+returns-2 c = rw (ne_eqb c.before.args.rings max_rings c.if-rings-eq-RINGS.false)
 
-pub label-in-spec : {M : Type 1} → statement M
-label-in-spec = tie.close (tie.spec returns returns-2)
+pub label_in_spec : {M : Type 1} → statement M
+label_in_spec = tie.close (tie.spec returns returns-2)

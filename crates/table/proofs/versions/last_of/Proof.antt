@@ -5,13 +5,13 @@ use Rattle.rules.specs.TableFile.{last_of}
 use Rattle.table.proofs.versions.last_of.Statement.{statement}
 use Rattle.table.proofs.versions.last_of.Tie as tie
 
-returns : tie.Need-returns
+returns : tie.Need-returns-then-rings-eq-RINGS
 unfolding last_of
-returns c = rw (eq-eqb c.before.args.rings max_rings c.if1.true)
+returns c = rw (eq-eqb c.before.args.rings max_rings c.if-rings-eq-RINGS.true)
 
-returns-2 : tie.Need-returns-2
+returns-2 : tie.Need-returns-else-rings-eq-RINGS
 unfolding last_of
-returns-2 c = rw (ne_eqb c.before.args.rings max_rings c.if1.false)
+returns-2 c = rw (ne_eqb c.before.args.rings max_rings c.if-rings-eq-RINGS.false)
 
-pub last-of-spec : {M : Type 1} → statement M
-last-of-spec = tie.close (tie.spec returns returns-2)
+pub last_of_spec : {M : Type 1} → statement M
+last_of_spec = tie.close (tie.spec returns returns-2)

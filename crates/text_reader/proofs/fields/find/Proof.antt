@@ -8,34 +8,34 @@ use Rattle.text_reader.proofs.Parts.{Going, going_start, going_on, going-stops, 
 use Rattle.text_reader.proofs.fields.find.Statement.{statement}
 use Rattle.text_reader.proofs.fields.find.Tie as tie
 
-abbrev invariant-loop : tie.invariant-loop
+abbrev invariant-loop : tie.invariant-loop-i
 invariant-loop bytes sign i₀ i = Going (is_sign sign) bytes 0 i
 
-abbrev decreases-loop : tie.decreases-loop
+abbrev decreases-loop : tie.decreases-loop-i
 decreases-loop bytes sign i₀ i = length bytes - i
 
-loop-holds : tie.Need-loop-init invariant-loop decreases-loop
+loop-holds : tie.Need-loop-i-init invariant-loop decreases-loop
 loop-holds c = going_start (omega arith)
 
-shared-slice-read-if1 : tie.Need-shared-slice-read-if1 invariant-loop decreases-loop
+shared-slice-read-if1 : tie.Need-bounds-bytes-i invariant-loop decreases-loop
 shared-slice-read-if1 c = omega arith
 
-returns : tie.Need-returns invariant-loop decreases-loop
+returns : tie.Need-returns-then-bytes-i invariant-loop decreases-loop
 returns c =
-    let z = c.before.before.before.loop in
-    (omega (arith, going-stops z.invariant (omega arith) (eq-eqb _ _ c.if1.true)), z.invariant.inside)
+    let z = c.before.before.before.loop-i in
+    (omega (arith, going-stops z.invariant (omega arith) (eq-eqb _ _ c.if-bytes-i.true)), z.invariant.inside)
 
-add-i : tie.Need-overflow-add-i invariant-loop decreases-loop
+add-i : tie.Need-overflow_add-i invariant-loop decreases-loop
 add-i c = omega arith
 
-loop-less : tie.Need-loop-smaller invariant-loop decreases-loop
+loop-less : tie.Need-loop-i-smaller invariant-loop decreases-loop
 loop-less c = omega arith
 
-loop-again : tie.Need-loop-preserved invariant-loop decreases-loop
-loop-again c = going_on c.before.before.before.loop.invariant (omega arith) (ne_eqb _ _ c.if1.false)
+loop-again : tie.Need-loop-i-preserved invariant-loop decreases-loop
+loop-again c = going_on c.before.before.before.loop-i.invariant (omega arith) (ne_eqb _ _ c.if-bytes-i.false)
 
-returns-2 : tie.Need-returns-2 invariant-loop decreases-loop
-returns-2 c = (omega (arith, going-ends c.before.loop.invariant (omega arith)), c.before.loop.invariant.inside)
+returns-2 : tie.Need-returns invariant-loop decreases-loop
+returns-2 c = (omega (arith, going-ends c.before.loop-i.invariant (omega arith)), c.before.loop-i.invariant.inside)
 
 pub find_spec : {M : Type 1} → statement M
 find_spec =

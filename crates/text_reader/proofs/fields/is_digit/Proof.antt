@@ -5,10 +5,10 @@ use Rattle.numbers.proofs.Truth.{decides_no}
 use Rattle.text_reader.proofs.fields.is_digit.Statement.{statement}
 use Rattle.text_reader.proofs.fields.is_digit.Tie as tie
 
-returns : tie.Need-returns
+returns : tie.Need-returns-then-b-lt48
 returns c = decides_no (λ w. let z : ⊥ = omega arith in z)
 
-returns-2 : tie.Need-returns-2
+returns-2 : tie.Need-returns
 returns-2 c =
     let b = c.before.args.b in
     record {
@@ -16,5 +16,5 @@ returns-2 c =
       fails = λ e w. let z : ⊥ = omega (arith, leb-false b 57 e, w.1) in z;
     }
 
-pub is-digit-spec : {M : Type 1} → statement M
-is-digit-spec = tie.close (tie.spec returns returns-2)
+pub is_digit_spec : {M : Type 1} → statement M
+is_digit_spec = tie.close (tie.spec returns returns-2)

@@ -10,37 +10,37 @@ use Rattle.text_reader.proofs.TextLines.{is-line}
 use Rattle.text_reader.proofs.fields.line_at.Statement.{statement}
 use Rattle.text_reader.proofs.fields.line_at.Tie as tie
 
-sub-find : tie.Need-overflow-sub-find
+sub-find : tie.Need-slice_bounds-find-count
 sub-find c = search rules
 
-part-find-start : tie.Need-slice-bounds-find-start
+part-find-start : tie.Need-slice_bounds-find-start
 part-find-start c = search rules
 
-part-find-end : tie.Need-slice-bounds-find-end
+part-find-end : tie.Need-slice_bounds-find-end
 part-find-end c = search rules
 
 find-requires : tie.Need-find-requires
 find-requires c κs = search rules
 
-add-end : tie.Need-overflow-add-end
+add-end : tie.Need-overflow_add-end
 add-end c = search rules
 
-sub-find-2 : tie.Need-overflow-sub-find-2
+sub-find-2 : tie.Need-slice_bounds-find-count-2
 sub-find-2 c = search rules
 
-part-find-start-2 : tie.Need-slice-bounds-find-start-2
+part-find-start-2 : tie.Need-slice_bounds-find-start-2
 part-find-start-2 c = search rules
 
-part-find-end-2 : tie.Need-slice-bounds-find-end-2
+part-find-end-2 : tie.Need-slice_bounds-find-end-2
 part-find-end-2 c = search rules
 
 find-requires-2 : tie.Need-find-requires-2
 find-requires-2 c κs = search rules
 
-add-t12 : tie.Need-overflow-add-t12
+add-t12 : tie.Need-overflow_add-result
 add-t12 c = search rules
 
-add-t13 : tie.Need-overflow-add-t13
+add-t13 : tie.Need-overflow_add-result-2
 add-t13 c = search rules
 
 returns : tie.Need-returns
@@ -52,11 +52,11 @@ returns c =
     let rest : take (length t - k) (drop k t) ≡ drop k t = take_all (length t - k) (drop k t) (omega (arith, length-drop k t)) in
     let n = f.find.result in
     let e : k + n - k ≡ n = omega arith in
-    is-line t k n c.find2.result z.requires (f.find.ensures.0 ∙ ap (until is_newline) rest)
-    (c.find2.ensures.0 ∙ ap (λ (j : ℕ). until is_hash (take j (drop k t))) e)
+    is-line t k n c.find-2.result z.requires (f.find.ensures.0 ∙ ap (until is_newline) rest)
+    (c.find-2.ensures.0 ∙ ap (λ (j : ℕ). until is_hash (take j (drop k t))) e)
 
-pub line-at-spec : {M : Type 1} → statement M
-line-at-spec =
+pub line_at_spec : {M : Type 1} → statement M
+line_at_spec =
     tie.close
     (tie.spec
     sub-find

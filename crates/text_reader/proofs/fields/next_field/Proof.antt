@@ -4,16 +4,16 @@ use Rattle.text_reader.proofs.LineFields.{is-next}
 use Rattle.text_reader.proofs.fields.next_field.Statement.{statement}
 use Rattle.text_reader.proofs.fields.next_field.Tie as tie
 
-stop-requires : tie.Need-stop-requires
+stop-requires : tie.Need-stop-start-requires
 stop-requires c κs = search rules
 
-stop-requires-2 : tie.Need-stop-requires-2
+stop-requires-2 : tie.Need-stop-requires
 stop-requires-2 c κs = search rules
 
 returns : tie.Need-returns
 returns c =
     let z = c.before in
-    λ from. is-next from _ _ _ z.before.before.requires z.stop.ensures.0 c.stop2.ensures.0
+    λ from. is-next from _ _ _ z.before.before.requires z.stop-start.ensures.0 c.stop.ensures.0
 
-pub next-field-spec : {M : Type 1} → statement M
-next-field-spec = tie.close (tie.spec stop-requires stop-requires-2 returns)
+pub next_field_spec : {M : Type 1} → statement M
+next_field_spec = tie.close (tie.spec stop-requires stop-requires-2 returns)

@@ -9,58 +9,58 @@ use Rattle.text_reader.proofs.TextLines.{line-skipped, line-found, line_none}
 use Rattle.text_reader.proofs.fields.next_line.Statement.{statement}
 use Rattle.text_reader.proofs.fields.next_line.Tie as tie
 
-abbrev invariant-loop : tie.invariant-loop
+abbrev invariant-loop : tie.invariant-loop-at
 invariant-loop text from at₀ at = (at ≤ length text + 1) × (lines_at text from ≡ lines_at text at)
 
-abbrev decreases-loop : tie.decreases-loop
+abbrev decreases-loop : tie.decreases-loop-at
 decreases-loop text from at₀ at = length text + 1 - at
 
-loop-holds : tie.Need-loop-init invariant-loop decreases-loop
+loop-holds : tie.Need-loop-at-init invariant-loop decreases-loop
 loop-holds c = (c.before.requires, refl)
 
-line-at-requires : tie.Need-line-at-requires invariant-loop decreases-loop
+line-at-requires : tie.Need-line_at-line-requires invariant-loop decreases-loop
 line-at-requires c κs = search rules
 
-sub-next-field : tie.Need-overflow-sub-next-field invariant-loop decreases-loop
+sub-next-field : tie.Need-slice_bounds-next_field-count invariant-loop decreases-loop
 sub-next-field c = omega (arith, c.line_at_lem.ensures.ordered)
 
-part-next-field-start : tie.Need-slice-bounds-next-field-start invariant-loop decreases-loop
+part-next-field-start : tie.Need-slice_bounds-next_field-start invariant-loop decreases-loop
 part-next-field-start c = omega (arith, c.line_at_lem.ensures.ordered)
 
-part-next-field-end : tie.Need-slice-bounds-next-field-end invariant-loop decreases-loop
+part-next-field-end : tie.Need-slice_bounds-next_field-end invariant-loop decreases-loop
 part-next-field-end c = let l = c.line_at_lem.ensures in omega (arith, l.high, l.past)
 
-next-field-requires : tie.Need-next-field-requires invariant-loop decreases-loop
+next-field-requires : tie.Need-next_field-first-requires invariant-loop decreases-loop
 next-field-requires c κs = omega arith
 
-returns : tie.Need-returns invariant-loop decreases-loop
+returns : tie.Need-returns-then-first invariant-loop decreases-loop
 returns c =
     let n = c.before.before in
     let l = n.before.before in
-    line-found l.line_at_lem.ensures (n.next_field.ensures l.line_at_lem.result.start) _ c.if1.true
-    l.before.before.loop.invariant.1
+    line-found l.line_at_lem.ensures (n.next_field-first.ensures l.line_at_lem.result.start) _ c.if-first.true
+    l.before.before.loop-at.invariant.1
 
-loop-less : tie.Need-loop-smaller invariant-loop decreases-loop
+loop-less : tie.Need-loop-at-smaller invariant-loop decreases-loop
 loop-less c =
     let l = c.before.before.before.before.line_at_lem.ensures in
     omega (arith, l.start, l.ordered, l.high, l.past)
 
-loop-again : tie.Need-loop-preserved invariant-loop decreases-loop
+loop-again : tie.Need-loop-at-preserved invariant-loop decreases-loop
 loop-again c =
     let n = c.before.before in
     let l = n.before.before in (
       l.line_at_lem.ensures.past,
-      line-skipped l.line_at_lem.ensures (n.next_field.ensures l.line_at_lem.result.start) _ c.if1.false
-          l.before.before.loop.invariant.1,
+      line-skipped l.line_at_lem.ensures (n.next_field-first.ensures l.line_at_lem.result.start) _ c.if-first.false
+          l.before.before.loop-at.invariant.1,
     )
 
-returns-2 : tie.Need-returns-2 invariant-loop decreases-loop
+returns-2 : tie.Need-returns invariant-loop decreases-loop
 returns-2 c =
-    let u = c.before.loop in
+    let u = c.before.loop-at in
     line_none _ _ u.at u.invariant.1 (omega arith) u.invariant.0
 
-pub next-line-spec : {M : Type 1} → statement M
-next-line-spec =
+pub next_line_spec : {M : Type 1} → statement M
+next_line_spec =
     tie.close
     (tie.spec
     invariant-loop

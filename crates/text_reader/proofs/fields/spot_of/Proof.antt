@@ -11,51 +11,51 @@ use Rattle.text_reader.proofs.Spots.{spot_at, spot-next, spot-low, is_spot}
 use Rattle.text_reader.proofs.fields.spot_of.Statement.{statement}
 use Rattle.text_reader.proofs.fields.spot_of.Tie as tie
 
-abbrev invariant-loop : tie.invariant-loop
+abbrev invariant-loop : tie.invariant-loop-i
 invariant-loop text place end at₀ i₀ at i = (i ≤ end) × (at ≡ spot_at text i)
 
-abbrev decreases-loop : tie.decreases-loop
+abbrev decreases-loop : tie.decreases-loop-i
 decreases-loop text place end at₀ i₀ at i = end - i
 
-least-requires : tie.Need-least-requires invariant-loop decreases-loop
+least-requires : tie.Need-least-end-requires invariant-loop decreases-loop
 least-requires c κs = search rules
 
-loop-holds : tie.Need-loop-init invariant-loop decreases-loop
+loop-holds : tie.Need-loop-i-init invariant-loop decreases-loop
 unfolding sum lowest
 loop-holds c = (omega arith, refl)
 
-shared-slice-read-step : tie.Need-shared-slice-read-step invariant-loop decreases-loop
-shared-slice-read-step c = omega (arith, c.before.before.before.least.ensures)
+shared-slice-read-step : tie.Need-bounds-text-i invariant-loop decreases-loop
+shared-slice-read-step c = omega (arith, c.before.before.before.least-end.ensures)
 
-step-requires : tie.Need-step-requires invariant-loop decreases-loop
+step-requires : tie.Need-step-at-requires invariant-loop decreases-loop
 step-requires c κs =
     let u = c.before.before in
     let text = u.before.before.before.args.text.now in
-    let low = spot-low text u.loop.i in
-    let e = u.loop.invariant.1 in
-    let l = u.before.least.ensures in
+    let low = spot-low text u.loop-i.i in
+    let e = u.loop-i.invariant.1 in
+    let l = u.before.least-end.ensures in
     (omega (arith, ap (λ (s : Spot). s.line) e, low.0, l), omega (arith, ap (λ (s : Spot). s.column) e, low.1, l))
 
-add-i : tie.Need-overflow-add-i invariant-loop decreases-loop
+add-i : tie.Need-overflow_add-i invariant-loop decreases-loop
 add-i c = omega arith
 
-loop-less : tie.Need-loop-smaller invariant-loop decreases-loop
+loop-less : tie.Need-loop-i-smaller invariant-loop decreases-loop
 loop-less c = omega arith
 
-loop-again : tie.Need-loop-preserved invariant-loop decreases-loop
+loop-again : tie.Need-loop-i-preserved invariant-loop decreases-loop
 loop-again c =
     let u = c.before.before.before in
     let text = u.before.before.before.args.text.now in
-    let i = u.loop.i in
-    (omega arith, c.step.ensures ∙ ap (λ (s : Spot). stepped s (byte text i)) u.loop.invariant.1 ∙ spot-next text i)
+    let i = u.loop-i.i in
+    (omega arith, c.step-at.ensures ∙ ap (λ (s : Spot). stepped s (byte text i)) u.loop-i.invariant.1 ∙ spot-next text i)
 
 returns : tie.Need-returns invariant-loop decreases-loop
 returns c =
     let u = c.before in
-    is_spot _ _ u.loop.i _ (omega (arith, u.before.least.ensures)) u.loop.invariant.1
+    is_spot _ _ u.loop-i.i _ (omega (arith, u.before.least-end.ensures)) u.loop-i.invariant.1
 
-pub spot-of-spec : {M : Type 1} → statement M
-spot-of-spec =
+pub spot_of_spec : {M : Type 1} → statement M
+spot_of_spec =
     tie.close
     (tie.spec
     invariant-loop

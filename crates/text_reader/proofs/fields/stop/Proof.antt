@@ -9,41 +9,41 @@ use Rattle.text_reader.proofs.Parts.{Going, going_start, going_on, going-stops, 
 use Rattle.text_reader.proofs.fields.stop.Statement.{statement}
 use Rattle.text_reader.proofs.fields.stop.Tie as tie
 
-abbrev invariant-loop : tie.invariant-loop
+abbrev invariant-loop : tie.invariant-loop-i
 invariant-loop line at blank i₀ i = Going (blank_is blank) line at i
 
-abbrev decreases-loop : tie.decreases-loop
+abbrev decreases-loop : tie.decreases-loop-i
 decreases-loop line at blank i₀ i = length line - i
 
-loop-holds : tie.Need-loop-init invariant-loop decreases-loop
+loop-holds : tie.Need-loop-i-init invariant-loop decreases-loop
 loop-holds c = going_start (omega arith)
 
-shared-slice-read-is-stop : tie.Need-shared-slice-read-is-stop invariant-loop decreases-loop
+shared-slice-read-is-stop : tie.Need-bounds-line-i invariant-loop decreases-loop
 shared-slice-read-is-stop c = omega arith
 
-is-stop-requires : tie.Need-is-stop-requires invariant-loop decreases-loop
+is-stop-requires : tie.Need-is_stop-requires invariant-loop decreases-loop
 is-stop-requires c κs = search rules
 
-returns : tie.Need-returns invariant-loop decreases-loop
+returns : tie.Need-returns-then-is_stop invariant-loop decreases-loop
 returns c =
-    let z = c.before.before.before.before.loop in
-    (going-stops z.invariant (omega arith) (sym c.before.is_stop.ensures ∙ c.if1.true), z.invariant.inside)
+    let z = c.before.before.before.before.loop-i in
+    (going-stops z.invariant (omega arith) (sym c.before.is_stop.ensures ∙ c.if-is_stop.true), z.invariant.inside)
 
-add-i : tie.Need-overflow-add-i invariant-loop decreases-loop
+add-i : tie.Need-overflow_add-i invariant-loop decreases-loop
 add-i c = omega arith
 
-loop-less : tie.Need-loop-smaller invariant-loop decreases-loop
+loop-less : tie.Need-loop-i-smaller invariant-loop decreases-loop
 loop-less c = omega arith
 
-loop-again : tie.Need-loop-preserved invariant-loop decreases-loop
+loop-again : tie.Need-loop-i-preserved invariant-loop decreases-loop
 loop-again c =
-    going_on c.before.before.before.before.loop.invariant (omega arith) (sym c.before.is_stop.ensures ∙ c.if1.false)
+    going_on c.before.before.before.before.loop-i.invariant (omega arith) (sym c.before.is_stop.ensures ∙ c.if-is_stop.false)
 
-returns-2 : tie.Need-returns-2 invariant-loop decreases-loop
-returns-2 c = (going-ends c.before.loop.invariant (omega arith), c.before.loop.invariant.inside)
+returns-2 : tie.Need-returns invariant-loop decreases-loop
+returns-2 c = (going-ends c.before.loop-i.invariant (omega arith), c.before.loop-i.invariant.inside)
 
-pub stop-spec : {M : Type 1} → statement M
-stop-spec =
+pub stop_spec : {M : Type 1} → statement M
+stop_spec =
     tie.close
     (tie.spec
     invariant-loop

@@ -17,24 +17,24 @@ use Rattle.time.proofs.Time.next_end.Tie as tie
 even : {t : Table} {c : Time} {k s : ℕ} → Timed t c → Begins t k s → c.count ≡ 1 → s + c.interval ≡ end t k
 even {t} {c} {k} T B e = ap₂ ◌+◌ B.here T.interval ∙ even-end T.sound (at c.period) (rw e at (leading-is T.leads)) k
 
-add-result : tie.Need-overflow-add-result
+add-result : tie.Need-overflow_add-result
 add-result c =
     let z = c.before in
     let k = z.requires.1 in
     let T = z.requires.2 in
     let B = z.requires.3 in
-    record { fits = omega (arith, T.short, even T B c.if1.true, end-le T.sound k B.in_range) }
+    record { fits = omega (arith, T.short, even T B c.if-self-eq1.true, end-le T.sound k B.in_range) }
 
-returns : tie.Need-returns
-returns c t k T B = even T B c.if1.true
+returns : tie.Need-returns-then-self-eq1
+returns c t k T B = even T B c.if-self-eq1.true
 
-multiple-past-requires : tie.Need-multiple-past-requires
+multiple-past-requires : tie.Need-multiple_past-requires
 multiple-past-requires c κs =
     let z = c.before.before.before in
     past_fits z.requires.2 z.requires.3
 
-returns-2 : tie.Need-returns-2
-returns-2 c t k T B = past_is T B c.multiple-past.ensures
+returns-2 : tie.Need-returns
+returns-2 c t k T B = past_is T B c.multiple_past.ensures
 
-pub next-end-spec : {M : Type 1} → statement M
-next-end-spec = tie.close (tie.spec add-result returns multiple-past-requires returns-2)
+pub next_end_spec : {M : Type 1} → statement M
+next_end_spec = tie.close (tie.spec add-result returns multiple-past-requires returns-2)

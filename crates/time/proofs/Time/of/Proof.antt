@@ -12,130 +12,130 @@ use Rattle.time.proofs.Periods.{Clocking, clocking-start, clocking-again, clocki
 use Rattle.time.proofs.Time.of.Statement.{statement}
 use Rattle.time.proofs.Time.of.Tie as tie
 
-abbrev invariant-loop : tie.invariant-loop
+abbrev invariant-loop : tie.invariant-loop-i
 invariant-loop rows period met₀ kept₀ count₀ h₀ i₀ met kept count h i = Clocking rows (at period) i h count kept met
 
-abbrev decreases-loop : tie.decreases-loop
+abbrev decreases-loop : tie.decreases-loop-i
 decreases-loop rows period met₀ kept₀ count₀ h₀ i₀ met kept count h i = rows - i
 
 -- the way back to the loop's head, from where a period has been looked for, and from where it is new
-abbrev head : tie.After-slots-at2 invariant-loop decreases-loop → tie.At-loop invariant-loop decreases-loop
+abbrev head : tie.After-slots_at invariant-loop decreases-loop → tie.At-loop-i invariant-loop decreases-loop
 head s = s.before.before.before.before.before
 
-abbrev fresh : tie.After-raised invariant-loop decreases-loop → tie.After-slots-at2 invariant-loop decreases-loop
+abbrev fresh : tie.After-raised-h invariant-loop decreases-loop → tie.After-slots_at invariant-loop decreases-loop
 fresh r = r.before.before.before
 
-loop-holds : tie.Need-loop-init invariant-loop decreases-loop
+loop-holds : tie.Need-loop-i-init invariant-loop decreases-loop
 loop-holds c = clocking-start c.requires
 
-slots-at-requires : tie.Need-slots-at-requires invariant-loop decreases-loop
+slots-at-requires : tie.Need-slots_at-next-requires invariant-loop decreases-loop
 slots-at-requires c κs = omega (arith, c.before.before.requires.few)
 
-place-of-requires : tie.Need-place-of-requires invariant-loop decreases-loop
+place-of-requires : tie.Need-place_of-place-requires invariant-loop decreases-loop
 place-of-requires c κs =
     let u = c.before.before in
-    omega (arith, c.slots_at.ensures, u.before.requires.high u.loop.i (omega arith))
+    omega (arith, c.slots_at-next.ensures, u.before.requires.high u.loop-i.i (omega arith))
 
-slots-at-requires-2 : tie.Need-slots-at-requires-2 invariant-loop decreases-loop
-slots-at-requires-2 c κs = c.before.place_of.ensures
+slots-at-requires-2 : tie.Need-slots_at-requires invariant-loop decreases-loop
+slots-at-requires-2 c κs = c.before.place_of-place.ensures
 
-mul-met : tie.Need-overflow-mul-met invariant-loop decreases-loop
-mul-met c = omega (arith, (head c.before).before.pre.few)
+mul-met : tie.Need-offset_bounds-period-i invariant-loop decreases-loop
+mul-met c = omega (arith, (head c.before).before.requires.few)
 
-element-copy-out-met : tie.Need-element-copy-out-met invariant-loop decreases-loop
-element-copy-out-met c = omega (arith, (head c.before).before.pre.few)
+element-copy-out-met : tie.Need-bounds-period-i invariant-loop decreases-loop
+element-copy-out-met c = omega (arith, (head c.before).before.requires.few)
 
-mul-met-2 : tie.Need-overflow-mul-met-2 invariant-loop decreases-loop
-mul-met-2 c = omega (arith, c.before.before.before.before.place_of.ensures)
+mul-met-2 : tie.Need-offset_bounds-met-place invariant-loop decreases-loop
+mul-met-2 c = omega (arith, c.before.before.before.before.place_of-place.ensures)
 
-array-write-met : tie.Need-array-write-met invariant-loop decreases-loop
-array-write-met c = c.before.before.before.before.place_of.ensures
+array-write-met : tie.Need-bounds-met-place invariant-loop decreases-loop
+array-write-met c = c.before.before.before.before.place_of-place.ensures
 
-raised-requires : tie.Need-raised-requires invariant-loop decreases-loop
+raised-requires : tie.Need-raised-h-requires invariant-loop decreases-loop
 raised-requires c κs =
     let s = c.before.before in
     let u = head s in
-    let P = u.before.pre in
-    let R = u.loop.inv.rising in
-    let e = s.before.before.before.slots_at.ensures in
-    (R.low, R.high, omega (arith, e, P.low u.loop.i (omega arith)), omega (arith, e, P.high u.loop.i (omega arith)))
+    let P = u.before.requires in
+    let R = u.loop-i.invariant.rising in
+    let e = s.before.before.before.slots_at-next.ensures in
+    (R.low, R.high, omega (arith, e, P.low u.loop-i.i (omega arith)), omega (arith, e, P.high u.loop-i.i (omega arith)))
 
 none-requires : tie.Need-none-requires invariant-loop decreases-loop
 none-requires c κs = search rules
 
-returns : tie.Need-returns invariant-loop decreases-loop
+returns : tie.Need-returns-then-h invariant-loop decreases-loop
 returns c =
     let r = c.before.before in
     let s = fresh r in
     let u = head s in
     rw c.none.ensures
     (clocks_none
-    (rising-over u.before.pre u.loop.inv.rising (omega arith)
-    (rw s.before.before.before.slots_at.ensures at r.raised.ensures) c.before.if2.true))
+    (rising-over u.before.requires u.loop-i.invariant.rising (omega arith)
+    (rw s.before.before.before.slots_at-next.ensures at r.raised-h.ensures) c.before.if-h.true))
 
-is-leading-requires : tie.Need-is-leading-requires invariant-loop decreases-loop
+is-leading-requires : tie.Need-is_leading-requires invariant-loop decreases-loop
 is-leading-requires c κs =
     let u = head (fresh c.before.before) in
-    let P = u.before.pre in
-    let K = u.loop.inv.keeping in
+    let P = u.before.requires in
+    let K = u.loop-i.invariant.keeping in
     (keeping-room P K, keeping-low P K)
 
-mul-kept : tie.Need-overflow-mul-kept invariant-loop decreases-loop
-mul-kept c = omega (arith, (head (fresh c.before.before.before.before)).before.pre.few)
+mul-kept : tie.Need-offset_bounds-period-i-then-is_leading invariant-loop decreases-loop
+mul-kept c = omega (arith, (head (fresh c.before.before.before.before)).before.requires.few)
 
-element-copy-out-kept : tie.Need-element-copy-out-kept invariant-loop decreases-loop
-element-copy-out-kept c = omega (arith, (head (fresh c.before.before.before.before)).before.pre.few)
+element-copy-out-kept : tie.Need-bounds-period-i-then-is_leading invariant-loop decreases-loop
+element-copy-out-kept c = omega (arith, (head (fresh c.before.before.before.before)).before.requires.few)
 
-mul-kept-2 : tie.Need-overflow-mul-kept-2 invariant-loop decreases-loop
+mul-kept-2 : tie.Need-offset_bounds-kept-count invariant-loop decreases-loop
 mul-kept-2 c =
     let u = head (fresh c.before.before.before.before.before) in
-    omega (arith, keeping-room u.before.pre u.loop.inv.keeping)
+    omega (arith, keeping-room u.before.requires u.loop-i.invariant.keeping)
 
-array-write-kept : tie.Need-array-write-kept invariant-loop decreases-loop
+array-write-kept : tie.Need-bounds-kept-count invariant-loop decreases-loop
 array-write-kept c =
     let u = head (fresh c.before.before.before.before.before) in
-    keeping-space u.before.pre u.loop.inv.keeping (omega arith)
+    keeping-space u.before.requires u.loop-i.invariant.keeping (omega arith)
 
-add-count : tie.Need-overflow-add-count invariant-loop decreases-loop
+add-count : tie.Need-overflow_add-count invariant-loop decreases-loop
 add-count c =
     let u = head (fresh c.before.before.before.before.before) in
-    omega (arith, keeping-room u.before.pre u.loop.inv.keeping)
+    omega (arith, keeping-room u.before.requires u.loop-i.invariant.keeping)
 
-add-i : tie.Need-overflow-add-i invariant-loop decreases-loop
-add-i c = omega (arith, (head c.before).before.pre.few)
+add-i : tie.Need-overflow_add-i invariant-loop decreases-loop
+add-i c = omega (arith, (head c.before).before.requires.few)
 
-loop-less : tie.Need-loop-smaller invariant-loop decreases-loop
+loop-less : tie.Need-loop-i-smaller invariant-loop decreases-loop
 loop-less c = omega arith
 
-loop-again : tie.Need-loop-preserved invariant-loop decreases-loop
+loop-again : tie.Need-loop-i-preserved invariant-loop decreases-loop
 loop-again c =
     let s = c.before in
     let u = head s in
-    let P = u.before.pre in
-    let C = u.loop.inv in
-    let e = s.before.before.before.slots_at.ensures in
+    let P = u.before.requires in
+    let C = u.loop-i.invariant in
+    let e = s.before.before.before.slots_at-next.ensures in
     let place = s.before.before.place_of in
     ⊎_elim
     (λ w. rw (w.8, w.9, w.10, w.11)
     (clocking-new P C (omega arith) place.result place.ensures (rw e at w.2.ensures) w.3.left
-    (not-true _ (sym (rw e at w.5.ensures) ∙ w.6.taken))))
+    (not-true _ (sym (rw e at w.5.ensures) ∙ w.6.true))))
     (⊎_elim
     (λ w. rw (w.7, w.8, w.9, w.10)
     (clocking-kept P C (omega arith) place.result place.ensures (rw e at w.2.ensures) w.3.left
     (not-false _ (sym (rw e at w.5.ensures) ∙ w.6.left))))
     (λ w. rw (w.1, w.2, w.3, w.4)
-    (clocking-again P C (omega arith) place.result (sym s.slots-at2.ensures ∙ w.0.left ∙ e))))
-    c.if1.branch
+    (clocking-again P C (omega arith) place.result (sym s.slots_at.ensures ∙ w.0.left ∙ e))))
+    c.if-slots_at-next.branch
 
-shortest-of-requires : tie.Need-shortest-of-requires invariant-loop decreases-loop
+shortest-of-requires : tie.Need-shortest_of-requires invariant-loop decreases-loop
 shortest-of-requires c κs =
     let u = c.before.before in
-    leading-periods (keeping_end u.loop.invariant.keeping c.before.loop-test.false) u.before.requires
+    leading-periods (keeping_end u.loop-i.invariant.keeping c.before.loop-i-test.false) u.before.requires
 
-returns-2 : tie.Need-returns-2 invariant-loop decreases-loop
+returns-2 : tie.Need-returns invariant-loop decreases-loop
 returns-2 c =
     let l = c.before.before in
-    clocks_end l.before.before.requires l.before.loop.invariant l.loop-test.false c.shortest-of.ensures
+    clocks_end l.before.before.requires l.before.loop-i.invariant l.loop-i-test.false c.shortest_of.ensures
 
 pub of_spec : {M : Type 1} → statement M
 of_spec =

@@ -21,38 +21,38 @@ module _ {t : Table} {c : Time} (T : Timed t c) (one : c.count ≡ 1) where
   here : (k : ℕ) → k * c.interval ≡ start t k
   here k = ap (λ (n : ℕ). k * n) T.interval ∙ even-start T.sound (at c.period) (rw one at (leading-is T.leads)) k
 
-walk-to-requires : tie.Need-walk-to-requires
+walk-to-requires : tie.Need-walk_to-requires
 walk-to-requires c κs = search rules
 
-returns : tie.Need-returns
-returns c = c.walk-to.ensures
+returns : tie.Need-returns-then-self-ne1
+returns c = c.walk_to.ensures
 
-div-if2 : tie.Need-nonzero-div-if2
+div-if2 : tie.Need-nonzero_div-self
 div-if2 c = let T = c.before.before.before.requires.1 in omega (arith, T.interval, shortest-positive T.sound)
 
-mul-result : tie.Need-overflow-mul-result
+mul-result : tie.Need-overflow_mul-result
 mul-result c =
     let z = c.before.before.before.before.before in
     let k = z.args.k in
     let T = z.requires.1 in
     let S = T.sound in
     let one : z.args.self.count ≡ 1 = omega arith in
-    let l : k < intervals z.requires.0 = rw (count T one) at c.before.if2.true in
+    let l : k < intervals z.requires.0 = rw (count T one) at c.before.if-k-self.true in
     record { fits = omega (arith, here T one k, start-strict S k _ l (le_refl _), start-last S, T.short) }
 
-returns-2 : tie.Need-returns-2
+returns-2 : tie.Need-returns-then-k-self
 returns-2 c t T =
     let z = c.before.before.before.before.before in
     let k = z.args.k in
     let one : z.args.self.count ≡ 1 = omega arith in
-    here T one k ∙ sym (start-in T.sound k (rw (count T one) at c.before.if2.true))
+    here T one k ∙ sym (start-in T.sound k (rw (count T one) at c.before.if-k-self.true))
 
-returns-3 : tie.Need-returns-3
+returns-3 : tie.Need-returns
 returns-3 c t T =
     let z = c.before.before.before.before in
     let one : z.args.self.count ≡ 1 = omega arith in
-    T.hyper ∙ sym (start-late T.sound z.args.k (rw (count T one) at c.if2.false))
+    T.hyper ∙ sym (start-late T.sound z.args.k (rw (count T one) at c.if-k-self.false))
 
-pub start-of-spec : {M : Type 1} → statement M
-start-of-spec =
+pub start_of_spec : {M : Type 1} → statement M
+start_of_spec =
     tie.close (tie.spec walk-to-requires returns div-if2 mul-result returns-2 returns-3)

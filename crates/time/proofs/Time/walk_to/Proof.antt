@@ -37,49 +37,49 @@ module _ {c : Time} {k s j : ℕ} (W : Walked c k s j) {t : Table} (T : Timed t 
       omega (arith, w.2, T.hyper, start-strict S j (intervals t) m (le_refl (intervals t)), start-last S) in
       T.hyper ∙ sym (start-late S k (omega (arith, w.0, w.1)))
 
-abbrev invariant-loop : tie.invariant-loop
+abbrev invariant-loop : tie.invariant-loop-slot
 invariant-loop k self slot₀ passed₀ slot passed = Walked self k slot passed
 
-abbrev decreases-loop : tie.decreases-loop
+abbrev decreases-loop : tie.decreases-loop-slot
 decreases-loop k self slot₀ passed₀ slot passed = self.hyper - slot
 
-loop-holds : tie.Need-loop-init invariant-loop decreases-loop
+loop-holds : tie.Need-loop-slot-init invariant-loop decreases-loop
 loop-holds c t T = (omega arith, omega arith, sym (start_first T.sound))
 
-returns : tie.Need-returns invariant-loop decreases-loop
+returns : tie.Need-returns-then-passed-k invariant-loop decreases-loop
 returns c t T =
     let u = c.before.before in
-    let W = u.loop.invariant in
+    let W = u.loop-slot.invariant in
     let k : ℕ = u.before.args.k in
-    let e : u.loop.passed ≡ k = omega arith in
-    let l : u.loop.passed < intervals t = inside W T (omega arith) in
+    let e : u.loop-slot.passed ≡ k = omega arith in
+    let l : u.loop-slot.passed < intervals t = inside W T (omega arith) in
     (W t T).2 ∙ ap (start t) e ∙ sym (start-in T.sound k (omega arith))
 
-multiple-past-requires : tie.Need-multiple-past-requires invariant-loop decreases-loop
+multiple-past-requires : tie.Need-multiple_past-slot-requires invariant-loop decreases-loop
 multiple-past-requires c κs =
     let u = c.before.before.before.before in
     let T = u.before.requires.1 in
     (leading-periods T.leads (periods_of T.sound), omega (arith, T.hyper, T.short))
 
-add-passed : tie.Need-overflow-add-passed invariant-loop decreases-loop
+add-passed : tie.Need-overflow_add-passed invariant-loop decreases-loop
 add-passed c =
     let u = c.before.before.before.before.before in
     let T = u.before.requires.1 in
-    omega (arith, (u.loop.invariant u.before.requires.0 T).1, intervals-le T.sound, T.short)
+    omega (arith, (u.loop-slot.invariant u.before.requires.0 T).1, intervals-le T.sound, T.short)
 
-loop-less : tie.Need-loop-smaller invariant-loop decreases-loop
-loop-less c = omega (arith, c.multiple-past.ensures.past)
+loop-less : tie.Need-loop-slot-smaller invariant-loop decreases-loop
+loop-less c = omega (arith, c.multiple_past-slot.ensures.past)
 
-loop-again : tie.Need-loop-preserved invariant-loop decreases-loop
+loop-again : tie.Need-loop-slot-preserved invariant-loop decreases-loop
 loop-again c t T =
     let u = c.before.before.before.before.before in
-    next u.loop.invariant T (omega arith) (omega (arith, (u.loop.invariant t T).0)) c.multiple-past.ensures
+    next u.loop-slot.invariant T (omega arith) (omega (arith, (u.loop-slot.invariant t T).0)) c.multiple_past-slot.ensures
 
-returns-2 : tie.Need-returns-2 invariant-loop decreases-loop
-returns-2 c t T = last c.before.loop.invariant T (omega arith)
+returns-2 : tie.Need-returns invariant-loop decreases-loop
+returns-2 c t T = last c.before.loop-slot.invariant T (omega arith)
 
-pub walk-to-spec : {M : Type 1} → statement M
-walk-to-spec =
+pub walk_to_spec : {M : Type 1} → statement M
+walk_to_spec =
     tie.close
     (tie.spec
     invariant-loop

@@ -14,5 +14,5 @@ refused-requires c κs = search rules
 returns : tie.Need-returns
 returns c = ap (λ (o : Outline). record { outline = o; load = 0; rate = replicate max_rows 0 }) c.refused.ensures
 
-pub refused-spec : {M : Type 1} → statement M
-refused-spec = tie.close (tie.spec refused-requires returns)
+pub refused_spec : {M : Type 1} → statement M
+refused_spec = tie.close (tie.spec refused-requires returns)

@@ -8,30 +8,30 @@ use Rattle.rules.specs.Loads.{past}
 use Rattle.verdict.proofs.weights.is_over.Statement.{statement}
 use Rattle.verdict.proofs.weights.is_over.Tie as tie
 
-returns : tie.Need-returns
+returns : tie.Need-returns-then-equal
 unfolding past
-returns c = rw c.if1.true
+returns c = rw c.if-equal.true
 
-mul-result : tie.Need-overflow-mul-result
+mul-result : tie.Need-overflow_mul-result
 mul-result c =
     let z = c.before.args in
     let a : z.load ≤ max_rows * max_slots = omega arith in
     let b : z.interval ≤ max_slots = omega arith in
     omega (arith, mul-le-mul a b)
 
-sub-result : tie.Need-overflow-sub-result
+sub-result : tie.Need-overflow_sub-result
 sub-result c = search rules
 
-mul-result-2 : tie.Need-overflow-mul-result-2
+mul-result-2 : tie.Need-overflow_mul-result-2
 mul-result-2 c =
     let z = c.before.args in
     let a : z.interval - 1 ≤ max_slots = omega arith in
     let b : z.hyper ≤ max_slots = omega arith in
     omega (arith, mul-le-mul a b)
 
-returns-2 : tie.Need-returns-2
+returns-2 : tie.Need-returns
 unfolding past
-returns-2 c = rw c.if1.false
+returns-2 c = rw c.if-equal.false
 
-pub is-over-spec : {M : Type 1} → statement M
-is-over-spec = tie.close (tie.spec returns mul-result sub-result mul-result-2 returns-2)
+pub is_over_spec : {M : Type 1} → statement M
+is_over_spec = tie.close (tie.spec returns mul-result sub-result mul-result-2 returns-2)

@@ -6,20 +6,20 @@ use Rattle.verdict.specs.Weights.{next_lowest}
 use Rattle.verdict.proofs.weights.lowest_next.Statement.{statement}
 use Rattle.verdict.proofs.weights.lowest_next.Tie as tie
 
-add-result : tie.Need-overflow-add-result
+add-result : tie.Need-overflow_add-result
 add-result c = search rules
 
-returns : tie.Need-returns
+returns : tie.Need-returns-then-not-passes
 unfolding next_lowest
-returns c = simp (eq-eqb _ _ c.before.if1.true, c.if2.true)
+returns c = simp (eq-eqb _ _ c.before.else-found-n.true, c.if-not-passes.true)
 
-returns-2 : tie.Need-returns-2
+returns-2 : tie.Need-returns-else-found-n
 unfolding next_lowest
 returns-2 c =
     ⊎_elim
-    (λ w. simp (eq-eqb _ _ w.0.taken, w.1.left))
+    (λ w. simp (eq-eqb _ _ w.0.true, w.1.left))
     (λ w. simp (ne_eqb _ _ w.left))
-    c.if1.branch
+    c.else-found-n.branch
 
-pub lowest-next-spec : {M : Type 1} → statement M
-lowest-next-spec = tie.close (tie.spec add-result returns returns-2)
+pub lowest_next_spec : {M : Type 1} → statement M
+lowest_next_spec = tie.close (tie.spec add-result returns returns-2)

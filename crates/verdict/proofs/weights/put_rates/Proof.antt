@@ -15,84 +15,84 @@ use Rattle.verdict.proofs.Weighing.{lowest_start, lowest_next}
 use Rattle.verdict.proofs.weights.put_rates.Statement.{statement}
 use Rattle.verdict.proofs.weights.put_rates.Tie as tie
 
-abbrev invariant-loop : tie.invariant-loop
+abbrev invariant-loop : tie.invariant-loop-i
 invariant-loop rows hyper interval cost period rate₀ light₀ last₀ jobs₀ i₀ rate light last jobs i =
     (i ≤ rows) × ByRow i (λ k. hyper / at period k * at cost k) rate × (jobs ≡ hyper / last)
     × (light ≡ lowest i (λ k. ltb (at cost k * interval) (at period k)))
 
-abbrev decreases-loop : tie.decreases-loop
+abbrev decreases-loop : tie.decreases-loop-i
 decreases-loop rows hyper interval cost period rate₀ light₀ last₀ jobs₀ i₀ rate light last jobs i = rows - i
 
-loop-holds : tie.Need-loop-init invariant-loop decreases-loop
+loop-holds : tie.Need-loop-i-init invariant-loop decreases-loop
 loop-holds c = (omega arith, rw c.requires.3 (by_row_start _), sym (div-one c.args.hyper), lowest_start _)
 
-slots-at-requires : tie.Need-slots-at-requires invariant-loop decreases-loop
+slots-at-requires : tie.Need-slots_at-own-requires invariant-loop decreases-loop
 slots-at-requires c κs = omega arith
 
-slots-at-requires-2 : tie.Need-slots-at-requires-2 invariant-loop decreases-loop
+slots-at-requires-2 : tie.Need-slots_at-next-requires invariant-loop decreases-loop
 slots-at-requires-2 c κs = omega arith
 
-jobs-in-requires : tie.Need-jobs-in-requires invariant-loop decreases-loop
+jobs-in-requires : tie.Need-jobs_in-jobs-requires invariant-loop decreases-loop
 jobs-in-requires c κs =
     let u = c.before.before.before in
-    (omega (arith, c.slots-at2.ensures, u.before.requires.0.period_low u.loop.i (omega arith)), u.loop.invariant.2)
+    (omega (arith, c.slots_at-next.ensures, u.before.requires.0.period_low u.loop-i.i (omega arith)), u.loop-i.invariant.2)
 
 -- a row has no more than all h slots
-rate-low : (j : tie.After-jobs-in invariant-loop decreases-loop) → j.jobs-in.result * j.before.before.slots_at.result ≤ max_slots
+rate-low : (j : tie.After-jobs_in-jobs invariant-loop decreases-loop) → j.jobs_in-jobs.result * j.before.before.slots_at-own.result ≤ max_slots
 rate-low j =
     let p = j.before in
     let s = p.before in
     let u = s.before.before in
     let a = u.before.args in
-    let high : s.slots_at.result ≤ p.slots-at2.result =
-    omega (arith, s.slots_at.ensures, p.slots-at2.ensures, u.before.requires.0.cost_high u.loop.i (omega arith)) in
-    let few : j.jobs-in.result * s.slots_at.result ≤ a.hyper / p.slots-at2.result * p.slots-at2.result =
-    rw j.jobs-in.ensures (mul-le-mul_left (a.hyper / p.slots-at2.result) high) in
+    let high : s.slots_at-own.result ≤ p.slots_at-next.result =
+    omega (arith, s.slots_at-own.ensures, p.slots_at-next.ensures, u.before.requires.0.cost_high u.loop-i.i (omega arith)) in
+    let few : j.jobs_in-jobs.result * s.slots_at-own.result ≤ a.hyper / p.slots_at-next.result * p.slots_at-next.result =
+    rw j.jobs_in-jobs.ensures (mul-le-mul_left (a.hyper / p.slots_at-next.result) high) in
     omega (
       arith,
       few,
-      div-mul-le_self a.hyper p.slots-at2.result,
+      div-mul-le_self a.hyper p.slots_at-next.result,
       u.before.requires.1,
     )
 
-mul-rate : tie.Need-overflow-mul-rate invariant-loop decreases-loop
+mul-rate : tie.Need-overflow_mul-rate invariant-loop decreases-loop
 mul-rate c = omega (arith, rate-low c)
 
-cast-rate : tie.Need-overflow-cast-rate invariant-loop decreases-loop
+cast-rate : tie.Need-overflow_cast-rate invariant-loop decreases-loop
 cast-rate c = omega (arith, rate-low c)
 
-mul-rate-2 : tie.Need-overflow-mul-rate-2 invariant-loop decreases-loop
+mul-rate-2 : tie.Need-offset_bounds-rate-i invariant-loop decreases-loop
 mul-rate-2 c = omega arith
 
-element-write-rate : tie.Need-element-write-rate invariant-loop decreases-loop
+element-write-rate : tie.Need-bounds-rate-i invariant-loop decreases-loop
 element-write-rate c =
     let u = c.before.before.before.before in
-    omega (arith, u.loop.invariant.1.size, u.before.requires.0.few)
+    omega (arith, u.loop-i.invariant.1.size, u.before.requires.0.few)
 
-is-light-requires : tie.Need-is-light-requires invariant-loop decreases-loop
+is-light-requires : tie.Need-is_light-requires invariant-loop decreases-loop
 is-light-requires c κs =
     let p = c.before in
     let u = p.before.before.before in
     let T = u.before.requires.0 in (
       omega (
         arith,
-        p.before.slots_at.ensures,
-        T.cost_high u.loop.i (omega arith),
-        T.period_high u.loop.i (omega arith),
+        p.before.slots_at-own.ensures,
+        T.cost_high u.loop-i.i (omega arith),
+        T.period_high u.loop-i.i (omega arith),
       ),
       u.before.requires.2,
     )
 
-lowest-next-requires : tie.Need-lowest-next-requires invariant-loop decreases-loop
+lowest-next-requires : tie.Need-lowest_next-light-requires invariant-loop decreases-loop
 lowest-next-requires c κs = let u = c.before.before.before.before.before in omega (arith, u.before.requires.0.few)
 
-add-i : tie.Need-overflow-add-i invariant-loop decreases-loop
+add-i : tie.Need-overflow_add-i invariant-loop decreases-loop
 add-i c = omega arith
 
-loop-less : tie.Need-loop-smaller invariant-loop decreases-loop
+loop-less : tie.Need-loop-i-smaller invariant-loop decreases-loop
 loop-less c = omega arith
 
-loop-again : tie.Need-loop-preserved invariant-loop decreases-loop
+loop-again : tie.Need-loop-i-preserved invariant-loop decreases-loop
 loop-again c =
     let q = c.before in
     let j = q.before in
@@ -100,24 +100,24 @@ loop-again c =
     let u = p.before.before.before in
     let a = u.before.args in (
       omega arith,
-      by_row_put _ u.loop.invariant.1 (omega arith)
-          (ap₂ (λ (x y : ℕ). x * y) (j.jobs-in.ensures ∙ ap (λ (x : ℕ). a.hyper / x) p.slots-at2.ensures)
-          p.before.slots_at.ensures),
-      j.jobs-in.ensures,
-      c.lowest-next.ensures
-          ∙ ap₂ (λ (x : ℕ) (y : Bool). next_lowest x u.loop.i y) u.loop.invariant.3
-          (q.is-light.ensures
-          ∙ ap₂ (λ (x y : ℕ). ltb (x * a.interval) y) p.before.slots_at.ensures p.slots-at2.ensures)
-          ∙ sym (lowest_next u.loop.i (λ k. ltb (at a.cost.now k * a.interval) (at a.period.now k))),
+      by_row_put _ u.loop-i.invariant.1 (omega arith)
+          (ap₂ (λ (x y : ℕ). x * y) (j.jobs_in-jobs.ensures ∙ ap (λ (x : ℕ). a.hyper / x) p.slots_at-next.ensures)
+          p.before.slots_at-own.ensures),
+      j.jobs_in-jobs.ensures,
+      c.lowest_next-light.ensures
+          ∙ ap₂ (λ (x : ℕ) (y : Bool). next_lowest x u.loop-i.i y) u.loop-i.invariant.3
+          (q.is_light.ensures
+          ∙ ap₂ (λ (x y : ℕ). ltb (x * a.interval) y) p.before.slots_at-own.ensures p.slots_at-next.ensures)
+          ∙ sym (lowest_next u.loop-i.i (λ k. ltb (at a.cost.now k * a.interval) (at a.period.now k))),
     )
 
 returns : tie.Need-returns invariant-loop decreases-loop
 returns c =
-    let e : c.before.loop.i ≡ c.before.before.args.rows = omega arith in
-    (rw e at c.before.loop.invariant.1, rw e at c.before.loop.invariant.3)
+    let e : c.before.loop-i.i ≡ c.before.before.args.rows = omega arith in
+    (rw e at c.before.loop-i.invariant.1, rw e at c.before.loop-i.invariant.3)
 
-pub put-rates-spec : {M : Type 1} → statement M
-put-rates-spec =
+pub put_rates_spec : {M : Type 1} → statement M
+put_rates_spec =
     tie.close
     (tie.spec
     invariant-loop

@@ -15,79 +15,79 @@ use Rattle.verdict.proofs.Line.{passing-next, passing-end}
 use Rattle.verdict.proofs.weights.weigh_line.Statement.{statement}
 use Rattle.verdict.proofs.weights.weigh_line.Tie as tie
 
-abbrev invariant-loop : tie.invariant-loop
+abbrev invariant-loop : tie.invariant-loop-e
 invariant-loop rows top first second rate hyper interval joining leaving found₀ started₀ load₀ e₀ found started load e =
     (e ≤ top + 1) × Passing rows (at first) (at second) rate e (eqb interval hyper) hyper interval started
     found.sets found.over found.largest load
 
-abbrev decreases-loop : tie.decreases-loop
+abbrev decreases-loop : tie.decreases-loop-e
 decreases-loop rows top first second rate hyper interval joining leaving found₀ started₀ load₀ e₀ found started load e = (top + 1) - e
 
-rates-at-requires : tie.Need-rates-at-requires invariant-loop decreases-loop
+rates-at-requires : tie.Need-rates_at-requires invariant-loop decreases-loop
 rates-at-requires c κs =
     let p = c.before.before.requires in
     let O = p.0 in
     (p.1, λ i l. (omega (arith, O.line i l, O.within i l, O.short), omega (arith, O.within i l, O.short)), refl, refl)
 
-loop-holds : tie.Need-loop-init invariant-loop decreases-loop
+loop-holds : tie.Need-loop-e-init invariant-loop decreases-loop
 loop-holds c = (omega arith, passing-start)
 
-abbrev entry : tie.In-loop invariant-loop decreases-loop → tie.Start invariant-loop decreases-loop
+abbrev entry : tie.In-loop-e invariant-loop decreases-loop → tie.Start invariant-loop decreases-loop
 entry c = c.before.before.before.before.before
 
-on_line : (c : tie.In-loop invariant-loop decreases-loop) → c.before.loop.e < line_size
+on_line : (c : tie.In-loop-e invariant-loop decreases-loop) → c.before.loop-e.e < line_size
 on_line c = omega (arith, (entry c).requires.0.short)
 
 -- the sums by first ends, and by second ends
-abbrev joining : tie.In-loop invariant-loop decreases-loop → List ℕ
-joining c = c.before.before.rates-at.new.1.1.1.1.0
+abbrev joining : tie.In-loop-e invariant-loop decreases-loop → List ℕ
+joining c = c.before.before.rates_at.new.1.1.1.1.0
 
-abbrev leaving : tie.In-loop invariant-loop decreases-loop → List ℕ
-leaving c = c.before.before.rates-at.new.1.1.1.1.1.0
+abbrev leaving : tie.In-loop-e invariant-loop decreases-loop → List ℕ
+leaving c = c.before.before.rates_at.new.1.1.1.1.1.0
 
-joins : (c : tie.In-loop invariant-loop decreases-loop)
+joins : (c : tie.In-loop-e invariant-loop decreases-loop)
     → let a = (entry c).args in SumsAt a.rows (at a.first.now) (at a.rate.now) (joining c)
-joins c = c.before.before.rates-at.ensures.0
+joins c = c.before.before.rates_at.ensures.0
 
-leaves : (c : tie.In-loop invariant-loop decreases-loop)
+leaves : (c : tie.In-loop-e invariant-loop decreases-loop)
     → let a = (entry c).args in SumsAt a.rows (at a.second.now) (at a.rate.now) (leaving c)
-leaves c = c.before.before.rates-at.ensures.1
+leaves c = c.before.before.rates_at.ensures.1
 
 -- rows end at e, or none does
-ends : (c : tie.In-loop invariant-loop decreases-loop)
+ends : (c : tie.In-loop-e invariant-loop decreases-loop)
     → let a = (entry c).args in
-    let e = c.before.loop.e in
+    let e = c.before.loop-e.e in
     not (eqb (at (leaving c) e) 0) ≡ ends_at a.rows (at a.second.now) e
 ends c = sums-there (leaves c) (entry c).requires.1.some _ (on_line c)
 
-mul-starting : tie.Need-overflow-mul-starting invariant-loop decreases-loop
+mul-starting : tie.Need-offset_bounds-joining-e invariant-loop decreases-loop
 mul-starting c = omega (arith, on_line c)
 
-array-read-starting : tie.Need-array-read-starting invariant-loop decreases-loop
+array-read-starting : tie.Need-bounds-joining-e invariant-loop decreases-loop
 array-read-starting c = omega (arith, on_line c, (joins c).size)
 
-cast-starting : tie.Need-overflow-cast-starting invariant-loop decreases-loop
+cast-starting : tie.Need-overflow_cast-starting invariant-loop decreases-loop
 cast-starting c =
     omega (arith, sums_small (joins c) (λ j m. (entry c).requires.1.small j m) _ (on_line c), (entry c).requires.1.few)
 
-mul-ending : tie.Need-overflow-mul-ending invariant-loop decreases-loop
+mul-ending : tie.Need-offset_bounds-leaving-e invariant-loop decreases-loop
 mul-ending c = omega (arith, on_line c)
 
-array-read-ending : tie.Need-array-read-ending invariant-loop decreases-loop
+array-read-ending : tie.Need-bounds-leaving-e invariant-loop decreases-loop
 array-read-ending c = omega (arith, on_line c, (leaves c).size)
 
-cast-ending : tie.Need-overflow-cast-ending invariant-loop decreases-loop
+cast-ending : tie.Need-overflow_cast-ending invariant-loop decreases-loop
 cast-ending c =
     omega (arith, sums_small (leaves c) (λ j m. (entry c).requires.1.small j m) _ (on_line c), (entry c).requires.1.few)
 
 closes-requires : tie.Need-closes-requires invariant-loop decreases-loop
 closes-requires c κs = search rules
 
-weigh-set-requires : tie.Need-weigh-set-requires invariant-loop decreases-loop
+weigh-set-requires : tie.Need-weigh_set-found-requires invariant-loop decreases-loop
 weigh-set-requires c κs =
     let d = c.before in
     let z = (entry d).requires in
-    let P = d.before.loop.invariant.1 in (
+    let P = d.before.loop-e.invariant.1 in (
       λ q. omega (arith, passing-room z.0 z.1 P _ (ends d) (sym c.closes.ensures ∙ q), z.1.few),
       passing-small z.0 z.1 P,
       z.2,
@@ -95,42 +95,42 @@ weigh-set-requires c κs =
       z.4,
     )
 
-goes-on-requires : tie.Need-goes-on-requires invariant-loop decreases-loop
+goes-on-requires : tie.Need-goes_on-started-requires invariant-loop decreases-loop
 goes-on-requires c κs = search rules
 
-sub-load : tie.Need-overflow-sub-load invariant-loop decreases-loop
+sub-load : tie.Need-overflow_sub-load invariant-loop decreases-loop
 sub-load c =
     let d = c.before.before.before in
     let z = (entry d).requires in
-    omega (arith, (passing-load z.0 z.1 d.before.loop.invariant.1 (joins d) (leaves d) (on_line d)).0)
+    omega (arith, (passing-load z.0 z.1 d.before.loop-e.invariant.1 (joins d) (leaves d) (on_line d)).0)
 
-add-load : tie.Need-overflow-add-load invariant-loop decreases-loop
+add-load : tie.Need-overflow_add-load invariant-loop decreases-loop
 add-load c =
     let d = c.before.before.before in
     let z = (entry d).requires in
-    let P = d.before.loop.invariant.1 in
+    let P = d.before.loop-e.invariant.1 in
     omega (
       arith,
       (passing-load z.0 z.1 P (joins d) (leaves d) (on_line d)).0,
       passing-fits z.0 z.1 P (joins d) (leaves d) (on_line d),
     )
 
-add-e : tie.Need-overflow-add-e invariant-loop decreases-loop
+add-e : tie.Need-overflow_add-e invariant-loop decreases-loop
 add-e c = omega arith
 
-loop-less : tie.Need-loop-smaller invariant-loop decreases-loop
+loop-less : tie.Need-loop-e-smaller invariant-loop decreases-loop
 loop-less c = omega arith
 
-loop-again : tie.Need-loop-preserved invariant-loop decreases-loop
+loop-again : tie.Need-loop-e-preserved invariant-loop decreases-loop
 loop-again c =
     let w = c.before in
     let k = w.before in
     let d = k.before in
     let z = (entry d).requires in
-    let P = d.before.loop.invariant.1 in
-    let v = w.weigh-set.ensures in (
+    let P = d.before.loop-e.invariant.1 in
+    let v = w.weigh_set-found.ensures in (
       omega arith,
-      rw (v.0, v.1, v.2, k.closes.ensures, c.goes_on.ensures)
+      rw (v.0, v.1, v.2, k.closes.ensures, c.goes_on-started.ensures)
           (passing-next z.0 z.1 P (joins d) (leaves d) (on_line d) _ _
           (sums-there (joins d) z.1.some _ (on_line d)) (ends d) _
           (omega (arith, (passing-load z.0 z.1 P (joins d) (leaves d) (on_line d)).0))),
@@ -139,10 +139,10 @@ loop-again c =
 returns : tie.Need-returns invariant-loop decreases-loop
 returns c =
     let z = c.before.before.before.before.before.requires in
-    passing-end z.0 z.1 c.before.loop.invariant.1 (omega arith)
+    passing-end z.0 z.1 c.before.loop-e.invariant.1 (omega arith)
 
-pub weigh-line-spec : {M : Type 1} → statement M
-weigh-line-spec =
+pub weigh_line_spec : {M : Type 1} → statement M
+weigh_line_spec =
     tie.close
     (tie.spec
     invariant-loop

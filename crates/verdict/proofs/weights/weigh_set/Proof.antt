@@ -6,29 +6,29 @@ use Rattle.verdict.specs.Weights.{next_lowest}
 use Rattle.verdict.proofs.weights.weigh_set.Statement.{statement}
 use Rattle.verdict.proofs.weights.weigh_set.Tie as tie
 
-add-sets : tie.Need-overflow-add-sets
-add-sets c = omega (arith, c.before.before.requires.0 c.before.if1.true)
+add-sets : tie.Need-overflow_add-sets
+add-sets c = omega (arith, c.before.before.requires.0 c.before.if-closes.true)
 
-is-over-requires : tie.Need-is-over-requires
+is-over-requires : tie.Need-is_over-passes-requires
 is-over-requires c κs = search rules
 
-lowest-next-requires : tie.Need-lowest-next-requires
-lowest-next-requires c κs = c.before.before.before.requires.0 c.before.before.if1.true
+lowest-next-requires : tie.Need-lowest_next-requires
+lowest-next-requires c κs = c.before.before.before.requires.0 c.before.before.if-closes.true
 
 larger-requires : tie.Need-larger-requires
 larger-requires c κs = search rules
 
-returns : tie.Need-returns
+returns : tie.Need-returns-then-closes
 returns c =
     let t = c.before.before.before.before in
     let z = t.before.args.found in
-    rw t.if1.true
-    (refl, c.before.lowest-next.ensures ∙ ap (next_lowest z.over z.sets) c.before.before.is-over.ensures, c.larger.ensures)
+    rw t.if-closes.true
+    (refl, c.before.lowest_next.ensures ∙ ap (next_lowest z.over z.sets) c.before.before.is_over-passes.ensures, c.larger.ensures)
 
-returns-2 : tie.Need-returns-2
-returns-2 c = rw c.if1.false (refl, refl, refl)
+returns-2 : tie.Need-returns
+returns-2 c = rw c.if-closes.false (refl, refl, refl)
 
-pub weigh-set-spec : {M : Type 1} → statement M
-weigh-set-spec =
+pub weigh_set_spec : {M : Type 1} → statement M
+weigh_set_spec =
     tie.close
     (tie.spec add-sets is-over-requires lowest-next-requires larger-requires returns returns-2)
