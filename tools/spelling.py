@@ -118,6 +118,8 @@ def turn(text, turned, members, path):
                 own[name] = new
         turned = {k: v for k, v in turned.items() if k not in made} | {k: v for k, v in own.items() if k not in made}
 
+    aliases = "|".join(re.findall(r"^(?:ghost )?use \S+ as (\w+);?$", text, re.M)) or "-"
+
     def one(m):
         word = m.group(0)
         if word not in turned:
@@ -125,7 +127,7 @@ def turn(text, turned, members, path):
         if m.start() and text[m.start() - 1] == "." and word not in members:
             before = text[max(0, m.start() - 60):m.start()]
             # a name by its path keeps the path's spelling
-            if not re.search(r"(?:^|[\s(])(?:[A-Z]\w*\.)+$", before):
+            if not re.search(rf"(?:^|[\s(])(?:(?:[A-Z]\w*\.)+|(?:{aliases})\.)$", before):
                 return word
         return turned[word]
 

@@ -206,7 +206,7 @@ pub record Demand3 : Type 1 where
   pub relayed_carried : RelayedCarried
   pub two_held : TwoHeld
   -- With a relay that no row goes through it is the same plan.
-  pub unused_relay : relayed.Same-plan
+  pub unused_relay : relayed.SamePlan
   -- In the plan of a raised table the first slots of a job, as many as its cost was, all come before its deadline (#111).
   pub data_arrives : DataArrives
 

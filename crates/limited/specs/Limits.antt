@@ -43,7 +43,7 @@ pub record Limited (t : Table) (elements rows hyper : ℕ) (rate segments : List
   pub hyper_is : hyper ≡ hyperperiod t
   pub short : hyperperiod t ≤ max_slots
   pub rate_is : ByRow t.rows (loads.rate t) rate
-  pub segments_is : ByRow t.rows (λ i. route.rowSegments t.elements (t.way i) (t.first i) (t.second i)) segments
+  pub segments_is : ByRow t.rows (λ i. route.row_segments t.elements (t.way i) (t.first i) (t.second i)) segments
 
 pub record OverAt (number elements s : ℕ) (r : Answer) : Type 0 where
   pub over : s < elements → (r.number ≡ number) × (r.place ≡ s + 1)

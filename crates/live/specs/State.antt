@@ -66,5 +66,5 @@ pub record PutIn (l : Live) (k : ℕ) (e : Entry) (r : Live) : Type 0 where
   pub second : r.second ≡ set l.second k e.second
   pub label : r.label ≡ set l.label k e.label
   pub denominator : Capped (rules.common (live_of r)) r.denominator
-  pub sums : at r.sums ≡ rules.sumOver r.denominator (live_of r)
+  pub sums : at r.sums ≡ rules.sum_over r.denominator (live_of r)
   pub size : length r.sums ≡ max_elements

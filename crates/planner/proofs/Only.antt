@@ -35,7 +35,7 @@ step_only a p r s was now then A B = go (ℕ_discrete r.answer.number 0)
     go (yes z) =
         let x = A.stepped.done z in
         let y = B.stepped.done (sym number ∙ z) in
-        let e = plans.step-only x.1 y.1 in
+        let e = plans.step_only x.1 y.1 in
         with-planner (state_same r.planner s.planner (A.size ∙ sym B.size) e.0)
         (x.2 ∙ ap (λ (ws : List ℕ). lent ws was) e.1 ∙ sym y.2)
     go (no z) =
@@ -55,7 +55,7 @@ plan_only a r s was now then A B = (same, go (ℕ_discrete r.number 0))
     go (yes z) =
         let x = A.planned.done z in
         let y = B.planned.done (sym number ∙ z) in
-        x.2 ∙ ap (λ (ws : List ℕ). lent ws was) (plans.plan-only a.table x.0 y.0 x.1 y.1) ∙ sym y.2
+        x.2 ∙ ap (λ (ws : List ℕ). lent ws was) (plans.plan_only a.table x.0 y.0 x.1 y.1) ∙ sym y.2
     go (no z) = A.planned.refused z ∙ sym (B.planned.refused (λ e. z (number ∙ e)))
 
 pub standings_only : OneStandings

@@ -92,7 +92,7 @@ steps_run {a} (more {p = p} {r = r} {was = was} {now = now} s A z) =
 pub whole_is_steps : WholeIsSteps
 whole_is_steps a r was now p ws P A z s =
     let w = A.planned.done z in
-    let e = plans.plan-only a.table w.0 ws w.1 (planner_of p, steps_run s) in
+    let e = plans.plan_only a.table w.0 ws w.1 (planner_of p, steps_run s) in
     let d = P.admissible (plan_passed a.checks P.numbered a.table (length was) r.place (rw z at A.planned.answers)) in (
       w.2 ∙ ap (λ (vs : List ℕ). lent vs was) e,
       stage_same p.stage Finished (plan-finished d (planner_of p, steps_run s)),
@@ -107,7 +107,7 @@ exactly_one_plan a r was now P A d room vs =
     let w = A.planned.done e.0 in
     let front : take (hyperperiod t) now ≡ w.0 =
     ap (take (hyperperiod t)) w.2 ∙ lent_take w.0 was (hyperperiod t) (plan-size (admitted-table a P d) w.1) in (
-      (λ W. plans.plan-only t vs w.0 W w.1 ∙ sym front),
+      (λ W. plans.plan_only t vs w.0 W w.1 ∙ sym front),
       (λ q. subst (rules.WholePlan t) (sym (q ∙ front)) w.1),
     )
 

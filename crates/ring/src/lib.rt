@@ -35,7 +35,7 @@ fn steps(m: usize, from: usize, to: usize) -> usize
 // route has passed from element m to element 1.
 fn through(m: usize, from: usize, to: usize) -> u64
     requires { (m ≤ max_elements) × Element m from × Element m to }
-    ensures { Shows m result (bus.routeThrough m from to) }
+    ensures { Shows m result (bus.route_through m from to) }
 {
     numbers::stretch(from + 1, from + steps(m, from, to))
 }
@@ -43,7 +43,7 @@ fn through(m: usize, from: usize, to: usize) -> u64
 // The segments that this route uses, shown in the same way.
 fn uses(m: usize, from: usize, to: usize) -> u64
     requires { (m ≤ max_elements) × Element m from × Element m to }
-    ensures { Shows m result (bus.routeUses m from to) }
+    ensures { Shows m result (bus.route_uses m from to) }
 {
     numbers::stretch(from, from + steps(m, from, to))
 }
@@ -60,7 +60,7 @@ pub fn segments(m: usize, from: usize, to: usize) -> u32
 // Element `e`'s number on the line that begins at `cut`.
 fn line_element(m: usize, cut: usize, e: usize) -> usize
     requires { (m ≤ max_elements) × Element m cut × Element m e }
-    ensures { (result ≡ route.lineElement m cut e) × (result ≤ m) }
+    ensures { (result ≡ route.line_element m cut e) × (result ≤ m) }
 {
     steps(m, cut, e) + 1
 }
@@ -68,7 +68,7 @@ fn line_element(m: usize, cut: usize, e: usize) -> usize
 // The same for a second end, which at the cut stands at the end of the line.
 fn line_end(m: usize, cut: usize, e: usize) -> usize
     requires { (m ≤ max_elements) × Element m cut × Element m e }
-    ensures { (result ≡ route.lineEnd m cut e) × (result ≤ m + 1) }
+    ensures { (result ≡ route.line_end m cut e) × (result ≤ m + 1) }
 {
     if e == cut {
         m + 1
@@ -88,7 +88,7 @@ pub fn mirrored(m: usize, d: usize, e: usize) -> usize
 // Whether a row of direction `way` goes through element `e`.
 pub fn goes_through(m: usize, way: usize, from: usize, to: usize, e: usize) -> bool
     requires { (m ≤ max_elements) × Element m from × Element m to × Element m e }
-    ensures { result ≡ bus.routeThrough m (bus.mirror m way from) (bus.mirror m way to) (bus.mirror m way e) }
+    ensures { result ≡ bus.route_through m (bus.mirror m way from) (bus.mirror m way to) (bus.mirror m way e) }
 {
     let start = mirrored(m, way, from);
     let on = steps(m, start, mirrored(m, way, e));
@@ -98,7 +98,7 @@ pub fn goes_through(m: usize, way: usize, from: usize, to: usize, e: usize) -> b
 // The elements that a row of direction `way` goes through, in the numbers of ring `d`; none where it runs on the other ring.
 fn through_row(m: usize, d: usize, way: usize, from: usize, to: usize) -> u64
     requires { (m ≤ max_elements) × Element m from × Element m to }
-    ensures { Shows m result (λ e. eqb way d && bus.routeThrough m (bus.mirror m d from) (bus.mirror m d to) e) }
+    ensures { Shows m result (λ e. eqb way d && bus.route_through m (bus.mirror m d from) (bus.mirror m d to) e) }
 {
     if way != d {
         return 0;
@@ -165,7 +165,7 @@ pub fn find_cut<'a>(
 // The word of the board's segments that a row uses: what a route uses counterclockwise, the route back uses clockwise.
 fn row_segments(m: usize, way: usize, from: usize, to: usize) -> u32
     requires { (m ≤ max_elements) × Element m from × Element m to }
-    ensures { result ≡ route.rowSegments m way from to }
+    ensures { result ≡ route.row_segments m way from to }
 {
     if way == 0 {
         segments(m, from, to)
@@ -184,7 +184,7 @@ pub fn lay_segments<'a>(
 ) -> [u32; Table::ROWS]
     requires { Routes elements rows (at first.now) (at second.now) (at way.now) }
     ensures { ByRow rows
-        (λ i. route.rowSegments elements (at way.now i) (at first.now i) (at second.now i)) result }
+        (λ i. route.row_segments elements (at way.now i) (at first.now i) (at second.now i)) result }
 {
     let mut words = [0u32; Table::ROWS];
     let mut i: usize = 0;
@@ -244,7 +244,7 @@ fn on_both(m: usize, d: usize, k: usize) -> usize
 // Where a row of ring `d` starts whose first end is `e`, on the line of both rings; `cut` is that of its ring.
 fn row_element(m: usize, d: usize, cut: usize, e: usize) -> usize
     requires { (m ≤ max_elements) × (d < max_rings) × Element m cut × Element m e }
-    ensures { (result ≡ route.rowElement m d cut e) × (result < 256) }
+    ensures { (result ≡ route.row_element m d cut e) × (result < 256) }
 {
     on_both(m, d, line_element(m, cut, mirrored(m, d, e)))
 }
@@ -252,7 +252,7 @@ fn row_element(m: usize, d: usize, cut: usize, e: usize) -> usize
 // Where it ends whose second end is `e`.
 fn row_end(m: usize, d: usize, cut: usize, e: usize) -> usize
     requires { (m ≤ max_elements) × (d < max_rings) × Element m cut × Element m e }
-    ensures { (result ≡ route.rowEnd m d cut e) × (result < 256) }
+    ensures { (result ≡ route.row_end m d cut e) × (result < 256) }
 {
     on_both(m, d, line_end(m, cut, mirrored(m, d, e)))
 }

@@ -58,7 +58,7 @@ slot number word = says "slot" (number ∷ word ∷ [])
 -- ---- what it prints
 
 abbrev pub cut_lines : Table → List Line
-cut_lines t = each t.rings (λ d. cut (line.boardCut t d) ∷ [])
+cut_lines t = each t.rings (λ d. cut (line.board_cut t d) ∷ [])
 
 abbrev pub values : ℕ → ℕ → ℕ → List Line
 values l h x = interval l ∷ hyper h ∷ load x ∷ []

@@ -37,7 +37,7 @@ pub struct Span {
 }
 
 fn is_blank(b: u8) -> bool
-    ensures { result ≡ grammar.isBlank b }
+    ensures { result ≡ grammar.is_blank b }
 {
     if b == b' ' {
         return true;

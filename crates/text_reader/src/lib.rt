@@ -119,7 +119,7 @@ fn is_word(line: &[u8], word: &[u8]) -> bool
 
 // Check 36.
 fn is_no_heading(line: &[u8]) -> bool
-    ensures { (from : ℕ) → Decides (grammar.no-heading (part from line.now)).applies result }
+    ensures { (from : ℕ) → Decides (grammar.no_heading (part from line.now)).applies result }
 {
     if is_word(line, b"elements") {
         return false;

@@ -24,9 +24,9 @@ pub record Weighable (t : Table) (n light : ℕ) (c : Time) (top : ℕ) (starts 
   pub weighed : RowsWeighed t light xs
   pub timed : Timed t c
   pub clear : line.HasCuts t
-  pub top_is : top ≡ line.lineTop t
-  pub first : ByRow t.rows (line.lineFirst t) starts
-  pub second : ByRow t.rows (line.lineSecond t) ends
+  pub top_is : top ≡ line.line_top t
+  pub first : ByRow t.rows (line.line_first t) starts
+  pub second : ByRow t.rows (line.line_second t) ends
 
 pub record Weighs (t : Table) (w : Loaded) : Type 0 where
   pub answers : Answers (bound_checks t) w.answer.number w.answer.place

@@ -13,8 +13,8 @@ use Rattle.ring.proofs.lay.Tie as tie
 
 abbrev invariant-loop : tie.invariant-loop-i
 invariant-loop elements rows rings first second way cut other start₀ end₀ i₀ start end i =
-    (i ≤ rows) × ByRow i (λ k. route.rowElement elements (at way k) (cut_of cut other (at way k)) (at first k)) start
-    × ByRow i (λ k. route.rowEnd elements (at way k) (cut_of cut other (at way k)) (at second k)) end
+    (i ≤ rows) × ByRow i (λ k. route.row_element elements (at way k) (cut_of cut other (at way k)) (at first k)) start
+    × ByRow i (λ k. route.row_end elements (at way k) (cut_of cut other (at way k)) (at second k)) end
 
 abbrev decreases-loop : tie.decreases-loop-i
 decreases-loop elements rows rings first second way cut other start₀ end₀ i₀ start end i = rows - i

@@ -11,7 +11,7 @@ use Rattle.ring.proofs.lay_segments.Tie as tie
 
 abbrev invariant-loop : tie.invariant-loop-i
 invariant-loop elements rows first second way words₀ i₀ words i =
-    (i ≤ rows) × ByRow i (λ k. route.rowSegments elements (at way k) (at first k) (at second k)) words
+    (i ≤ rows) × ByRow i (λ k. route.row_segments elements (at way k) (at first k) (at second k)) words
 
 abbrev decreases-loop : tie.decreases-loop-i
 decreases-loop elements rows first second way words₀ i₀ words i = rows - i
