@@ -14,9 +14,12 @@ import sys
 WORD = re.compile(r"[^\s(){}\[\],;.|`:]+")
 DECLARED = re.compile(r"^((?:abbrev |unfoldable |pub |record |data |ruleset )*)([^\s(){}\[\],;.:|]+)")
 MEMBER = re.compile(r"^  (?:pub )?([^\s(){}\[\],;.:|]+) :")
+# What stands in a module with parameters, or below a where.
+INNER = re.compile(r"^ +((?:abbrev |unfoldable |pub |record |data )*)([^\s(){}\[\],;.:|]+)(?: \{ℓ\w*\})? (?::|\()")
 HUMP = re.compile(r"(?<=[a-z0-9])([A-Z])")
 # Rattle's own names in a proof file
 MADE = re.compile(r": *tie\.|: \{M : Type 1\} → statement M")
+GOALS = re.compile(r"^use \S+\.(?:Goals|Given) as goal$", re.M)
 
 
 def files(top):
@@ -42,6 +45,11 @@ def declared(text, own):
             m = MEMBER.match(line) if inside else None
             if m:
                 yield m.group(1), False, True
+                continue
+            m = None if own else INNER.match(line)
+            if m and (" :" in line or "record" in m.group(1) or "data" in m.group(1)) and m.group(2) not in ("let", "in", "where", "module"):
+                a_type = "record" in m.group(1) or "data" in m.group(1) or bool(re.search(r"(: |→ )Type [01]$", line))
+                yield m.group(2), a_type, False
             continue
         m = DECLARED.match(line)
         kinds = m.group(1).split() if m else []
@@ -69,7 +77,7 @@ def new_names(top):
     """Old name to new name of what the specs and lemma files declare; and which names are members."""
     turned, members = {}, set()
     for path in files(top):
-        if not path.endswith(".antt") or os.path.basename(path) == "Proof.antt":
+        if not path.endswith(".antt") or os.path.basename(path) == "Proof.antt" or GOALS.search(read(path)):
             continue
         for name, is_type, is_member in declared(read(path), False):
             if "◌" in name or not name[0].isalpha():
@@ -87,7 +95,7 @@ OTHERWISE = {
     name: spelled(name, False) + "_lem"
     for name in (
         "bit-and bit-or bit-xor blank-is cut-of file-entry file-head file-row mark-of memory-entry memory-row number-line "
-        "route-uses row-numbers text-rings"
+        "route-uses row-numbers text-rings ring-through in-memory light-before over-before plan-moves"
     ).split()
 } | {
     "from-relay": "from_relay_jobs",
@@ -107,6 +115,9 @@ LOCAL = {
 
 def turn(text, turned, members, path):
     own = {}
+    if GOALS.search(text):
+        made = set(re.findall(r"^(?:abbrev )?(?:pub )?(\S+) : goal\.", text, re.M))
+        turned = {k: v for k, v in turned.items() if k not in made}
     for end, names in LOCAL.items():
         if path.endswith(end):
             turned = turned | names
@@ -139,6 +150,8 @@ def main():
     top = words[0] if words else "."
     turned, members = new_names(top)
     turned.update(OTHERWISE)
+    for name in ("and-true", "and-false"):  # the library's too
+        turned.pop(name, None)
     if "--list" in sys.argv:
         for old in sorted(turned):
             print(old, turned[old])

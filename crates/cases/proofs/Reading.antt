@@ -31,26 +31,26 @@ module _ (b : ℕ) where
   past : 57 < b → leb b 57 ≡ false
   past l = is_false (leb b 57) (λ h. let g = leb→le b 57 h in let z : ⊥ = omega arith in z)
 
-  pub digit-above : 48 ≤ b → leb b 57 ≡ is_digit b
+  pub digit_above : 48 ≤ b → leb b 57 ≡ is_digit b
   unfolding is_digit
-  digit-above l = rw (above l)
+  digit_above l = rw (above l)
 
-  pub digit-below : b < 48 → leb 48 b ≡ is_digit b
+  pub digit_below : b < 48 → leb 48 b ≡ is_digit b
   unfolding is_digit
-  digit-below l = rw (below l)
+  digit_below l = rw (below l)
 
   module _ (x : ℕ) where
-    pub grown-low : b < 48 → 0 ≡ grown x b
+    pub grown_low : b < 48 → 0 ≡ grown x b
     unfolding grown is_digit
-    grown-low l = rw (below l)
+    grown_low l = rw (below l)
 
-    pub grown-high : 57 < b → 0 ≡ grown x b
+    pub grown_high : 57 < b → 0 ≡ grown x b
     unfolding grown is_digit
-    grown-high l = let a : 48 ≤ b = omega arith in rw (above a, past l)
+    grown_high l = let a : 48 ≤ b = omega arith in rw (above a, past l)
 
-    pub grown-more : 48 ≤ b → b ≤ 57 → grown x b ≡ min (x * 10 + (b - 48)) largest
+    pub grown_more : 48 ≤ b → b ≤ 57 → grown x b ≡ min (x * 10 + (b - 48)) largest
     unfolding grown is_digit
-    grown-more l h = rw (above l, within h)
+    grown_more l h = rw (above l, within h)
 
 -- ---- one number
 
@@ -60,9 +60,9 @@ ended_few true x = omega arith
 ended_few false x = omega arith
 
 module _ (e : Bool) (x : ℕ) {was now : List ℕ} {k next : ℕ} where
-  pub ended-not : e ≡ false → Puts [] was k now next → Puts (ended e x) was k now next
+  pub ended_not : e ≡ false → Puts [] was k now next → Puts (ended e x) was k now next
   unfolding ended
-  ended-not h P = rw h P
+  ended_not h P = rw h P
 
   pub ended_here : e ≡ true → Puts (x ∷ []) was k now next → Puts (ended e x) was k now next
   unfolding ended
@@ -81,10 +81,10 @@ pub front_start : (text was : List ℕ) → Front text was 0 false 0 was 0
 front_start text was = record { low = omega arith; few = omega arith; read = []; puts = puts_none was 0; rest = refl }
 
 module _ {text was out : List ℕ} {i x k : ℕ} {o : Bool} (F : Front text was i o x out k) where
-  pub front-next : {now : List ℕ} {next : ℕ} → i < length text → Puts (ended (o && not (is_digit (at text i))) x) out k now next
+  pub front_next : {now : List ℕ} {next : ℕ} → i < length text → Puts (ended (o && not (is_digit (at text i))) x) out k now next
       → Front text was (i + 1) (is_digit (at text i)) (grown x (at text i)) now next
   unfolding numbers_from
-  front-next l P = record {
+  front_next l P = record {
     low = omega arith;
     few = omega (arith, P.after, F.few, ended_few (o && not (is_digit (at text i))) x);
     read = F.read ++ ended (o && not (is_digit (at text i))) x;
@@ -96,9 +96,9 @@ module _ {text was out : List ℕ} {i x k : ℕ} {o : Bool} (F : Front text was 
           ≡ ended (o && not (is_digit (at text i))) x ++ numbers_from (is_digit (at text i)) (grown x (at text i)) (drop (i + 1) text)
       step = rw (drop_next text i l)
 
-  pub front-end : {now : List ℕ} {next : ℕ} → length text ≤ i → Puts (ended o x) out k now next → Puts (numbers_in text) was 0 now next
+  pub front_end : {now : List ℕ} {next : ℕ} → length text ≤ i → Puts (ended o x) out k now next → Puts (numbers_in text) was 0 now next
   unfolding numbers_from
-  front-end l P =
+  front_end l P =
       let e : F.read ++ ended o x ≡ numbers_in text = rw (drop_of_length-le text l) at F.rest in
       rw e at (puts_more F.puts P)
 

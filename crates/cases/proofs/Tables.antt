@@ -12,10 +12,10 @@ use Rattle.decimal.proofs.Puts.{puts_none, puts_more}
 use Rattle.cases.specs.Tables.{low, high, row_numbers, row_bytes, way_bytes, row_at, rows_in, head_bytes}
 
 module _ (xs : List ℕ) {was now : List ℕ} {n r : ℕ} where
-  pub row-puts : (k : ℕ) {c p f s b₀ b₁ b₂ b₃ b₄ b₅ : ℕ} → c ≡ at xs k → p ≡ at xs (k + 1) → f ≡ at xs (k + 2) → s ≡ at xs (k + 3)
+  pub row_puts : (k : ℕ) {c p f s b₀ b₁ b₂ b₃ b₄ b₅ : ℕ} → c ≡ at xs k → p ≡ at xs (k + 1) → f ≡ at xs (k + 2) → s ≡ at xs (k + 3)
       → b₀ ≡ low c → b₁ ≡ high c → b₂ ≡ low p → b₃ ≡ high p → b₄ ≡ low f → b₅ ≡ low s
       → Puts (b₀ ∷ b₁ ∷ b₂ ∷ b₃ ∷ b₄ ∷ b₅ ∷ []) was n now r → Puts (row_bytes xs k) was n now r
-  row-puts k ec ep ef es e₀ e₁ e₂ e₃ e₄ e₅ P = rw (sym ec, sym ep, sym ef, sym es, sym e₀, sym e₁, sym e₂, sym e₃, sym e₄, sym e₅) P
+  row_puts k ec ep ef es e₀ e₁ e₂ e₃ e₄ e₅ P = rw (sym ec, sym ep, sym ef, sym es, sym e₀, sym e₁, sym e₂, sym e₃, sym e₄, sym e₅) P
 
   pub head_puts : (b : Bool) {z m b₀ b₁ k : ℕ} → z ≡ cond b 0x32 0x54 → m ≡ at xs 0 → b₀ ≡ low m → k ≡ rows_in b xs → b₁ ≡ low k
       → Puts (0x52 ∷ 0x42 ∷ z ∷ 1 ∷ 0 ∷ b₀ ∷ b₁ ∷ []) was n now r → Puts (head_bytes b xs) was n now r

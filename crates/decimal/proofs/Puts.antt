@@ -42,9 +42,9 @@ module _ {was now : List ℕ} {n at next : ℕ} where
   pub puts_one : n < 10 → Puts (digit n ∷ []) was at now next → Puts (decimal n) was at now next × (next ≤ at + 20)
   puts_one l P = (rw (decimal_one n l) P, omega (arith, P.after))
 
-  pub puts-digit : {mid : List ℕ} {last : ℕ} → 10 ≤ n → n < 10 ^ 20 → Puts (decimal (n / 10)) was at mid next
+  pub puts_digit : {mid : List ℕ} {last : ℕ} → 10 ≤ n → n < 10 ^ 20 → Puts (decimal (n / 10)) was at mid next
       → Puts (digit (n % 10) ∷ []) mid next now last → Puts (decimal n) was at now last × (last ≤ at + 20)
-  puts-digit {mid} {last} h l P Q =
+  puts_digit {mid} {last} h l P Q =
       let R : Puts (decimal n) was at now last = rw (decimal_more n h) (puts_more P Q) in
       (R, omega (arith, R.after, decimal_short 19 n l))
 

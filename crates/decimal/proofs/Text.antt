@@ -32,13 +32,13 @@ module _ (f : ℕ → List Line) where
   pub lines_none : (was : List ℕ) (at : ℕ) → PutsLines (each 0 f) 0 was at was at
   lines_none was at = (rw (each_none {A = Line}, text_none) (puts_none was at), omega arith)
 
-  text-next : (n : ℕ) → text (each (n + 1) f) ≡ text (each n f) ++ text (f n)
-  text-next n = ap text (each_next n f) ∙ text_join (each n f) (f n)
+  text_next : (n : ℕ) → text (each (n + 1) f) ≡ text (each n f) ++ text (f n)
+  text_next n = ap text (each_next n f) ∙ text_join (each n f) (f n)
 
   module _ (n : ℕ) {at next : ℕ} {was mid : List ℕ} (P : PutsLines (each n f) n was at mid next) where
     pub lines_next : (l : Line) {last : ℕ} {now : List ℕ} → f n ≡ l ∷ [] → PutsLine l mid next now last
         → PutsLines (each (n + 1) f) (n + 1) was at now last
-    lines_next l e Q = (rw (text-next n, e, text_one l) (puts_more P.0 Q.0), omega (arith, P.1, Q.1))
+    lines_next l e Q = (rw (text_next n, e, text_one l) (puts_more P.0 Q.0), omega (arith, P.1, Q.1))
 
-    pub lines-skip : f n ≡ [] → PutsLines (each (n + 1) f) (n + 1) was at mid next
-    lines-skip e = (rw (text-next n, e, text_none) (puts_more P.0 (puts_none mid next)), omega (arith, P.1))
+    pub lines_skip : f n ≡ [] → PutsLines (each (n + 1) f) (n + 1) was at mid next
+    lines_skip e = (rw (text_next n, e, text_none) (puts_more P.0 (puts_none mid next)), omega (arith, P.1))

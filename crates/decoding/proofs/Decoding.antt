@@ -104,13 +104,13 @@ module _ (f : List ℕ) where
 
   module _ (w : Whole f) where
     -- past the last row it is 0, as there is none
-    last-past : (i : ℕ) → (file_table f).rows ≤ i → last i ≡ 0
-    last-past i l = low_past (last_size (file_rings f) (version f)) f _ (λ j. past_row w l (omega arith))
+    last_past : (i : ℕ) → (file_table f).rows ≤ i → last i ≡ 0
+    last_past i l = low_past (last_size (file_rings f) (version f)) f _ (λ j. past_row w l (omega arith))
 
     -- so are the numbers that are made of it
     pub last_end : (g : ℕ → ℕ) → g 0 ≡ 0 → {xs : List ℕ} {n : ℕ} → n ≡ (file_table f).rows → ByRow n (λ i. g (last i)) xs
         → HoldsLabels (λ i. g (last i)) xs
-    last_end g z e B = record { labels = by_row_all B (λ i l. ap g (last-past i (rw e at l)) ∙ z); size = B.size }
+    last_end g z e B = record { labels = by_row_all B (λ i l. ap g (last_past i (rw e at l)) ∙ z); size = B.size }
 
 -- so is all that the table has of such a row
 pub record Blank (t : Table) (i : ℕ) : Type 0 where
@@ -130,11 +130,11 @@ blank_past {f} {i} w l =
       period = pair _ (omega arith);
       first = byte _ (omega arith);
       second = byte _ (omega arith);
-      way = ap (way_in (file_rings f)) (last-past f w i l) ∙ wayless (file_rings f);
+      way = ap (way_in (file_rings f)) (last_past f w i l) ∙ wayless (file_rings f);
     }
 
 pub label_past : {f : List ℕ} {i : ℕ} → Whole f → (file_table f).rows ≤ i → (file_labelled f).label i ≡ 0
-label_past {f} {i} w l = ap (label_in (file_rings f)) (last-past f w i l) ∙ labelless (file_rings f)
+label_past {f} {i} w l = ap (label_in (file_rings f)) (last_past f w i l) ∙ labelless (file_rings f)
 
 -- ---- a whole file's columns
 
@@ -179,9 +179,9 @@ module _ (f : List ℕ) where
   way_at i e =
       rw e (ap (λ (k : ℕ). read_low k f (header_size + row_size max_rings (version f) * i + 6)) (last_way (version f) refl) ∙ low_one f _)
 
-  pub ways-none : file_rings f ≢ max_rings → HoldsLabels (file_table f).way no_labels
+  pub ways_none : file_rings f ≢ max_rings → HoldsLabels (file_table f).way no_labels
   unfolding way_in
-  ways-none n = none_held (file_table f).way (λ i. rw (ne_eqb (file_rings f) max_rings n))
+  ways_none n = none_held (file_table f).way (λ i. rw (ne_eqb (file_rings f) max_rings n))
 
   -- ---- labels: with one ring, 16 bits each in version 2
 
@@ -194,14 +194,14 @@ module _ (f : List ℕ) where
       ∙ low_two f _)
 
   -- with two rings there are none
-  pub labels-none-way : file_rings f ≡ max_rings → HoldsLabels (file_labelled f).label no_labels
+  pub labels_none_way : file_rings f ≡ max_rings → HoldsLabels (file_labelled f).label no_labels
   unfolding label_in
-  labels-none-way e = none_held (file_labelled f).label (λ i. rw (eq-eqb (file_rings f) max_rings e))
+  labels_none_way e = none_held (file_labelled f).label (λ i. rw (eq-eqb (file_rings f) max_rings e))
 
   -- in any other version they have no bytes
-  pub labels-none : file_rings f ≢ max_rings → version f ≢ version_2 → HoldsLabels (file_labelled f).label no_labels
+  pub labels_none : file_rings f ≢ max_rings → version f ≢ version_2 → HoldsLabels (file_labelled f).label no_labels
   unfolding label_in read_low
-  labels-none n h =
+  labels_none n h =
       none_held (file_labelled f).label
       (λ i. rw (ne_eqb (file_rings f) max_rings n)
       (ap (λ (k : ℕ). read_low k f (header_size + row_size (file_rings f) (version f) * i + 6)) (last_label (version f) n ∙ label_none h)))
@@ -210,30 +210,30 @@ module _ (f : List ℕ) where
 
 module _ (f : List ℕ) (a : Answer) where
   -- the header is refused
-  pub into-header : {cost period first second way : List ℕ} {n p : ℕ} → Answers (header_checks f) n p → n ≢ 0 → a.number ≡ n → a.place ≡ p
+  pub into_header : {cost period first second way : List ℕ} {n p : ℕ} → Answers (header_checks f) n p → n ≢ 0 → a.number ≡ n → a.place ≡ p
       → DecodesInto (file_checks f) (file_table f) (no_head a) cost period first second way
   unfolding file_checks
-  into-header {n = n} {p = p} h z e q = record {
+  into_header {n = n} {p = p} h z e q = record {
     answers = rw (e, q) (stopped (header_checks f) (row_checks (file_table f)) n p z h);
     passed = λ k. absurd (z (sym e ∙ k));
     refused = λ k. refl;
   }
 
   module _ (s : None (header_checks f)) (h : Answers (row_checks (file_table f)) a.number a.place) where
-    rows-decide : Answers (file_checks f) a.number a.place
+    rows_decide : Answers (file_checks f) a.number a.place
     unfolding file_checks
-    rows-decide = joined (header_checks f) (row_checks (file_table f)) a.number a.place s h
+    rows_decide = joined (header_checks f) (row_checks (file_table f)) a.number a.place s h
 
     -- a row is refused
-    pub into-row : {cost period first second way : List ℕ} → a.number ≢ 0
+    pub into_row : {cost period first second way : List ℕ} → a.number ≢ 0
         → DecodesInto (file_checks f) (file_table f) (no_head a) cost period first second way
-    into-row z = record { answers = rows-decide; passed = λ k. absurd (z k); refused = λ k. refl }
+    into_row z = record { answers = rows_decide; passed = λ k. absurd (z k); refused = λ k. refl }
 
-    pub into-all : {cost period first second way : List ℕ} {m n r : ℕ} → a.number ≡ 0
+    pub into_all : {cost period first second way : List ℕ} {m n r : ℕ} → a.number ≡ 0
         → (let b : Head = record { answer = a; elements = m; rows = n; rings = r } in
         Holds (file_table f) (columns_by b cost period first second way)
         → DecodesInto (file_checks f) (file_table f) b cost period first second way)
-    into-all e H = record { answers = rows-decide; passed = λ k. H; refused = λ k. absurd (k e) }
+    into_all e H = record { answers = rows_decide; passed = λ k. H; refused = λ k. absurd (k e) }
 
 -- where no check applies, the file is as long as it says
 pub whole_of : (f : List ℕ) (a : Answer) → a.number ≡ 0 → Answers (file_checks f) a.number a.place → Whole f
@@ -244,17 +244,17 @@ whole_of f a z A =
 -- with labels, in one struct
 module _ {cs : List Check} {t : Labelled} {h : Head} {cost period first second way : List ℕ}
     (D : DecodesInto cs t.table h cost period first second way) where
-  pub decodes-refused : h.answer.number ≢ 0 → Decodes cs t (refusal h.answer)
-  decodes-refused z = record {
+  pub decodes_refused : h.answer.number ≢ 0 → Decodes cs t (refusal h.answer)
+  decodes_refused z = record {
     answers = D.answers;
     passed = λ k. absurd (z k);
     labelled = λ k. absurd (z k);
     refused = λ k. (refl, refl);
   }
 
-  pub decodes-all : {xs : List ℕ} → h.answer.number ≡ 0 → HoldsLabels t.label xs
+  pub decodes_all : {xs : List ℕ} → h.answer.number ≡ 0 → HoldsLabels t.label xs
       → Decodes cs t (record { answer = h.answer; columns = columns_by h cost period first second way; labels = xs })
-  decodes-all e L = record { answers = D.answers; passed = D.passed; labelled = λ k. L; refused = λ k. absurd (k e) }
+  decodes_all e L = record { answers = D.answers; passed = D.passed; labelled = λ k. L; refused = λ k. absurd (k e) }
 
 -- ---- only one answer fits
 

@@ -17,15 +17,15 @@ OtherMark f = (header_size ≤ length f) × (mark f ≢ table_mark)
 
 module _ (f : List ℕ) where
   -- whatever comes after
-  pub other-mark : (cs : List Check) → OtherMark f → Answers (one_ring_checks f cs) 2 0
-  other-mark cs w =
+  pub other_mark : (cs : List Check) → OtherMark f → Answers (one_ring_checks f cs) 2 0
+  other_mark cs w =
       passed _ _ 2 0 (λ (l : length f < header_size). let z : ⊥ = omega (arith, w.0) in z) (applied _ _ 2 0 w.1 refl refl)
 
   -- any other file is answered as it is where both marks are taken: there, too, 1 comes first
-  pub own-mark : (cs : List Check) → (OtherMark f → ⊥) → (n p : ℕ) → Answers (short_file f ∷ cs) n p
+  pub own_mark : (cs : List Check) → (OtherMark f → ⊥) → (n p : ℕ) → Answers (short_file f ∷ cs) n p
       → Answers (one_ring_checks f (short_file f ∷ cs)) n p
   unfolding Answers
-  own-mark cs own n p a =
+  own_mark cs own n p a =
       ⊎_elim (λ w. inl w)
       (λ w.
       let l : header_size ≤ length f = omega (arith, w.0) in
@@ -33,15 +33,15 @@ module _ (f : List ℕ) where
       a
 
   module _ (cs : List Check) where
-    pub one-numbered : Numbered cs → Numbered (one_ring_checks f cs)
+    pub one_numbered : Numbered cs → Numbered (one_ring_checks f cs)
     unfolding Numbered
-    one-numbered N = (omega arith, (omega arith, N))
+    one_numbered N = (omega arith, (omega arith, N))
 
     module _ (none : None (one_ring_checks f cs)) where
-      pub one-rest : None cs
+      pub one_rest : None cs
       unfolding None
-      one-rest = none.1.1
+      one_rest = none.1.1
 
-      pub one-rings : file_rings f ≡ 1
+      pub one_rings : file_rings f ≡ 1
       unfolding None
-      one-rings = rings_one f (mark_right f (let l = none.0 in omega (arith, l)) none.1.0)
+      one_rings = rings_one f (mark_right f (let l = none.0 in omega (arith, l)) none.1.0)

@@ -6,7 +6,7 @@ use Prim.Native.Nat.{ℕ, ◌+◌, ◌*◌, ◌≤◌, ◌<◌}
 use native.Mathlib.Decide.{ℕ_discrete}
 use native.Mathlib.Omega.{arith}
 use lib.ListN.{length}
-use Rattle.numbers.proofs.Tests.{Test, lt_test, le_test, eq_test, list_test, as-test, not_test, and-test, or-test}
+use Rattle.numbers.proofs.Tests.{Test, lt_test, le_test, eq_test, list_test, as_test, not_test, and_test, or_test}
 use Rattle.rules.specs.Bounds.{max_elements, max_rows, max_slots}
 use Rattle.rules.specs.Bus.{Table}
 use Rattle.rules.specs.TableFile.{table_mark, version_1, header_size, row_size, row_numbers, mark, version, file_table, file_labelled}
@@ -49,7 +49,7 @@ use Rattle.rules.specs.Refusals.{
 use Rattle.rules.specs.Calls.{Ask, line_ask}
 use Rattle.rules.specs.Raising.{raise_checks}
 use Rattle.rules.proofs.Answers.{None, Numbered, stopped, joined, none_of}
-use Rattle.rules.proofs.Sets.{sets-only}
+use Rattle.rules.proofs.Sets.{sets_only}
 use Rattle.rules.proofs.Verdict.{
   Tests,
   none,
@@ -61,23 +61,23 @@ use Rattle.rules.proofs.Verdict.{
   in_test,
   mark_test,
   version_test,
-  row-tests,
+  row_tests,
   file_tests,
   given_tests,
-  line-tests,
-  bound-tests,
+  line_tests,
+  bound_tests,
   limit_tests,
   split_tests,
 }
 use Rattle.table.specs.Sound.{Sound}
-use Rattle.pasted.proofs.AsGiven.{given-numbered, given-passed}
-use Rattle.outline.proofs.Outlined.{line-numbered, none-line}
-use Rattle.relay.proofs.Clear.{has-cuts}
-use Rattle.relay.proofs.Given.{split-numbered, split-element, split-sound}
+use Rattle.pasted.proofs.AsGiven.{given_numbered, given_passed}
+use Rattle.outline.proofs.Outlined.{line_numbered, none_line}
+use Rattle.relay.proofs.Clear.{has_cuts}
+use Rattle.relay.proofs.Given.{split_numbered, split_element, split_sound}
 use Rattle.verdict.proofs.Bound.{verdict_split, sets_exist}
 use Rattle.planner.specs.Proper.{Proper}
 use Rattle.demands.specs.Demands.{Answered}
-use Rattle.demands.proofs.States.{off-test}
+use Rattle.demands.proofs.States.{off_test}
 
 pub by_tests : {cs : List Check} → Tests cs → Answered cs
 by_tests ts = ((answer ts).0, (answer ts).1, answer_is ts)
@@ -119,8 +119,8 @@ written_answered m v M n xs room =
     not_test (in_test M 2 max_elements)
     then not_test (in_test n 1 max_rows)
     then not_test (eq_test (length xs) (row_numbers * n))
-    then none) (row-tests (memory_with r M n xs)))
-    (tests_each n (λ i. and-test (eq_test v version_1) (not_test (eq_test ((memory_labelled_with r M n xs).label i) 0)) then none)))
+    then none) (row_tests (memory_with r M n xs)))
+    (tests_each n (λ i. and_test (eq_test v version_1) (not_test (eq_test ((memory_labelled_with r M n xs).label i) 0)) then none)))
     (lt_test room (header_size + row_size r v * n) then none))
 
 pub met_answered : (f : List ℕ) (i j : ℕ) → Answered (shared_checks f i j)
@@ -133,8 +133,8 @@ met_answered f i j =
 
 line_answered : (t : Table) → Sound t → (ds : List Check) → ((ws : List ℕ) → Sets t ws → Tests ds) → Answered (line_checks t ++ ds)
 line_answered t S ds more =
-    by_lists (line_checks t) ds (line-numbered t) (by_tests (line-tests t))
-    (λ N. let e = sets_exist t S (none-line t N).0 in by_tests (more e.0 e.1))
+    by_lists (line_checks t) ds (line_numbered t) (by_tests (line_tests t))
+    (λ N. let e = sets_exist t S (none_line t N).0 in by_tests (more e.0 e.1))
 
 -- where one ring alone is taken
 pub one_ring_answered : (f : List ℕ) (cs : List Check) → Answered cs → Answered (one_ring_checks f cs)
@@ -146,60 +146,60 @@ one_ring_answered f cs A =
 short_list : (t : Table) (room : ℕ) → 0 < t.rows → (ws : List ℕ) → Sets t ws
     → Test ((vs : List ℕ) × Sets t vs × (room < length vs))
 short_list t room some ws A =
-    as-test (lt_test room (length ws)) (λ h. (ws, A, h))
-    (λ w. subst (λ (vs : List ℕ). room < length vs) (sets-only some w.1 A) w.2)
+    as_test (lt_test room (length ws)) (λ h. (ws, A, h))
+    (λ w. subst (λ (vs : List ℕ). room < length vs) (sets_only some w.1 A) w.2)
 
 module _ (f : List ℕ) where
-  past-given : (ds : List Check) → (Sound (file_table f) → Answered ds) → Answered (given_checks f ++ ds)
-  past-given ds more = by_lists (given_checks f) ds (given-numbered f) (by_tests (given_tests f)) (λ N. more (given-passed f N).sound)
+  past_given : (ds : List Check) → (Sound (file_table f) → Answered ds) → Answered (given_checks f ++ ds)
+  past_given ds more = by_lists (given_checks f) ds (given_numbered f) (by_tests (given_tests f)) (λ N. more (given_passed f N).sound)
 
-  pub judged-answered : Answered (verdict_checks f)
-  judged-answered =
+  pub judged_answered : Answered (verdict_checks f)
+  judged_answered =
       rw (verdict_split f)
-      (past-given (line_checks (file_table f) ++ bound_checks (file_table f))
-      (λ S. line_answered (file_table f) S (bound_checks (file_table f)) (λ ws A. bound-tests (file_table f) S.rows_low ws A)))
+      (past_given (line_checks (file_table f) ++ bound_checks (file_table f))
+      (λ S. line_answered (file_table f) S (bound_checks (file_table f)) (λ ws A. bound_tests (file_table f) S.rows_low ws A)))
 
-  pub listed-answered : (room : ℕ) → Answered (sets_checks (line_ask f).checks (file_table f) room)
+  pub listed_answered : (room : ℕ) → Answered (sets_checks (line_ask f).checks (file_table f) room)
   unfolding sets_checks
-  listed-answered room =
+  listed_answered room =
       rw append_assoc
-      (past-given (line_checks (file_table f) ++ _)
+      (past_given (line_checks (file_table f) ++ _)
       (λ S. line_answered (file_table f) S _ (λ ws A. short_list (file_table f) room S.rows_low ws A then none)))
 
-  pub crowded-answered : (k : ℕ) → Answered (set_checks f k)
+  pub crowded_answered : (k : ℕ) → Answered (set_checks f k)
   unfolding set_checks
-  crowded-answered k =
+  crowded_answered k =
       rw append_assoc
-      (past-given (line_checks (file_table f) ++ _)
-      (λ S. line_answered (file_table f) S _ (λ ws A. past-list S.rows_low ws A then none)))
+      (past_given (line_checks (file_table f) ++ _)
+      (λ S. line_answered (file_table f) S _ (λ ws A. past_list S.rows_low ws A then none)))
     where
-      past-list : 0 < (file_table f).rows → (ws : List ℕ) → Sets (file_table f) ws
+      past_list : 0 < (file_table f).rows → (ws : List ℕ) → Sets (file_table f) ws
           → Test ((vs : List ℕ) × Sets (file_table f) vs × (length vs ≤ k))
-      past-list some ws A =
-          as-test (le_test (length ws) k) (λ h. (ws, A, h))
-          (λ w. subst (λ (vs : List ℕ). length vs ≤ k) (sets-only some w.1 A) w.2)
+      past_list some ws A =
+          as_test (le_test (length ws) k) (λ h. (ws, A, h))
+          (λ w. subst (λ (vs : List ℕ). length vs ≤ k) (sets_only some w.1 A) w.2)
 
-  pub raised-answered : (room : ℕ) → Answered (raise_checks f room)
+  pub raised_answered : (room : ℕ) → Answered (raise_checks f room)
   unfolding raise_checks
-  raised-answered room =
+  raised_answered room =
       one_ring_answered f _
       (rw append_assoc
-      (past-given (line_checks (file_table f) ++ _)
+      (past_given (line_checks (file_table f) ++ _)
       (λ S. line_answered (file_table f) S _ (λ ws A. lt_test room (length f) then none))))
 
-  pub limited-answered : (our their : ℕ) → Answered (limited_checks f our their)
+  pub limited_answered : (our their : ℕ) → Answered (limited_checks f our their)
   unfolding limited_checks Numbered
-  limited-answered our their =
+  limited_answered our their =
       let t = file_table f in
       let ds = limit_checks (file_labelled f) our their ++ bound_checks t in
       by_lists (wrong_limit our their ∷ []) (one_ring_checks f (given_checks f ++ (line_checks t ++ ds))) (omega arith)
-      (by_tests (or-test (lt_test max_limit our) (lt_test max_limit their) then none))
+      (by_tests (or_test (lt_test max_limit our) (lt_test max_limit their) then none))
       (λ N.
       one_ring_answered f _
-      (past-given (line_checks t ++ ds)
+      (past_given (line_checks t ++ ds)
       (λ S.
       line_answered t S ds
-      (λ ws A. tests_join (limit_tests (file_labelled f) our their) (bound-tests t S.rows_low ws A)))))
+      (λ ws A. tests_join (limit_tests (file_labelled f) our their) (bound_tests t S.rows_low ws A)))))
 
 -- ---- with a relay
 
@@ -212,19 +212,19 @@ module _ (f : List ℕ) (r : ℕ) where
   unfolding relayed_line_checks
   past_split ds more =
       rw append_assoc
-      (by_lists (split_checks f r) (long_hyperperiod t ∷ ds) (split-numbered f r) (by_tests (split_tests f r))
+      (by_lists (split_checks f r) (long_hyperperiod t ∷ ds) (split_numbered f r) (by_tests (split_tests f r))
       (λ N.
-      let S = split-sound f r N in
-      let e = sets_exist t S (has-cuts (file_table f) (split-element f r N)) in
+      let S = split_sound f r N in
+      let e = sets_exist t S (has_cuts (file_table f) (split_element f r N)) in
       by_tests (lt_test max_slots (hyperperiod t) then more S e.0 e.1)))
 
-  pub relayed-answered : Answered (relayed_checks f r)
+  pub relayed_answered : Answered (relayed_checks f r)
   unfolding relayed_checks
-  relayed-answered = past_split (bound_checks t) (λ S ws A. bound-tests t S.rows_low ws A)
+  relayed_answered = past_split (bound_checks t) (λ S ws A. bound_tests t S.rows_low ws A)
 
-  pub relayed-listed-answered : (room : ℕ) → Answered (sets_checks (relayed_line_checks f r) t room)
+  pub relayed_listed_answered : (room : ℕ) → Answered (sets_checks (relayed_line_checks f r) t room)
   unfolding sets_checks
-  relayed-listed-answered room = past_split _ (λ S ws A. short_list t room S.rows_low ws A then none)
+  relayed_listed_answered room = past_split _ (λ S ws A. short_list t room S.rows_low ws A then none)
 
 -- ---- the planner's calls, at an ask whose own checks are answered
 
@@ -233,25 +233,25 @@ finished_test (due k) = record { test = false; is = λ h. absurd h; of = λ e. l
 finished_test finished = record { test = true; is = λ h. refl; of = λ e. tt }
 
 module _ (a : Ask) (P : Proper a) (J : Answered a.checks) where
-  pub planned-answered : (room : ℕ) → Answered (plan_checks a.checks a.table room)
+  pub planned_answered : (room : ℕ) → Answered (plan_checks a.checks a.table room)
   unfolding plan_checks
-  planned-answered room = by_lists a.checks _ P.numbered J (λ N. by_tests (lt_test room (hyperperiod a.table) then none))
+  planned_answered room = by_lists a.checks _ P.numbered J (λ N. by_tests (lt_test room (hyperperiod a.table) then none))
 
   module _ (p : Planner) where
     -- the table's state is decided where the ask admits the table
-    state-test : None a.checks → Test (Off a.table p)
-    state-test N =
+    state_test : None a.checks → Test (Off a.table p)
+    state_test N =
         let A = P.admissible N in
         let e = sets_exist a.table A.sound A.clear in
-        off-test a.table p e.0 e.1
+        off_test a.table p e.0 e.1
 
-    pub stepped-answered : (room : ℕ) → Answered (step_checks a.checks a.table p room)
+    pub stepped_answered : (room : ℕ) → Answered (step_checks a.checks a.table p room)
     unfolding step_checks
-    stepped-answered room =
+    stepped_answered room =
         by_lists a.checks _ P.numbered J
         (λ N. by_tests (
-        state-test N then finished_test p.stage then lt_test room (step_room a.table p.stage) then none))
+        state_test N then finished_test p.stage then lt_test room (step_room a.table p.stage) then none))
 
-    pub stood-answered : Answered (standings_checks a.checks a.table p)
+    pub stood_answered : Answered (standings_checks a.checks a.table p)
     unfolding standings_checks
-    stood-answered = by_lists a.checks _ P.numbered J (λ N. by_tests (state-test N then none))
+    stood_answered = by_lists a.checks _ P.numbered J (λ N. by_tests (state_test N then none))

@@ -15,21 +15,21 @@ use Rattle.rules.proofs.Answers.{None, Numbered, answers_only, position_none, no
 use Rattle.rules.proofs.Calls.{lent_take, call_must}
 use Rattle.rules.proofs.Lags.{qualify_by_lags}
 use Rattle.table.proofs.Faults.{passed_none}
-use Rattle.round_trip.proofs.RoundTrip.{rings_front, marked_own, read_none, written_none, written-sound}
+use Rattle.round_trip.proofs.RoundTrip.{rings_front, marked_own, read_none, written_none, written_sound}
 use Rattle.round_trip.proofs.RoundTrip.{read_then_written, written_then_read}
 use Rattle.rules.proofs.Parties.{own_rows_only}
 use Rattle.verdict.proofs.Judging.{admits_by, demand_2}
-use Rattle.limited.proofs.Checked.{limited-numbered}
+use Rattle.limited.proofs.Checked.{limited_numbered}
 use Rattle.promises.specs.Steps.{Serves}
 use Rattle.promises.proofs.Steps.{step_serves, run_serves}
 use Rattle.planner.specs.State.{stage_of, planner_of}
 use Rattle.planner.proofs.Only.{step_only}
 use Rattle.planner.proofs.Asks.{file_proper}
-use Rattle.planner.proofs.Promises.{admitted-table, steps_run, standings_between, never_refused, whole_is_steps, carried, exactly_one_plan}
+use Rattle.planner.proofs.Promises.{admitted_table, steps_run, standings_between, never_refused, whole_is_steps, carried, exactly_one_plan}
 use Rattle.limited.proofs.Promises.{limited_proper, same_plan}
 use Rattle.relay.proofs.Clear.{relay_clear}
 use Rattle.relay_jobs.proofs.Jobs.{two_held}
-use Rattle.relayed.proofs.Checked.{relayed-numbered}
+use Rattle.relayed.proofs.Checked.{relayed_numbered}
 use Rattle.relayed.proofs.Without.{as_without, same_table}
 use Rattle.relayed.proofs.Promises as relayed
 use Rattle.relayed.proofs.Promises.{relayed_proper, relayed_carried}
@@ -42,16 +42,16 @@ use Rattle.demands.proofs.Answered.{
   version_1_answered,
   written_answered,
   met_answered,
-  crowded-answered,
-  judged-answered,
-  limited-answered,
-  relayed-answered,
-  relayed-listed-answered,
-  listed-answered,
-  planned-answered,
-  stepped-answered,
-  stood-answered,
-  raised-answered,
+  crowded_answered,
+  judged_answered,
+  limited_answered,
+  relayed_answered,
+  relayed_listed_answered,
+  listed_answered,
+  planned_answered,
+  stepped_answered,
+  stood_answered,
+  raised_answered,
 }
 
 -- ---- demand 1
@@ -62,23 +62,23 @@ first = record {
   read_version_1 = version_1_answered;
   written = written_answered;
   met = met_answered;
-  crowded = crowded-answered;
-  judged = judged-answered;
-  listed = listed-answered;
-  planned = λ f. planned-answered (file_ask f) (file_proper f) (judged-answered f);
-  stepped = λ f. stepped-answered (file_ask f) (file_proper f) (judged-answered f);
-  stood = λ f. stood-answered (file_ask f) (file_proper f) (judged-answered f);
-  judged_limited = limited-answered;
+  crowded = crowded_answered;
+  judged = judged_answered;
+  listed = listed_answered;
+  planned = λ f. planned_answered (file_ask f) (file_proper f) (judged_answered f);
+  stepped = λ f. stepped_answered (file_ask f) (file_proper f) (judged_answered f);
+  stood = λ f. stood_answered (file_ask f) (file_proper f) (judged_answered f);
+  judged_limited = limited_answered;
   planned_limited = λ f our their.
-      planned-answered (limited_ask f our their) (limited_proper f our their) (limited-answered f our their);
+      planned_answered (limited_ask f our their) (limited_proper f our their) (limited_answered f our their);
   stepped_limited = λ f our their.
-      stepped-answered (limited_ask f our their) (limited_proper f our their) (limited-answered f our their);
-  judged_relayed = relayed-answered;
-  listed_relayed = relayed-listed-answered;
-  planned_relayed = λ f r. planned-answered (relayed_ask f r) (relayed_proper f r) (relayed-answered f r);
-  stepped_relayed = λ f r. stepped-answered (relayed_ask f r) (relayed_proper f r) (relayed-answered f r);
-  stood_relayed = λ f r. stood-answered (relayed_ask f r) (relayed_proper f r) (relayed-answered f r);
-  raised = raised-answered;
+      stepped_answered (limited_ask f our their) (limited_proper f our their) (limited_answered f our their);
+  judged_relayed = relayed_answered;
+  listed_relayed = relayed_listed_answered;
+  planned_relayed = λ f r. planned_answered (relayed_ask f r) (relayed_proper f r) (relayed_answered f r);
+  stepped_relayed = λ f r. stepped_answered (relayed_ask f r) (relayed_proper f r) (relayed_answered f r);
+  stood_relayed = λ f r. stood_answered (relayed_ask f r) (relayed_proper f r) (relayed_answered f r);
+  raised = raised_answered;
   one = answers_only;
   read_refused = λ f was now number place mark' version' elements rows c h. ⊎_elim (λ r. r.refused h) (λ r. r.refused h) c;
   write_refused = λ mark' version' elements rows xs was now number place c h. c.refused h;
@@ -97,8 +97,8 @@ first = record {
 second : Demand2
 second = record {
   admits = demand_2;
-  admits_limited = λ f our their. admits_by (limited-numbered f our their);
-  admits_relayed = λ f r. admits_by (relayed-numbered f r);
+  admits_limited = λ f our their. admits_by (limited_numbered f our their);
+  admits_relayed = λ f r. admits_by (relayed_numbered f r);
   own_rows_only = own_rows_only;
   relay_clear = relay_clear;
   as_without = as_without;
@@ -125,7 +125,7 @@ second = record {
       let z = call_must N W in
       let w = written_then_read m v M n xs was now place was' now' number' place' m' v' M' n' (rw z.0 at W) l R in
       let k = written_none m v M n xs (length was) N in
-      let size : length xs ≡ row_numbers * n = (written-sound (rings_of m) v M n xs (marked_own k.0).0 k.1).1 in
+      let size : length xs ≡ row_numbers * n = (written_sound (rings_of m) v M n xs (marked_own k.0).0 k.1).1 in
       (z.0, w.0, w.2, w.3, w.4, w.5, ap (λ (k : ℕ). take k now') size ∙ w.6);
   raises = raise_raises;
   raised = λ f was now number place c h. c.done h;
@@ -160,7 +160,7 @@ third = record {
       let S = step_serves t (planner_of p) (planner_of r.planner) k w.0 (P.admissible n.0) n.1 (ap stage_of s) w.1 in
       let e : take l now ≡ w.0 = ap (take l) w.2 ∙ lent_take w.0 was l (omega (arith, S.size)) in
       subst (Serves t (start t k) (end t k) (planner_of p) (planner_of r.planner)) (sym e) S;
-  first_steps = λ a k p ws P A s. run_serves a.table k (planner_of p) ws (admitted-table a P A) (steps_run s);
+  first_steps = λ a k p ws P A s. run_serves a.table k (planner_of p) ws (admitted_table a P A) (steps_run s);
   relayed_carried = relayed_carried;
   two_held = two_held;
   unused_relay = relayed.same_plan;

@@ -8,18 +8,18 @@ use native.Mathlib.Omega.{arith}
 use lib.ListN.{length}
 use Rattle.numbers.specs.Finite.{sum_in}
 use Rattle.numbers.specs.Rounding.{Rounded}
-use Rattle.numbers.proofs.Tests.{Test, le_test, eq_test, as-test, not_test, and-test, or-test, any-test}
+use Rattle.numbers.proofs.Tests.{Test, le_test, eq_test, as_test, not_test, and_test, or_test, any_test}
 use Rattle.rules.specs.Bounds.{max_rows}
 use Rattle.rules.specs.Bus.{Table}
 use Rattle.rules.specs.Line.{set_at, Sets}
 use Rattle.rules.specs.Loads.{hyperperiod, intervals, share}
 use Rattle.rules.specs.Planner.{Stage, due, finished, Planner, reached, Off}
-use Rattle.rules.proofs.Sets.{set-in}
+use Rattle.rules.proofs.Sets.{set_in}
 use Rattle.rules.proofs.Steps.{rounded_test}
 
 late_test : (s : Stage) (n : ℕ) → Test ((k : ℕ) × (s ≡ due k) × (n ≤ k))
 late_test (due k) n =
-    as-test (le_test n k) (λ h. (k, refl, h)) (λ w. let e = w.1 in let z : k ≡ w.0 = cc in omega (arith, w.2))
+    as_test (le_test n k) (λ h. (k, refl, h)) (λ w. let e = w.1 in let z : k ≡ w.0 = cc in omega (arith, w.2))
 late_test finished n = record { test = false; is = λ h. absurd h; of = λ w. let e = w.1 in let z : ◌≡◌ {A = ℕ} 0 1 = cc in omega arith }
 
 module _ (t : Table) (p : Planner) where
@@ -47,21 +47,21 @@ module _ (t : Table) (p : Planner) where
     off_of (inr (inl w)) = Off.row w.0 w.1 w.2
     off_of (inr (inr w)) = Off.set (set_at ws w.0) (A.each w.0 w.1) w.2
 
-    off-is : Off t p → (Late ⊎ Spare) ⊎ (Row ⊎ Set ws)
-    off-is (Off.late k e l) = inl (inl (k, e, l))
-    off-is (Off.spare i l m ne) = inl (inr (i, m, (l, ne)))
-    off-is (Off.row i l ne) = inr (inl (i, l, ne))
-    off-is (Off.set D o ne) =
-        let r = set-in A o in
+    off_is : Off t p → (Late ⊎ Spare) ⊎ (Row ⊎ Set ws)
+    off_is (Off.late k e l) = inl (inl (k, e, l))
+    off_is (Off.spare i l m ne) = inl (inr (i, m, (l, ne)))
+    off_is (Off.row i l ne) = inr (inl (i, l, ne))
+    off_is (Off.set D o ne) =
+        let r = set_in A o in
         inr (inr (r.0, r.1, λ w. ne (subst Kept r.2 w)))
 
-    pub off-test : Test (Off t p)
-    off-test =
-        as-test (or-test
-        (or-test (late_test p.stage (intervals t))
-        (any-test max_rows (λ i. and-test (le_test t.rows i) (not_test (eq_test (p.totals i) 0)))))
-        (or-test
-        (any-test t.rows (λ i. not_test (rounded_test (p.totals i) (share t i (reached t p.stage)) (hyperperiod t))))
-        (any-test (length ws) (λ k. not_test (rounded_test (sum_in t.rows (set_at ws k) p.totals)
+    pub off_test : Test (Off t p)
+    off_test =
+        as_test (or_test
+        (or_test (late_test p.stage (intervals t))
+        (any_test max_rows (λ i. and_test (le_test t.rows i) (not_test (eq_test (p.totals i) 0)))))
+        (or_test
+        (any_test t.rows (λ i. not_test (rounded_test (p.totals i) (share t i (reached t p.stage)) (hyperperiod t))))
+        (any_test (length ws) (λ k. not_test (rounded_test (sum_in t.rows (set_at ws k) p.totals)
         (sum_in t.rows (set_at ws k) (λ i. share t i (reached t p.stage))) (hyperperiod t))))))
-        off_of off-is
+        off_of off_is

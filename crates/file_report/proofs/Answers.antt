@@ -18,7 +18,7 @@ use Rattle.grammar.specs.TableText.{TextWritten}
 use Rattle.decimal.specs.Puts.{Puts}
 use Rattle.grammar.specs.Reports.{fault, refusal, FileOf, TextOf, longest_text, Made, refused, made}
 use Rattle.text_reader.proofs.Texts.{text_numbered}
-use Rattle.text_trip.proofs.Sounds.{text_rings_lem, text-sound}
+use Rattle.text_trip.proofs.Sounds.{text_rings_lem, text_sound}
 use Rattle.text_trip.proofs.Sizes.{file_short}
 use Rattle.text_trip.proofs.RoundTrip.{read_then_filed, file_then_said}
 
@@ -40,33 +40,33 @@ front size xs a l Q =
 
 module _ (t was now : List ℕ) (n p : ℕ) (m : List ℕ) (v M k : ℕ) (R : TextRead t was now n p m v M k)
     (room : row_numbers * max_rows ≤ length was) where
-  text-answers : Answers (text_checks t) n p
+  text_answers : Answers (text_checks t) n p
   unfolding text_reader_checks
-  text-answers =
+  text_answers =
       roomy (text_checks t) (length was < row_numbers * (text_table t).rows) n p
-      (λ a (l : length was < row_numbers * (text_table t).rows). let z : ⊥ = omega (arith, (text-sound t a).rows_high) in z) R.answers
+      (λ a (l : length was < row_numbers * (text_table t).rows). let z : ⊥ = omega (arith, (text_sound t a).rows_high) in z) R.answers
 
-  pub text-refused : (line column : ℕ) → n ≢ 0 → line ≡ line_at t p → column ≡ column_at t p → FileOf t (text_of (fault n line column))
-  text-refused line column h e f =
-      subst (FileOf t) (sym (ap₂ (λ (i j : ℕ). text_of (fault n i j)) e f)) (refused n p text-answers h)
+  pub text_refused : (line column : ℕ) → n ≢ 0 → line ≡ line_at t p → column ≡ column_at t p → FileOf t (text_of (fault n line column))
+  text_refused line column h e f =
+      subst (FileOf t) (sym (ap₂ (λ (i j : ℕ). text_of (fault n i j)) e f)) (refused n p text_answers h)
 
   module _ (z : n ≡ 0) where
     none : None (text_checks t)
-    none = none_of (text_checks t) p (text_numbered t) (rw z at text-answers)
+    none = none_of (text_checks t) p (text_numbered t) (rw z at text_answers)
 
-    pub text-few : k ≤ max_rows
-    text-few = omega (arith, (R.done z).3, (text-sound t none).rows_high)
+    pub text_few : k ≤ max_rows
+    text_few = omega (arith, (R.done z).3, (text_sound t none).rows_high)
 
-    pub text-marked : 3 ≤ length m
+    pub text_marked : 3 ≤ length m
     unfolding mark_of
-    text-marked =
+    text_marked =
         let e : length m ≡ length (mark_of (text_rings t)) = ap length (R.done z).0 in
         ⊎_elim (λ w. omega (arith, e, ap (λ (r : ℕ). length (mark_of r)) w)) (λ w. omega (arith, e, ap (λ (r : ℕ). length (mark_of r)) w))
         (text_rings_lem t)
 
-    pub text-made : (size : ℕ) (was' now' : List ℕ) (number place : ℕ) → size ≡ header_size + row_size (rings_of m) v * k
+    pub text_made : (size : ℕ) (was' now' : List ℕ) (number place : ℕ) → size ≡ header_size + row_size (rings_of m) v * k
         → size ≤ length was' → Written m v M k (take (row_numbers * k) now) was' now' number place → FileOf t (take size now')
-    text-made size was' now' number place e l W =
+    text_made size was' now' number place e l W =
         let d = read_then_filed t was now p m v M k was' now' number place (rw z at R) (omega (arith, e, l)) W in
         subst (FileOf t) (sym d.2 ∙ ap (λ (j : ℕ). take j now') (sym e)) (made (answered (text_checks t) none))
 
@@ -74,27 +74,27 @@ module _ (t was now : List ℕ) (n p : ℕ) (m : List ℕ) (v M k : ℕ) (R : Te
 
 module _ (f was now : List ℕ) (n p : ℕ) (m : List ℕ) (v M k : ℕ) (R : Read f was now n p m v M k)
     (room : row_numbers * max_rows ≤ length was) where
-  file-answers : Answers (file_checks f) n p
+  file_answers : Answers (file_checks f) n p
   unfolding reader_checks
-  file-answers =
+  file_answers =
       roomy (file_checks f) (length was < row_numbers * (file_table f).rows) n p
       (λ a (l : length was < row_numbers * (file_table f).rows). let z : ⊥ = omega (arith, (passed_none f a).sound.rows_high) in z)
       R.answers
 
-  pub file-refused : n ≢ 0 → TextOf f (text_of (refusal n p))
-  file-refused h = refused n p file-answers h
+  pub file_refused : n ≢ 0 → TextOf f (text_of (refusal n p))
+  file_refused h = refused n p file_answers h
 
   module _ (z : n ≡ 0) where
     passes : None (file_checks f)
-    passes = none_of (file_checks f) p (file_numbered f) (rw z at file-answers)
+    passes = none_of (file_checks f) p (file_numbered f) (rw z at file_answers)
 
-    pub file-few : k ≤ max_rows
-    file-few = omega (arith, (R.done z).3, (passed_none f passes).sound.rows_high)
+    pub file_few : k ≤ max_rows
+    file_few = omega (arith, (R.done z).3, (passed_none f passes).sound.rows_high)
 
-    pub file-made : (was' now' : List ℕ) (number place size : ℕ) → Bytes f → longest_text ≤ length was'
+    pub file_made : (was' now' : List ℕ) (number place size : ℕ) → Bytes f → longest_text ≤ length was'
         → TextWritten m v M k (take (row_numbers * k) now) was' now' number place size
         → (size ≤ longest_text) × TextOf f (take size now')
-    file-made was' now' number place size b l W =
+    file_made was' now' number place size b l W =
         let s = file_short f b passes in
         let d = file_then_said f was now p m v M k was' now' number place size (rw z at R) (omega (arith, s)) W in
         (omega (arith, s, d.2), subst (TextOf f) (sym d.3) (made (answered (file_checks f) passes)))

@@ -28,9 +28,9 @@ module _ (f was now : List ℕ) (n p e h k : ℕ) (R : ListRead f was now n p e 
   fits a = let r = file_right f a in omega (arith, entries_few l l.entries r.entry, r.hyper_high)
 
   -- so 17 is never given
-  pub read-answers : Answers (list_file_checks f) n p
+  pub read_answers : Answers (list_file_checks f) n p
   unfolding list_reader_checks Answers
-  read-answers =
+  read_answers =
       ⊎_elim (λ a. a)
       (λ q.
       ⊎_elim (λ w. absurd (let z : ⊥ = omega (arith, w.0, fits q.0, room) in z))
@@ -38,11 +38,11 @@ module _ (f was now : List ℕ) (n p e h k : ℕ) (R : ListRead f was now n p e 
       (answers_split (list_file_checks f) (short_output (length was < entry_numbers * l.entries) ∷ []) n p R.answers)
 
   pub read_refused : n ≢ 0 → ListPrinted f (list n p ∷ [])
-  read_refused z = refused n p read-answers z
+  read_refused z = refused n p read_answers z
 
   module _ (z : n ≡ 0) where
     none : None (list_file_checks f)
-    none = none_of (list_file_checks f) p (file_numbered f) (rw z at read-answers)
+    none = none_of (list_file_checks f) p (file_numbered f) (rw z at read_answers)
 
     pub read_fits : k ≤ 2 * max_slots
     read_fits = omega (arith, fits none, (R.done z).2)
@@ -69,8 +69,8 @@ module _ (f was now : List ℕ) (n p e h k : ℕ) (R : ListRead f was now n p e 
         ∙ each_eq l.entries (λ i. entry (memory_entry now i) ∷ []) (λ i. entry (l.entry i) ∷ [])
         (λ i m. ap (λ x. entry x ∷ []) (entries i m))
 
-    pub read-shown : ListPrinted f (list n p ∷ element e ∷ hyper h ∷ each k (λ i. entry (memory_entry now i) ∷ []))
-    read-shown =
+    pub read_shown : ListPrinted f (list n p ∷ element e ∷ hyper h ∷ each k (λ i. entry (memory_entry now i) ∷ []))
+    read_shown =
         let d = R.done z in
-        let a = answers_only (list_file_checks f) n 0 p 0 read-answers (answered (list_file_checks f) none) in
+        let a = answers_only (list_file_checks f) n 0 p 0 read_answers (answered (list_file_checks f) none) in
         rw (a.0, a.1, d.0, d.1, lines) (shown (answered (list_file_checks f) none))

@@ -124,8 +124,8 @@ module _ (n K : ℕ) (a b f s : ℕ → ℕ) (done done' m : ℕ) (l : m < n) (f
           )
 
   -- there is room for row m in its sets' sums
-  pub summed-room : (h : ℕ) → Parts n h f → n ≤ max_rows → (k : ℕ) → k < K → a m ≤ k → k ≤ b m → s k + f m ≤ part_most
-  summed-room h P few k g p q =
+  pub summed_room : (h : ℕ) → Parts n h f → n ≤ max_rows → (k : ℕ) → k < K → a m ≤ k → k ≤ b m → s k + f m ≤ part_most
+  summed_room h P few k g p q =
       omega (
         arith,
         t k g,

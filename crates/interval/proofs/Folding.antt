@@ -60,13 +60,13 @@ pub record Folding (K low upper : ℕ) (was : List ℕ) (m : ℕ) (vs : List ℕ
   pub rest : (k : ℕ) → m ≤ k → at vs k ≡ at was k
 
 module _ (K low upper : ℕ) (was : List ℕ) (e : length was ≡ max_rows) (few : K ≤ max_rows) where
-  pub folding-start : Folding K low upper was 0 was
-  folding-start = record { size = e; word = λ k i l. absurd (omega arith); rest = λ k l. refl }
+  pub folding_start : Folding K low upper was 0 was
+  folding_start = record { size = e; word = λ k i l. absurd (omega arith); rest = λ k l. refl }
 
-  pub folding-next : (m w : ℕ) (vs vs' : List ℕ) → Folding K low upper was m vs → m < K → Put (at vs) m w (at vs')
+  pub folding_next : (m w : ℕ) (vs vs' : List ℕ) → Folding K low upper was m vs → m < K → Put (at vs) m w (at vs')
       → length vs' ≡ max_rows
       → ((i : ℕ) → bit w i ≡ cond (bit upper i) (bit (at (take K vs) (low + m)) i) (bit (at vs m) i)) → Folding K low upper was (m + 1) vs'
-  folding-next m w vs vs' F l p s merged = record {
+  folding_next m w vs vs' F l p s merged = record {
     size = s;
     word = λ k i h. go k i h (ℕ_discrete k m);
     rest = λ k h. p.1 k (omega arith) ∙ F.rest k (omega arith);
@@ -91,9 +91,9 @@ module _ (K low upper : ℕ) (was : List ℕ) (e : length was ≡ max_rows) (few
 
 module _ (n bound K : ℕ) (first : ℕ → ℕ) (was : List ℕ) (e : length was ≡ max_rows) (few : K ≤ max_rows) (upper : ℕ)
     (is : upper ≡ upper_rows n bound first) where
-  pub folded-all : (low count : ℕ) (vs : List ℕ) → low ≡ low_sets upper (take K was) → count ≡ max low (K - low)
+  pub folded_all : (low count : ℕ) (vs : List ℕ) → low ≡ low_sets upper (take K was) → count ≡ max low (K - low)
       → Folding K low upper was count vs → FoldedSets n bound K first was (record { upper = upper; sets = count }) vs
-  folded-all low count vs q c F = record {
+  folded_all low count vs q c F = record {
     upper = is;
     sets = rw (sym q, front_length K was (omega (arith, e))) c;
     size = F.size;
@@ -102,9 +102,9 @@ module _ (n bound K : ℕ) (first : ℕ → ℕ) (was : List ℕ) (e : length wa
   }
 
   -- with one ring nothing is folded
-  pub folded-none : upper ≡ 0 → FoldedSets n bound K first was (record { upper = upper; sets = K }) was
-  folded-none z =
-      folded-all K K was (rw z (sym all)) (omega arith)
+  pub folded_none : upper ≡ 0 → FoldedSets n bound K first was (record { upper = upper; sets = K }) was
+  folded_none z =
+      folded_all K K was (rw z (sym all)) (omega arith)
       (record {
         size = e;
         word = λ k i l.

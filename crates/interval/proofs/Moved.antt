@@ -39,18 +39,18 @@ module _ {t : Table} {k : ℕ} {had : ℕ → ℕ} {now then : ℕ → ℕ} {ws 
   same : (after now ≡ after then) × (ws ≡ vs)
   same = step_only {p = record { stage = due k; totals = had }} (step_of_moved refl refl M) (step_of_moved refl refl N)
 
-  pub moved-words : ws ≡ vs
-  moved-words = same.1
+  pub moved_words : ws ≡ vs
+  moved_words = same.1
 
-  pub moved-totals : (i : ℕ) → now i ≡ then i
-  moved-totals i = ap (λ (p : Planner). p.totals i) same.0
+  pub moved_totals : (i : ℕ) → now i ≡ then i
+  moved_totals i = ap (λ (p : Planner). p.totals i) same.0
 
 pub advanced_only : {t : Table} {k : ℕ} {had now then was out to : List ℕ} → Advanced t k had now was out → Advanced t k had then was to
     → (now ≡ then) × (out ≡ to)
 advanced_only {t} {k} {had} {now} {then} {was} {out} {to} A B =
     let l : ℕ = end t k - start t k in (
-      ext_get_or 0 now then (A.size ∙ sym B.size) (λ i h. moved-totals A.moved B.moved i),
-      sym (take-append-drop l out) ∙ ap₂ ◌++◌ (moved-words A.moved B.moved) (A.kept.rest ∙ sym B.kept.rest)
+      ext_get_or 0 now then (A.size ∙ sym B.size) (λ i h. moved_totals A.moved B.moved i),
+      sym (take-append-drop l out) ∙ ap₂ ◌++◌ (moved_words A.moved B.moved) (A.kept.rest ∙ sym B.kept.rest)
           ∙ take-append-drop l to,
     )
 

@@ -12,7 +12,7 @@ use Rattle.numbers.specs.Finite.{only}
 use Rattle.numbers.specs.Rounding.{Rounded}
 use Rattle.numbers.specs.Word.{bit}
 use Rattle.numbers.proofs.Finite.{only_true, only_false, sum_in_eq}
-use Rattle.numbers.proofs.Rounding.{rounded-of, rounded_whole}
+use Rattle.numbers.proofs.Rounding.{rounded_of, rounded_whole}
 use Rattle.numbers.proofs.Word.{bit_shr, bit_zero, bit_or_lem}
 use Rattle.loads.proofs.Words.{or_same}
 use Rattle.rules.specs.Bounds.{max_rings}
@@ -57,29 +57,29 @@ nobody : (f : ℕ → ℕ) → on_ring 1 0 f ≡ none
 nobody f = fun_ext (λ i. only_false _ (f i) (ne_eqb (digit 0 i) 1 (λ q. omega (arith, digit_off 0 i (bit_zero i)))))
 
 pub rounded_none : (h : ℕ) → 0 < h → Rounded 0 0 h
-rounded_none h pos = rounded-of 0 h pos 0 (omega arith) (omega arith)
+rounded_none h pos = rounded_of 0 h pos 0 (omega arith) (omega arith)
 
 module _ (n K : ℕ) (a b : ℕ → ℕ) (h : ℕ) where
   -- only the parts and loads of the n rows count
-  qualified-eq : (f g x y : ℕ → ℕ) → ((i : ℕ) → i < n → f i ≡ g i) → ((i : ℕ) → i < n → x i ≡ y i) → Qualified n K a b h f none x
+  qualified_eq : (f g x y : ℕ → ℕ) → ((i : ℕ) → i < n → f i ≡ g i) → ((i : ℕ) → i < n → x i ≡ y i) → Qualified n K a b h f none x
       → Qualified n K a b h g none y
-  qualified-eq f g x y p q Q = record {
+  qualified_eq f g x y p q Q = record {
     rows = λ i l. rw (sym (p i l), sym (q i l)) (Q.rows i l);
     sets = λ k l.
         let D = in_set a b k in
         rw (sum_in_eq n D D g f (λ i m. refl) (λ i m t. sym (p i m)), sum_in_eq n D D y x (λ i m. refl) (λ i m t. sym (q i m))) (Q.sets k l);
   }
 
-  pub greatest-parts : (f g x : ℕ → ℕ) → ((i : ℕ) → i < n → f i ≡ g i) → Greatest n (Qualified n K a b h f none) x
+  pub greatest_parts : (f g x : ℕ → ℕ) → ((i : ℕ) → i < n → f i ≡ g i) → Greatest n (Qualified n K a b h f none) x
       → Greatest n (Qualified n K a b h g none) x
-  greatest-parts f g x p G = record {
-    qualify = qualified-eq f g x x p (λ i l. refl) G.qualify;
-    most = λ z q. G.most z (qualified-eq g f z z (λ i l. sym (p i l)) (λ i l. refl) q);
+  greatest_parts f g x p G = record {
+    qualify = qualified_eq f g x x p (λ i l. refl) G.qualify;
+    most = λ z q. G.most z (qualified_eq g f z z (λ i l. sym (p i l)) (λ i l. refl) q);
   }
 
   -- no loads of no parts
-  qualified-none : 0 < h → Qualified n K a b h none none none
-  qualified-none pos = record {
+  qualified_none : 0 < h → Qualified n K a b h none none none
+  qualified_none pos = record {
     rows = λ i l. rounded_none h pos;
     sets = λ k l. rw (sum_none n (in_set a b k)) (rounded_none h pos);
   }
@@ -105,7 +105,7 @@ module _ (n K : ℕ) (a b : ℕ → ℕ) (h : ℕ) where
 
         product : Greatest n (OnEach n K a b h upper f) y
         product = record {
-          qualify = λ d g. qualified-eq (on_ring d upper f) (on_ring d upper f) (x d) (on_ring d upper y) (λ i l. refl)
+          qualify = λ d g. qualified_eq (on_ring d upper f) (on_ring d upper f) (x d) (on_ring d upper y) (λ i l. refl)
               (λ i l. sym (own d g i l)) (G d g).qualify;
           most = λ z q i l eq.
               let d = digit upper i in
@@ -121,9 +121,9 @@ module _ (n K : ℕ) (a b : ℕ → ℕ) (h : ℕ) where
         }
 
     -- the words of both, joined
-    product-words : (v w : ℕ) → Greatest n (Qualified n K a b h (on_ring 0 upper f) none) (digit v)
+    product_words : (v w : ℕ) → Greatest n (Qualified n K a b h (on_ring 0 upper f) none) (digit v)
         → Greatest n (Qualified n K a b h (on_ring 1 upper f) none) (digit w) → Greatest n (OnEach n K a b h upper f) (digit (bit_or v w))
-    product-words v w G H = product (λ d. digit (word d)) each (digit (bit_or v w)) (λ i l. joined i l (digit upper i) refl)
+    product_words v w G H = product (λ d. digit (word d)) each (digit (bit_or v w)) (λ i l. joined i l (digit upper i) refl)
       where
         word : ℕ → ℕ
         word zero = v
@@ -140,15 +140,15 @@ module _ (n K : ℕ) (a b : ℕ → ℕ) (h : ℕ) where
 
   -- ---- one ring
 
-  product-one : (f x : ℕ → ℕ) → 0 < h → Greatest n (Qualified n K a b h f none) x → Greatest n (OnEach n K a b h 0 f) x
-  product-one f x pos G = record {
+  product_one : (f x : ℕ → ℕ) → 0 < h → Greatest n (Qualified n K a b h f none) x → Greatest n (OnEach n K a b h 0 f) x
+  product_one f x pos G = record {
     qualify = each;
     most = λ z q. G.most z (rw (alone f, alone z) at (q 0 (omega arith)));
   }
     where
       each : (d : ℕ) → d < max_rings → Qualified n K a b h (on_ring d 0 f) none (on_ring d 0 x)
       each zero l = rw (alone f, alone x) G.qualify
-      each (suc zero) l = rw (nobody f, nobody x) (qualified-none pos)
+      each (suc zero) l = rw (nobody f, nobody x) (qualified_none pos)
       each (suc (suc d)) l = absurd (omega arith)
 
 -- ---- ring after ring
@@ -161,29 +161,29 @@ rings_few upper d l = go (eqb upper 0) l
     go false l = l
 
 module _ (n K : ℕ) (a b : ℕ → ℕ) (h upper : ℕ) (f : ℕ → ℕ) (pos : 0 < h) where
-  pub chosen-start : Chosen n K a b h upper f 0 0
-  chosen-start = record { nothing = λ e. refl; one = λ e. absurd (omega arith); both = λ e. absurd (omega arith) }
+  pub chosen_start : Chosen n K a b h upper f 0 0
+  chosen_start = record { nothing = λ e. refl; one = λ e. absurd (omega arith); both = λ e. absurd (omega arith) }
 
-  pub chosen-next : (d rounded w : ℕ) → d < max_rings → Chosen n K a b h upper f d rounded
+  pub chosen_next : (d rounded w : ℕ) → d < max_rings → Chosen n K a b h upper f d rounded
       → Greatest n (Qualified n K a b h (on_ring d upper f) none) (digit w) → Chosen n K a b h upper f (d + 1) (bit_or rounded w)
-  chosen-next zero rounded w l C G = record {
+  chosen_next zero rounded w l C G = record {
     nothing = λ e. absurd (omega arith);
     one = λ e. let r : bit_or rounded w ≡ w = ap (λ (v : ℕ). bit_or v w) (C.nothing refl) ∙ or_zero_l w in rw r G;
     both = λ e. absurd (omega arith);
   }
-  chosen-next (suc zero) rounded w l C G = record {
+  chosen_next (suc zero) rounded w l C G = record {
     nothing = λ e. absurd (omega arith);
     one = λ e. absurd (omega arith);
-    both = λ e. product-words n K a b h upper f pos rounded w (C.one refl) G;
+    both = λ e. product_words n K a b h upper f pos rounded w (C.one refl) G;
   }
-  chosen-next (suc (suc d)) rounded w l C G = absurd (omega arith)
+  chosen_next (suc (suc d)) rounded w l C G = absurd (omega arith)
 
-  pub chosen-end : (d rounded : ℕ) → d ≡ ring_count upper → Chosen n K a b h upper f d rounded
+  pub chosen_end : (d rounded : ℕ) → d ≡ ring_count upper → Chosen n K a b h upper f d rounded
       → Greatest n (OnEach n K a b h upper f) (digit rounded)
-  chosen-end d rounded e C = go (ℕ_discrete upper 0)
+  chosen_end d rounded e C = go (ℕ_discrete upper 0)
     where
       go : Dec (upper ≡ 0) → Greatest n (OnEach n K a b h upper f) (digit rounded)
       go (yes z) =
           let q : d ≡ 1 = e ∙ rw (eq-eqb upper 0 z) refl in
-          rw z (product-one n K a b h f (digit rounded) pos (rw (z, alone f) at (C.one q)))
+          rw z (product_one n K a b h f (digit rounded) pos (rw (z, alone f) at (C.one q)))
       go (no z) = C.both (e ∙ rw (ne_eqb upper 0 z) refl)

@@ -28,8 +28,8 @@ use Rattle.interval.proofs.Unfolding.{ring_sets, in_line}
 module _ (n M : ℕ) (first second : ℕ → ℕ) (upper : ℕ) (line : (i : ℕ) → i < n → first i < second i) (pos : 0 < n)
     (own : (i : ℕ) → i < n → (digit upper i * (M + 1) < first i) × (second i ≤ digit upper i * (M + 1) + (M + 1))) where
   -- rows of a ring end before those of a later one start, so they don't overlap
-  ends-before : (i j : ℕ) → i < n → j < n → digit upper i < digit upper j → second i < first j
-  ends-before i j l m h =
+  ends_before : (i j : ℕ) → i < n → j < n → digit upper i < digit upper j → second i < first j
+  ends_before i j l m h =
       let g : digit upper i + 1 ≤ digit upper j = omega arith in
       omega (arith, own i l, own j m, mul-le-mul_right (M + 1) g)
 
@@ -38,8 +38,8 @@ module _ (n M : ℕ) (first second : ℕ → ℕ) (upper : ℕ) (line : (i : ℕ
   one_ring i j l m t = go (dec_lt (digit upper i) (digit upper j)) (dec_lt (digit upper j) (digit upper i))
     where
       go : Dec (digit upper i < digit upper j) → Dec (digit upper j < digit upper i) → digit upper i ≡ digit upper j
-      go (yes h) d = absurd (omega (arith, ends-before i j l m h, ltb→lt (first j) (second i) (snd (ltb (first i) (second j)) _ t)))
-      go (no c) (yes h) = absurd (omega (arith, ends-before j i m l h, ltb→lt (first i) (second j) (fst (ltb (first i) (second j)) _ t)))
+      go (yes h) d = absurd (omega (arith, ends_before i j l m h, ltb→lt (first j) (second i) (snd (ltb (first i) (second j)) _ t)))
+      go (no c) (yes h) = absurd (omega (arith, ends_before j i m l h, ltb→lt (first i) (second j) (fst (ltb (first i) (second j)) _ t)))
       go (no c) (no d) = omega arith
 
   module _ (ws : List ℕ) (S : SetList n (meet first second) second ws) where
@@ -109,10 +109,10 @@ module _ (n M : ℕ) (first second : ℕ → ℕ) (upper : ℕ) (line : (i : ℕ
             absurd (of_false (ap not (eq-eqb (bit_and (at ws low) upper) 0 empty)) (lowest_has (length ws) has (omega arith)))
 
     -- so a set is one of its rows' ring
-    pub in-ring : (m i : ℕ) → m < length ws → T (bit (at ws m) i)
+    pub in_ring : (m i : ℕ) → m < length ws → T (bit (at ws m) i)
         → (k : ℕ) × (k < ring_sets low (length ws) (digit upper i)) × (m ≡ digit upper i * low + k)
     unfolding ring_sets
-    in-ring m i h t = go (bit upper i) refl
+    in_ring m i h t = go (bit upper i) refl
       where
         go : (b : Bool) → bit upper i ≡ b → (k : ℕ) × (k < ring_sets low (length ws) (digit upper i)) × (m ≡ digit upper i * low + k)
         go false e = rw (digit_off upper i e) (m, below m i h t e, omega arith)
@@ -127,21 +127,21 @@ module _ (n M : ℕ) (first second : ℕ → ℕ) (upper : ℕ) (line : (i : ℕ
     some = lowest_le (length ws) has
 
     -- the rows of a ring's set are of that ring
-    of-ring : (d k i : ℕ) → d < max_rings → k < ring_sets low (length ws) d → T (bit (at ws (d * low + k)) i) → digit upper i ≡ d
+    of_ring : (d k i : ℕ) → d < max_rings → k < ring_sets low (length ws) d → T (bit (at ws (d * low + k)) i) → digit upper i ≡ d
     unfolding ring_sets
-    of-ring zero k i g l t = go (bit upper i) refl
+    of_ring zero k i g l t = go (bit upper i) refl
       where
         go : (b : Bool) → bit upper i ≡ b → digit upper i ≡ 0
         go false e = digit_off upper i e
         go true e = let h : k < low = l in absurd (omega (arith, above (0 * low + k) i t e))
-    of-ring (suc zero) k i g l t = go (bit upper i) refl
+    of_ring (suc zero) k i g l t = go (bit upper i) refl
       where
         go : (b : Bool) → bit upper i ≡ b → digit upper i ≡ 1
         go false e =
             let h : k < length ws - low = l in
             absurd (omega (arith, below (1 * low + k) i (omega (arith, some)) t e))
         go true e = digit_on upper i e
-    of-ring (suc (suc d)) k i g l t = absurd (omega arith)
+    of_ring (suc (suc d)) k i g l t = absurd (omega arith)
 
     -- a ring's sets have least second ends that ascend, each past the ring's first element
     abbrev End : (d k f : ℕ) → Type 0
@@ -156,7 +156,7 @@ module _ (n M : ℕ) (first second : ℕ → ℕ) (upper : ℕ) (line : (i : ℕ
             let c = closed n first second line pos o in
             let j = c.2.reached in
             let l = o.rows j.0 j.1 in
-            let w : digit upper j.0 ≡ d = of-ring d k j.0 g h j.1 in
+            let w : digit upper j.0 ≡ d = of_ring d k j.0 g h j.1 in
             let r = rw w at (own j.0 l) in
             (c.0, c.2, omega (arith, j.2, r, line j.0 l), omega (arith, j.2, r))
 
@@ -175,6 +175,6 @@ module _ (n M : ℕ) (first second : ℕ → ℕ) (upper : ℕ) (line : (i : ℕ
         go zero e = omega arith
         go (suc K) e = let r = rise d K g (omega arith) in omega (arith, r.2, r.3)
 
-    pub few-folded : max low (length ws - low) ≤ M
+    pub few_folded : max low (length ws - low) ≤ M
     unfolding ring_sets
-    few-folded = let a : low ≤ M = few 0 (omega arith) in let b : length ws - low ≤ M = few 1 (omega arith) in omega arith
+    few_folded = let a : low ≤ M = few 0 (omega arith) in let b : length ws - low ≤ M = few 1 (omega arith) in omega arith

@@ -74,8 +74,8 @@ module _ (n K K' low : ℕ) (a b : ℕ → ℕ) (h upper : ℕ) (pos : 0 < h) (s
       ∙ only_comm (eqb (digit upper i) d) (in_set a b k i) (x i))
 
   -- past the last set of a ring there is nothing of it
-  no-sum : (d k : ℕ) → ring_sets low K d ≤ k → (x : ℕ → ℕ) → sum_in n (in_set a b k) (on_ring d upper x) ≡ 0
-  no-sum d k l x = sum_zero n _ (λ i m. go i m (ℕ_discrete (digit upper i) d))
+  no_sum : (d k : ℕ) → ring_sets low K d ≤ k → (x : ℕ → ℕ) → sum_in n (in_set a b k) (on_ring d upper x) ≡ 0
+  no_sum d k l x = sum_zero n _ (λ i m. go i m (ℕ_discrete (digit upper i) d))
     where
       go : (i : ℕ) → i < n → Dec (digit upper i ≡ d) → only (in_set a b k i) (on_ring d upper x i) ≡ 0
       go i m (yes e) =
@@ -101,7 +101,7 @@ module _ (n K K' low : ℕ) (a b : ℕ → ℕ) (h upper : ℕ) (pos : 0 < h) (s
             rw (sum_none n (in_set a b k), sym (set_sum d k g l x), sym (set_sum d k g l f))
             (rw (sum_none n (in_set (up a) (up b) (d * low + k))) at (Q.sets (d * low + k) (in_line low K d k some g l)))
         set k (no l) =
-            rw (sum_none n (in_set a b k), no-sum d k (omega arith) x, no-sum d k (omega arith) f) (rounded_none h pos)
+            rw (sum_none n (in_set a b k), no_sum d k (omega arith) x, no_sum d k (omega arith) f) (rounded_none h pos)
 
     of_each : OnEach n K' a b h upper f x → Qualified n K (up a) (up b) h f none x
     unfolding ring_sets
@@ -127,5 +127,5 @@ module _ (n K K' low : ℕ) (a b : ℕ → ℕ) (h upper : ℕ) (pos : 0 < h) (s
             let r : m - low < K - low = omega arith in
             rw e at (one 1 (m - low) (omega arith) r)
 
-  pub unfolded-greatest : (f x : ℕ → ℕ) → Greatest n (OnEach n K' a b h upper f) x → Greatest n (Qualified n K (up a) (up b) h f none) x
-  unfolded-greatest f x G = record { qualify = of_each f x G.qualify; most = λ z q. G.most z (each_of f z q) }
+  pub unfolded_greatest : (f x : ℕ → ℕ) → Greatest n (OnEach n K' a b h upper f) x → Greatest n (Qualified n K (up a) (up b) h f none) x
+  unfolded_greatest f x G = record { qualify = of_each f x G.qualify; most = λ z q. G.most z (each_of f z q) }

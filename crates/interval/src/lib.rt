@@ -1,6 +1,6 @@
 // One planning interval of an admitted table, in pieces: from totals that keep step at its first slot to its loads and the totals after it
 // (document 01, "Loads of one interval, and its slots"). Who plans intervals calls them in turn, and then fills the slots; that they make
-// an interval is a law (proofs/Course, `advanced-of`).
+// an interval is a law (proofs/Course, `advanced_of`).
 #![tactic(auto)]
 
 mod choice;

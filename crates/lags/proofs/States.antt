@@ -16,8 +16,8 @@ use Rattle.rules.specs.Loads.{hyperperiod, start, end, intervals}
 use Rattle.rules.specs.Planner.{due, finished, Planner, fresh, reached, Off, standing, next, Step}
 use Rattle.table.specs.Sound.{Sound}
 use Rattle.lags.specs.Lags.{Admissible, Steady, NotOff}
-use Rattle.lags.proofs.Lags.{steady_eq, row-ahead, row-behind, row_whole, steady-fresh, steady_next}
-use Rattle.lags.proofs.Intervals.{periods-whole, start_first, end-next, start-last, intervals-positive}
+use Rattle.lags.proofs.Lags.{steady_eq, row_ahead, row_behind, row_whole, steady_fresh, steady_next}
+use Rattle.lags.proofs.Intervals.{periods_whole, start_first, end_next, start_last, intervals_positive}
 
 -- ---- the planner's state
 
@@ -55,8 +55,8 @@ next_finished t k e = rw (is_true (eqb (k + 1) (intervals t)) (eqb_of (k + 1) (i
 pub next_reached : {t : Table} → Sound t → (k : ℕ) → k < intervals t → reached t (next t k) ≡ end t k
 next_reached {t} S k l =
     ⊎_elim
-    (λ e. ap (reached t) (next_finished t k e) ∙ sym (start-last S) ∙ ap (start t) (sym e) ∙ sym (end-next S k))
-    (λ m. ap (reached t) (next_due t k m) ∙ sym (end-next S k))
+    (λ e. ap (reached t) (next_finished t k e) ∙ sym (start_last S) ∙ ap (start t) (sym e) ∙ sym (end_next S k))
+    (λ m. ap (reached t) (next_due t k m) ∙ sym (end_next S k))
     (eq-or-lt_of_le (omega arith))
 
 pub next_number : (t : Table) (k m : ℕ) → k < intervals t → next t k ≡ due m → m < intervals t
@@ -69,16 +69,16 @@ next_number t k m l e =
 module _ {t : Table} (A : Admissible t) where
   -- ---- states that are not off
 
-  pub not-off-fresh : NotOff t fresh
-  not-off-fresh = record {
-    number = λ k e. let z : k ≡ 0 = cc in omega (arith, intervals-positive A.sound);
+  pub not_off_fresh : NotOff t fresh
+  not_off_fresh = record {
+    number = λ k e. let z : k ≡ 0 = cc in omega (arith, intervals_positive A.sound);
     spare = λ i l m. refl;
-    steady = rw (start_first A.sound) (steady-fresh A);
+    steady = rw (start_first A.sound) (steady_fresh A);
   }
 
   -- a step from a state that is not off leads to one that is not off
-  pub not-off-next : {p q : Planner} {ws : List ℕ} → NotOff t p → Step t p q ws → NotOff t q
-  not-off-next {p} {q} n s =
+  pub not_off_next : {p q : Planner} {ws : List ℕ} → NotOff t p → Step t p q ws → NotOff t q
+  not_off_next {p} {q} n s =
       let k = s.interval in
       let l : k < intervals t = n.number k s.is_due in
       let e : reached t q.stage ≡ end t k = ap (reached t) s.after ∙ next_reached A.sound k l in
@@ -94,16 +94,16 @@ module _ {t : Table} (A : Admissible t) where
   -- ---- standings
 
   module _ {p : Planner} (n : NotOff t p) (i : ℕ) (l : i < t.rows) where
-    pub standing-below : standing t p i <ℤ pos (hyperperiod t)
+    pub standing_below : standing t p i <ℤ pos (hyperperiod t)
     unfolding standing
-    standing-below = diff_below _ _ (hyperperiod t) (row-ahead A n.steady i l)
+    standing_below = diff_below _ _ (hyperperiod t) (row_ahead A n.steady i l)
 
-    pub standing-above : neg_ℤ (pos (hyperperiod t)) <ℤ standing t p i
+    pub standing_above : neg_ℤ (pos (hyperperiod t)) <ℤ standing t p i
     unfolding standing
-    standing-above = diff_above _ _ (hyperperiod t) (row-behind A n.steady i l)
+    standing_above = diff_above _ _ (hyperperiod t) (row_behind A n.steady i l)
 
     -- finished: exactly the cost of every job
-    pub finished-total : p.stage ≡ finished → p.totals i ≡ t.cost i * (hyperperiod t / t.period i)
-    finished-total e =
+    pub finished_total : p.stage ≡ finished → p.totals i ≡ t.cost i * (hyperperiod t / t.period i)
+    finished_total e =
         let st : Steady t (hyperperiod t) p.totals = rw e at n.steady in
-        row_whole A st i (hyperperiod t / t.period i) l (sym (periods-whole A.sound i l))
+        row_whole A st i (hyperperiod t / t.period i) l (sym (periods_whole A.sound i l))

@@ -19,16 +19,16 @@ use Rattle.table.specs.declared.Answer.{Answer}
 use Rattle.outline.specs.declared.Outline.{Outline}
 use Rattle.outline.specs.Outlined.{Outlined}
 use Rattle.limited.specs.Limits.{labelled}
-use Rattle.limited.proofs.Within.{limit-numbered}
-use Rattle.outline.proofs.Outlined.{line-numbered}
+use Rattle.limited.proofs.Within.{limit_numbered}
+use Rattle.outline.proofs.Outlined.{line_numbered}
 use Rattle.lags.specs.Lags.{Admissible}
-use Rattle.verdict.proofs.Bound.{bound-numbered, verdict_split, admissible_of}
-use Rattle.pasted.proofs.OneRing.{one-ring-numbered}
+use Rattle.verdict.proofs.Bound.{bound_numbered, verdict_split, admissible_of}
+use Rattle.pasted.proofs.OneRing.{one_ring_numbered}
 use Rattle.verdict.specs.declared.Analysis.{Analysis}
 use Rattle.verdict.specs.declared.Verdict.{Verdict}
 use Rattle.verdict.specs.Verdict.{JudgedBy}
 use Rattle.verdict.specs.Analysed.{table_checks, blank, Rated, Analysed}
-use Rattle.verdict.proofs.Judging.{judged-by-only}
+use Rattle.verdict.proofs.Judging.{judged_by_only}
 use Rattle.verdict.proofs.Analysing.{analysed_refused, analysed_after, line_none}
 use Rattle.limited.specs.Limited.{within_checks}
 
@@ -42,24 +42,24 @@ module _ (t : Table) (label : List ℕ) (our their : ℕ) where
   past = limit_checks l our their ++ bound_checks t
 
   -- 10 or 11
-  pub within-line : (o : Outline) → Outlined (line_checks t) t o → o.answer.number ≢ 0
+  pub within_line : (o : Outline) → Outlined (line_checks t) t o → o.answer.number ≢ 0
       → Analysed (within_checks l our their) t (blank o.answer)
-  within-line o O h = analysed_refused o.answer h (stopped (line_checks t) past o.answer.number o.answer.place h O.answers)
+  within_line o O h = analysed_refused o.answer h (stopped (line_checks t) past o.answer.number o.answer.place h O.answers)
 
   module _ {o : Outline} {i : ℕ} {xs : List ℕ} (R : Rated t o i xs) (k : Answer)
       (K : Answers (limit_checks l our their) k.number k.place) where
     -- 21 or 22
-    pub within-limit : k.number ≢ 0 → Analysed (within_checks l our their) t (blank k)
-    within-limit h =
+    pub within_limit : k.number ≢ 0 → Analysed (within_checks l our their) t (blank k)
+    within_limit h =
         analysed_after (line_checks t) past (line_none t R)
         (analysed_refused k h (stopped (limit_checks l our their) (bound_checks t) k.number k.place h K))
 
     -- then what is weighed
-    pub within-bound : k.number ≡ 0 → {a : Analysis} → Analysed (bound_checks t) t a → Analysed (within_checks l our their) t a
-    within-bound z A =
+    pub within_bound : k.number ≡ 0 → {a : Analysis} → Analysed (bound_checks t) t a → Analysed (within_checks l our their) t a
+    within_bound z A =
         analysed_after (line_checks t) past (line_none t R)
         (analysed_after (limit_checks l our their) (bound_checks t)
-        (none_of (limit_checks l our their) k.place (limit-numbered l our their) (rw z at K)) A)
+        (none_of (limit_checks l our their) k.place (limit_numbered l our their) (rw z at K)) A)
 
 -- a table with labels that columns hold
 pub within_held : (t : Table) (label : List ℕ) (u : Labelled) (our their : ℕ) → t ≡ u.table → at label ≡ u.label → {a : Analysis}
@@ -82,45 +82,45 @@ module _ (f : List ℕ) (our their : ℕ) where
   rest = first ++ within_checks (file_labelled f) our their
 
   -- 23
-  pub limits-wrong : {b : Bool} → b ≡ (ltb max_limit our || ltb max_limit their) → b ≡ true → (r : Answer)
+  pub limits_wrong : {b : Bool} → b ≡ (ltb max_limit our || ltb max_limit their) → b ≡ true → (r : Answer)
       → r.number ≡ 23 → r.place ≡ 0 → Analysed (limited_checks f our their) (file_table f) (blank r)
   unfolding limited_checks
-  limits-wrong e t r n p =
+  limits_wrong e t r n p =
       analysed_refused r (omega (arith, n))
       (applied wrong rest r.number r.place
       (⊎_elim (λ x. inl (ltb→lt max_limit our x)) (λ x. inr (ltb→lt max_limit their x))
       (or_cases (ltb max_limit our) (ltb max_limit their) (of_true (sym e ∙ t)))) n p)
 
   module _ {b : Bool} (e : b ≡ (ltb max_limit our || ltb max_limit their)) (w : b ≡ false) where
-    pub limits-low : (our ≤ max_limit) × (their ≤ max_limit)
-    limits-low =
+    pub limits_low : (our ≤ max_limit) × (their ≤ max_limit)
+    limits_low =
         let no = of_false (sym e ∙ w) in
         let one : max_limit < our → ⊥ = λ x. no (orl (ltb max_limit our) (ltb max_limit their) (lt→ltb max_limit our x)) in
         let other : max_limit < their → ⊥ = λ x. no (orr (ltb max_limit our) (ltb max_limit their) (lt→ltb max_limit their x)) in
         (omega (arith, one), omega (arith, other))
 
-    not-wrong : wrong.applies → ⊥
-    not-wrong = ⊎_elim (λ x. omega (arith, x, limits-low.0)) (λ x. omega (arith, x, limits-low.1))
+    not_wrong : wrong.applies → ⊥
+    not_wrong = ⊎_elim (λ x. omega (arith, x, limits_low.0)) (λ x. omega (arith, x, limits_low.1))
 
     abbrev after : List Check
     after = within_checks (file_labelled f) our their
 
     -- 1 to 9 or 18
-    pub limits-given : (r : Answer) → r.number ≢ 0 → Answers first r.number r.place
+    pub limits_given : (r : Answer) → r.number ≢ 0 → Answers first r.number r.place
         → Analysed (limited_checks f our their) (file_table f) (blank r)
     unfolding limited_checks
-    limits-given r h a =
+    limits_given r h a =
         analysed_refused r h
-        (passed wrong rest r.number r.place not-wrong (stopped first after r.number r.place h a))
+        (passed wrong rest r.number r.place not_wrong (stopped first after r.number r.place h a))
 
     -- past these its table's analysis within limits is the file's
-    pub limits-past : (p : ℕ) → Answers first 0 p → {a : Analysis}
+    pub limits_past : (p : ℕ) → Answers first 0 p → {a : Analysis}
         → Analysed (within_checks (file_labelled f) our their) (file_table f) a → Analysed (limited_checks f our their) (file_table f) a
     unfolding limited_checks
-    limits-past p g {a} A =
-        let B = analysed_after first after (none_of first p (one-ring-numbered f) g) A in
+    limits_past p g {a} A =
+        let B = analysed_after first after (none_of first p (one_ring_numbered f) g) A in
         record {
-          answers = passed wrong rest a.outline.answer.number a.outline.answer.place not-wrong B.answers;
+          answers = passed wrong rest a.outline.answer.number a.outline.answer.place not_wrong B.answers;
           found = B.found;
           refused = B.refused;
         }
@@ -134,19 +134,19 @@ module _ (f : List ℕ) (our their : ℕ) where
   abbrev limits : List Check
   limits = limit_checks (file_labelled f) our their
 
-  pub limited-numbered : Numbered (limited_checks f our their)
+  pub limited_numbered : Numbered (limited_checks f our their)
   unfolding limited_checks Numbered
-  limited-numbered = (
+  limited_numbered = (
     omega arith,
-    numbered_join (one_ring_checks f (given_checks f)) (line_checks t ++ (limits ++ bound_checks t)) (one-ring-numbered f)
-        (numbered_join (line_checks t) (limits ++ bound_checks t) (line-numbered t)
-        (numbered_join limits (bound_checks t) (limit-numbered (file_labelled f) our their) (bound-numbered t))),
+    numbered_join (one_ring_checks f (given_checks f)) (line_checks t ++ (limits ++ bound_checks t)) (one_ring_numbered f)
+        (numbered_join (line_checks t) (limits ++ bound_checks t) (line_numbered t)
+        (numbered_join limits (bound_checks t) (limit_numbered (file_labelled f) our their) (bound_numbered t))),
   )
 
   -- a table that passes them passes the verdict's
-  pub limited-none : None (limited_checks f our their) → None (verdict_checks f)
+  pub limited_none : None (limited_checks f our their) → None (verdict_checks f)
   unfolding limited_checks None
-  limited-none n =
+  limited_none n =
       let given : None (given_checks f ++ (line_checks t ++ (limits ++ bound_checks t))) = n.1.1.1 in
       let past = none_right (given_checks f) (line_checks t ++ (limits ++ bound_checks t)) given in
       rw (verdict_split f)
@@ -154,8 +154,8 @@ module _ (f : List ℕ) (our their : ℕ) where
       (none_join (line_checks t) (bound_checks t) (none_left (line_checks t) (limits ++ bound_checks t) past)
       (none_right limits (bound_checks t) (none_right (line_checks t) (limits ++ bound_checks t) past))))
 
-  pub limited-admissible : None (limited_checks f our their) → Admissible t
-  limited-admissible n = admissible_of f (limited-none n)
+  pub limited_admissible : None (limited_checks f our their) → Admissible t
+  limited_admissible n = admissible_of f (limited_none n)
 
-  pub limited-only : (r s : Verdict) → JudgedBy (limited_checks f our their) t r → JudgedBy (limited_checks f our their) t s → r ≡ s
-  limited-only = judged-by-only (λ n. (limited-admissible n).sound.rows_low) limited-numbered
+  pub limited_only : (r s : Verdict) → JudgedBy (limited_checks f our their) t r → JudgedBy (limited_checks f our their) t s → r ≡ s
+  limited_only = judged_by_only (λ n. (limited_admissible n).sound.rows_low) limited_numbered

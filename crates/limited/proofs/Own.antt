@@ -16,11 +16,11 @@ use Rattle.numbers.specs.Lists.{at, each}
 use Rattle.numbers.proofs.Truth.{same, le_or_lt}
 use Rattle.numbers.proofs.Finite.{sum_split, sum_eq, sum_in_eq, sum_in_scaled, only_and}
 use Rattle.numbers.proofs.Lists.{at_append_right, at_map}
-use Rattle.numbers.proofs.Divisors.{Positive, lcm-multiple, lcm-divides}
+use Rattle.numbers.proofs.Divisors.{Positive, lcm_multiple, lcm_divides}
 use Rattle.rules.specs.Bus.{Table, Labelled, clockwise, uses}
 use Rattle.rules.specs.Loads.{hyperperiod, rate}
 use Rattle.table.specs.Sound.{Sound}
-use Rattle.lags.proofs.Intervals.{period-positive, period-divides, hyperperiod-positive}
+use Rattle.lags.proofs.Intervals.{period_positive, period_divides, hyperperiod_positive}
 use Rattle.rules.specs.Parties.{Party, owns, rows_of, own, segment_load, is_over_limit}
 
 -- ---- numbers that are picked
@@ -93,93 +93,93 @@ module _ (p : Party) (u : Labelled) (S : Sound u.table) (one : u.table.rings ≡
   unfolding rows_of
   row_below k l = picked_below t.rows owned k l
 
-  alone-rows : alone.rows ≡ length rows
+  alone_rows : alone.rows ≡ length rows
   unfolding own
-  alone-rows = refl
+  alone_rows = refl
 
-  alone-period : (k : ℕ) → k < length rows → alone.period k ≡ t.period (at rows k)
+  alone_period : (k : ℕ) → k < length rows → alone.period k ≡ t.period (at rows k)
   unfolding own
-  alone-period k l = at_map t.period rows k l
+  alone_period k l = at_map t.period rows k l
 
-  alone-cost : (k : ℕ) → k < length rows → alone.cost k ≡ t.cost (at rows k)
+  alone_cost : (k : ℕ) → k < length rows → alone.cost k ≡ t.cost (at rows k)
   unfolding own
-  alone-cost k l = at_map t.cost rows k l
+  alone_cost k l = at_map t.cost rows k l
 
-  alone-uses : (k s : ℕ) → k < length rows → uses alone k s ≡ uses t (at rows k) s
+  alone_uses : (k s : ℕ) → k < length rows → uses alone k s ≡ uses t (at rows k) s
   unfolding own uses
-  alone-uses k s l =
+  alone_uses k s l =
       let clock : t.way (at rows k) ≡ clockwise = omega (arith, one, (S.row (at rows k) (row_below k l)).way_known) in
       rw (at_map t.first rows k l, at_map t.second rows k l, clock) refl
 
-  alone-positive : Positive alone.rows alone.period
-  alone-positive k l =
-      let m : k < length rows = omega (arith, alone-rows, l) in
-      rw (alone-period k m) (period-positive S (at rows k) (row_below k m))
+  alone_positive : Positive alone.rows alone.period
+  alone_positive k l =
+      let m : k < length rows = omega (arith, alone_rows, l) in
+      rw (alone_period k m) (period_positive S (at rows k) (row_below k m))
 
-  own-divides : (k : ℕ) → k < length rows → t.period (at rows k) ∣ H
+  own_divides : (k : ℕ) → k < length rows → t.period (at rows k) ∣ H
   unfolding hyperperiod
-  own-divides k l = rw (sym (alone-period k l)) (lcm-multiple alone.rows alone.period alone-positive k (omega (arith, alone-rows, l)))
+  own_divides k l = rw (sym (alone_period k l)) (lcm_multiple alone.rows alone.period alone_positive k (omega (arith, alone_rows, l)))
 
   grows : H ∣ h
   unfolding hyperperiod
   grows =
-      lcm-divides alone.rows alone.period alone-positive h
+      lcm_divides alone.rows alone.period alone_positive h
       (λ k l.
-      let m : k < length rows = omega (arith, alone-rows, l) in
-      rw (alone-period k m) (period-divides S (at rows k) (row_below k m)))
+      let m : k < length rows = omega (arith, alone_rows, l) in
+      rw (alone_period k m) (period_divides S (at rows k) (row_below k m)))
 
   -- how many of the party's own hyperperiods make one of all rows
   abbrev times : ℕ
   times = h / H
 
-  times-whole : times * H ≡ h
-  times-whole = div-mul_cancel H grows
+  times_whole : times * H ≡ h
+  times_whole = div-mul_cancel H grows
 
-  times-positive : (n : ℕ) → n * H ≡ h → 0 < n
-  times-positive zero e = omega (arith, hyperperiod-positive S, e)
-  times-positive (suc n) e = omega arith
+  times_positive : (n : ℕ) → n * H ≡ h → 0 < n
+  times_positive zero e = omega (arith, hyperperiod_positive S, e)
+  times_positive (suc n) e = omega arith
 
-  jobs-grow : (k : ℕ) → k < length rows → h / t.period (at rows k) ≡ times * (H / t.period (at rows k))
-  jobs-grow k l =
+  jobs_grow : (k : ℕ) → k < length rows → h / t.period (at rows k) ≡ times * (H / t.period (at rows k))
+  jobs_grow k l =
       let q = t.period (at rows k) in
-      let each-whole : H / q * q ≡ H = div-mul_cancel q (own-divides k l) in
-      let whole : times * (H / q) * q ≡ h = mul_assoc times (H / q) q ∙ ap (λ (x : ℕ). times * x) each-whole ∙ times-whole in
-      ap (λ (x : ℕ). x / q) (sym whole) ∙ mul-div_cancel (times * (H / q)) (period-positive S (at rows k) (row_below k l))
+      let each-whole : H / q * q ≡ H = div-mul_cancel q (own_divides k l) in
+      let whole : times * (H / q) * q ≡ h = mul_assoc times (H / q) q ∙ ap (λ (x : ℕ). times * x) each-whole ∙ times_whole in
+      ap (λ (x : ℕ). x / q) (sym whole) ∙ mul-div_cancel (times * (H / q)) (period_positive S (at rows k) (row_below k l))
 
-  rate-grows : (k : ℕ) → k < length rows → rate t (at rows k) ≡ rate alone k * times
+  rate_grows : (k : ℕ) → k < length rows → rate t (at rows k) ≡ rate alone k * times
   unfolding rate
-  rate-grows k l =
+  rate_grows k l =
       let q = t.period (at rows k) in
       let c = t.cost (at rows k) in
       let alone-rate : H / alone.period k * alone.cost k ≡ H / q * c =
-      ap₂ (λ (x y : ℕ). H / x * y) (alone-period k l) (alone-cost k l) in
-      ap (λ (x : ℕ). x * c) (jobs-grow k l) ∙ mul_assoc times (H / q) c ∙ mul_comm times (H / q * c)
+      ap₂ (λ (x y : ℕ). H / x * y) (alone_period k l) (alone_cost k l) in
+      ap (λ (x : ℕ). x * c) (jobs_grow k l) ∙ mul_assoc times (H / q) c ∙ mul_comm times (H / q * c)
       ∙ ap (λ (x : ℕ). x * times) (sym alone-rate)
 
   -- what the party's rows weigh on a segment, over the h of all rows
   abbrev among : ℕ → ℕ
   among s = sum_in t.rows (λ i. owned i && uses t i s) (rate t)
 
-  pub load-grows : (s : ℕ) → among s ≡ segment_load alone s * times
+  pub load_grows : (s : ℕ) → among s ≡ segment_load alone s * times
   unfolding rows_of
-  load-grows s =
+  load_grows s =
       sum_eq t.rows (λ i. only (owned i && uses t i s) (rate t i)) (λ i. only (owned i) (only (uses t i s) (rate t i)))
       (λ i l. only_and (owned i) (uses t i s) (rate t i))
       ∙ sym (picked_sum t.rows owned (λ i. only (uses t i s) (rate t i)))
       ∙ sum_in_eq (length rows) (λ k. uses t (at rows k) s) (λ k. uses alone k s) (λ k. rate t (at rows k)) (λ k. rate alone k * times)
-      (λ k l. sym (alone-uses k s l)) (λ k l u. rate-grows k l)
+      (λ k l. sym (alone_uses k s l)) (λ k l u. rate_grows k l)
       ∙ sum_in_scaled (length rows) (λ k. uses alone k s) (rate alone) times
-      ∙ ap (λ (n : ℕ). sum_in n (λ k. uses alone k s) (rate alone) * times) (sym alone-rows)
+      ∙ ap (λ (n : ℕ). sum_in n (λ k. uses alone k s) (rate alone) * times) (sym alone_rows)
 
-  pub over-among : (limit s : ℕ) → is_over_limit alone limit s ≡ ltb (limit * h) (1000 * among s)
+  pub over_among : (limit s : ℕ) → is_over_limit alone limit s ≡ ltb (limit * h) (1000 * among s)
   unfolding is_over_limit
-  over-among limit s =
-      let left : limit * H * times ≡ limit * h = mul_assoc limit H times ∙ ap (λ (x : ℕ). limit * x) (mul_comm H times ∙ times-whole) in
+  over_among limit s =
+      let left : limit * H * times ≡ limit * h = mul_assoc limit H times ∙ ap (λ (x : ℕ). limit * x) (mul_comm H times ∙ times_whole) in
       let right : 1000 * segment_load alone s * times ≡ 1000 * among s =
-      mul_assoc 1000 (segment_load alone s) times ∙ ap (λ (x : ℕ). 1000 * x) (sym (load-grows s)) in
+      mul_assoc 1000 (segment_load alone s) times ∙ ap (λ (x : ℕ). 1000 * x) (sym (load_grows s)) in
       same (ltb (limit * H) (1000 * segment_load alone s)) (ltb (limit * h) (1000 * among s))
       (λ u. lt→ltb (limit * h) (1000 * among s)
       (rw (sym left, sym right)
-      (mul-lt-mul_of_pos_right (ltb→lt (limit * H) (1000 * segment_load alone s) u) (times-positive times times-whole))))
+      (mul-lt-mul_of_pos_right (ltb→lt (limit * H) (1000 * segment_load alone s) u) (times_positive times times_whole))))
       (λ u. lt→ltb (limit * H) (1000 * segment_load alone s)
       (lt_of_mul-lt-mul_right times (rw (left, right) (ltb→lt (limit * h) (1000 * among s) u))))

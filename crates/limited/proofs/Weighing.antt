@@ -25,11 +25,11 @@ module _ (rate segments label : List ℕ) (b : Bool) (s : ℕ) where
   next n = sum_next n (λ i. only (counted i) (at rate i))
 
   -- a row that counts, and one that doesn't
-  pub weight-more : (n : ℕ) → counted n ≡ true → weight_on (n + 1) rate segments label b s ≡ weight_on n rate segments label b s + at rate n
-  weight-more n e = next n ∙ ap (λ (x : ℕ). weight_on n rate segments label b s + x) (only_true (counted n) (at rate n) e)
+  pub weight_more : (n : ℕ) → counted n ≡ true → weight_on (n + 1) rate segments label b s ≡ weight_on n rate segments label b s + at rate n
+  weight_more n e = next n ∙ ap (λ (x : ℕ). weight_on n rate segments label b s + x) (only_true (counted n) (at rate n) e)
 
-  pub weight-same : (n : ℕ) → counted n ≡ false → weight_on (n + 1) rate segments label b s ≡ weight_on n rate segments label b s
-  weight-same n e = omega (arith, next n, only_false (counted n) (at rate n) e)
+  pub weight_same : (n : ℕ) → counted n ≡ false → weight_on (n + 1) rate segments label b s ≡ weight_on n rate segments label b s
+  weight_same n e = omega (arith, next n, only_false (counted n) (at rate n) e)
 
   pub weight_small : (n m : ℕ) → RatesFit n rate → m ≤ n → weight_on m rate segments label b s ≤ n * max_slots
   unfolding weight_on

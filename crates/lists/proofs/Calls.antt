@@ -19,7 +19,7 @@ use Rattle.rules.specs.ElementList.{
 use Rattle.rules.specs.Refusals.{Answers, list_file_checks, list_reader_checks, list_memory_checks, list_writer_checks}
 use Rattle.rules.specs.Calls.{lent, ListRead, ListWritten}
 use Rattle.rules.proofs.Answers.{None}
-use Rattle.rules.proofs.Calls.{call-refused, call-short, call-done, call_only}
+use Rattle.rules.proofs.Calls.{call_refused, call_short, call_done, call_only}
 use Rattle.lists.specs.Entries.{IsEntry, entry_of}
 use Rattle.lists.specs.declared.Entry.{Entry as Place}
 use Rattle.lists.proofs.Heads.{file_numbered, memory_numbered}
@@ -39,17 +39,17 @@ module _ (f was : List ℕ) where
 
   pub read_refused : (m p : ℕ) → Answers (list_file_checks f) m p → m ≢ 0 → ListRead f was was m p 0 0 0
   unfolding list_reader_checks
-  read_refused m p a h = call-refused (list_file_checks f) short a h (refl, refl, refl, refl)
+  read_refused m p a h = call_refused (list_file_checks f) short a h (refl, refl, refl, refl)
 
   pub read_short : None (list_file_checks f) → short → ListRead f was was 17 0 0 0 0
   unfolding list_reader_checks
-  read_short a h = call-short (list_file_checks f) short a h (refl, refl, refl, refl)
+  read_short a h = call_short (list_file_checks f) short a h (refl, refl, refl, refl)
 
   pub read_done : (now : List ℕ) (m p e h n : ℕ) → Answers (list_file_checks f) m p → m ≡ 0 → (short → ⊥)
       → (e ≡ (file_list f).element) × (h ≡ (file_list f).hyper) × (n ≡ (file_list f).entries) × (now ≡ lent (list_numbers (file_list f)) was)
       → ListRead f was now m p e h n
   unfolding list_reader_checks
-  read_done now m p e h n a z s d = call-done (list_file_checks f) short (file_numbered f) a z s d
+  read_done now m p e h n a z s d = call_done (list_file_checks f) short (file_numbered f) a z s d
 
 pub read_only : (f was now now' : List ℕ) (m n p q e e' h h' k k' : ℕ) → ListRead f was now m p e h k → ListRead f was now' n q e' h' k'
     → (m ≡ n) × (p ≡ q) × (e ≡ e') × (h ≡ h') × (k ≡ k') × (now ≡ now')
@@ -68,18 +68,18 @@ module _ (e h : ℕ) (xs was : List ℕ) where
   abbrev cramped : Type 0
   cramped = length was < list_header + entry_size * (memory_list e h xs).entries
 
-  pub written-refused : (m p : ℕ) → Answers (list_memory_checks e h xs) m p → m ≢ 0 → ListWritten e h xs was was m p
+  pub written_refused : (m p : ℕ) → Answers (list_memory_checks e h xs) m p → m ≢ 0 → ListWritten e h xs was was m p
   unfolding list_writer_checks
-  written-refused m p a z = call-refused (list_memory_checks e h xs) cramped a z refl
+  written_refused m p a z = call_refused (list_memory_checks e h xs) cramped a z refl
 
-  pub written-short : None (list_memory_checks e h xs) → cramped → ListWritten e h xs was was 17 0
+  pub written_short : None (list_memory_checks e h xs) → cramped → ListWritten e h xs was was 17 0
   unfolding list_writer_checks
-  written-short a z = call-short (list_memory_checks e h xs) cramped a z refl
+  written_short a z = call_short (list_memory_checks e h xs) cramped a z refl
 
-  pub written-done : (now : List ℕ) (m p : ℕ) → Answers (list_memory_checks e h xs) m p → m ≡ 0 → (cramped → ⊥)
+  pub written_done : (now : List ℕ) (m p : ℕ) → Answers (list_memory_checks e h xs) m p → m ≡ 0 → (cramped → ⊥)
       → now ≡ lent (list_bytes (memory_list e h xs)) was → ListWritten e h xs was now m p
   unfolding list_writer_checks
-  written-done now m p a z s d = call-done (list_memory_checks e h xs) cramped (memory_numbered e h xs) a z s d
+  written_done now m p a z s d = call_done (list_memory_checks e h xs) cramped (memory_numbered e h xs) a z s d
 
 pub written_only : (e h : ℕ) (xs was now now' : List ℕ) (m n p q : ℕ) → ListWritten e h xs was now m p → ListWritten e h xs was now' n q
     → (m ≡ n) × (p ≡ q) × (now ≡ now')

@@ -10,7 +10,7 @@ use Rattle.numbers.specs.Lists.{each}
 use Rattle.numbers.proofs.Truth.{le_or_lt}
 use Rattle.rules.specs.ElementList.{Entry, ElementList, Rises}
 use Rattle.rules.specs.Refusals.{Answers, wrong_entry}
-use Rattle.rules.proofs.Answers.{single-none, single-stopped, answered}
+use Rattle.rules.proofs.Answers.{single_none, single_stopped, answered}
 use Rattle.lists.specs.Entries.{rank, Wrong, Leaves, FirstWrong, IsEntry, entry_of}
 use Rattle.lists.specs.declared.Entry.{Entry as Place}
 
@@ -40,18 +40,18 @@ module _ {l : ElementList} {k least : ℕ} (C : Checked l k least) where
       C.after
 
   -- it is wrong, exactly if its place or its rank says so
-  is-wrong : Wrong l.hyper least x → (wrong_entry l k).applies
-  is-wrong w = ⊎_elim inl (λ v. ⊎_elim (λ h. inr (inl h)) (λ u. inr (inr (⊎_elim inl (λ h. inr (out_of_order h)) u))) v) w
+  is_wrong : Wrong l.hyper least x → (wrong_entry l k).applies
+  is_wrong w = ⊎_elim inl (λ v. ⊎_elim (λ h. inr (inl h)) (λ u. inr (inr (⊎_elim inl (λ h. inr (out_of_order h)) u))) v) w
 
   module _ (f : Wrong l.hyper least x → ⊥) where
-    low-slot : x.slot < l.hyper
-    low-slot = ⊎_elim (λ h. absurd (f (inl h))) (λ h. h) (le_or_lt l.hyper x.slot)
+    low_slot : x.slot < l.hyper
+    low_slot = ⊎_elim (λ h. absurd (f (inl h))) (λ h. h) (le_or_lt l.hyper x.slot)
 
-    low-way : x.way ≤ 1
-    low-way = ⊎_elim (λ h. h) (λ h. absurd (f (inr (inr (inl h))))) (le_or_lt x.way 1)
+    low_way : x.way ≤ 1
+    low_way = ⊎_elim (λ h. h) (λ h. absurd (f (inr (inr (inl h))))) (le_or_lt x.way 1)
 
-    high-rank : least ≤ rank x
-    high-rank = ⊎_elim (λ h. h) (λ h. absurd (f (inr (inr (inr h))))) (le_or_lt least (rank x))
+    high_rank : least ≤ rank x
+    high_rank = ⊎_elim (λ h. h) (λ h. absurd (f (inr (inr (inr h))))) (le_or_lt least (rank x))
 
     rises : Rises l k
     rises =
@@ -59,8 +59,8 @@ module _ {l : ElementList} {k least : ℕ} (C : Checked l k least) where
         (λ z.
         inr (⊎_elim
         (λ (h : x.slot ≤ (l.entry (k - 1)).slot).
-        let e : (l.entry (k - 1)).slot ≡ x.slot = omega (arith, z.1, z.2, high-rank, low-way) in
-        inr (e, omega (arith, z.1, high-rank)))
+        let e : (l.entry (k - 1)).slot ≡ x.slot = omega (arith, z.1, z.2, high_rank, low_way) in
+        inr (e, omega (arith, z.1, high_rank)))
         inl
         (le_or_lt x.slot (l.entry (k - 1)).slot)))
         C.after
@@ -71,12 +71,12 @@ module _ {l : ElementList} {k least : ℕ} (C : Checked l k least) where
     nearly : (j : ℕ) → j < k + 1 → (j ≡ k) ⊎ (j < k)
     nearly j h = ⊎_elim (λ (q : k ≤ j). inl (omega arith)) inr (le_or_lt k j)
 
-    checked-next : Checked l (k + 1) (rank x + 1)
-    checked-next = record {
+    checked_next : Checked l (k + 1) (rank x + 1)
+    checked_next = record {
       clean = λ j h. ⊎_elim (λ (e : j ≡ k). rw e right) (λ q. C.clean j q) (nearly j h);
-      few = omega (arith, C.few, high-rank);
-      within = omega (arith, low-slot, low-way);
-      after = let e : k + 1 - 1 ≡ k = omega arith in rw e (inr (omega arith, refl, low-way));
+      few = omega (arith, C.few, high_rank);
+      within = omega (arith, low_slot, low_way);
+      after = let e : k + 1 - 1 ≡ k = omega arith in rw e (inr (omega arith, refl, low_way));
     }
 
 -- where none of n is wrong, the first k are checked
@@ -85,7 +85,7 @@ checked_all : (l : ElementList) (n : ℕ) → ((k : ℕ) → k < n → (wrong_en
 checked_all l n h zero m = (0, checked_start l)
 checked_all l n h (suc k) m =
     let q = checked_all l n h k (omega arith) in
-    let C = checked-next q.1 (λ w. h k (omega arith) (is-wrong q.1 w)) in
+    let C = checked_next q.1 (λ w. h k (omega arith) (is_wrong q.1 w)) in
     let e : k + 1 ≡ suc k = omega arith in
     (rank (l.entry k) + 1, rw e at C)
 
@@ -101,10 +101,10 @@ module _ {l : ElementList} {k least m : ℕ} {x : Place} (q : IsEntry (l.entry k
   same w = rw (q.slot, q.row, q.way) at w
 
   pub read_next : m ≢ 0 → Checked l (k + 1) m
-  read_next n = rw (L.next n, q.slot, q.way) (checked-next C (rw (q.slot, q.row, q.way) at (L.right n)))
+  read_next n = rw (L.next n, q.slot, q.way) (checked_next C (rw (q.slot, q.row, q.way) at (L.right n)))
 
-  pub read-stop : (n : ℕ) → k < n → m ≡ 0 → FirstWrong l n k
-  read-stop n h z = record { most = omega arith; clean = C.clean; wrong = λ y. is-wrong C (same (L.wrong z)) }
+  pub read_stop : (n : ℕ) → k < n → m ≡ 0 → FirstWrong l n k
+  read_stop n h z = record { most = omega arith; clean = C.clean; wrong = λ y. is_wrong C (same (L.wrong z)) }
 
 pub checked_end : {l : ElementList} {k least : ℕ} (n : ℕ) → Checked l k least → k ≡ n → FirstWrong l n k
 checked_end n C q = record { most = omega arith; clean = C.clean; wrong = λ y. absurd (let z : ⊥ = omega arith in z) }
@@ -112,13 +112,13 @@ checked_end n C q = record { most = omega arith; clean = C.clean; wrong = λ y. 
 -- ---- check 31, by the first wrong one
 
 module _ {l : ElementList} {n k : ℕ} (F : FirstWrong l n k) where
-  pub first-few : k ≤ 2 * l.hyper
-  first-few = entries_few l k F.clean
+  pub first_few : k ≤ 2 * l.hyper
+  first_few = entries_few l k F.clean
 
   pub first_stops : k < n → Answers (each n (λ k. wrong_entry l k ∷ [])) 31 k
-  first_stops h = single-stopped (wrong_entry l) n k h (λ z. let y : ⊥ = omega arith in y) F.clean (F.wrong h)
+  first_stops h = single_stopped (wrong_entry l) n k h (λ z. let y : ⊥ = omega arith in y) F.clean (F.wrong h)
 
   pub first_none : n ≤ k → Answers (each n (λ k. wrong_entry l k ∷ [])) 0 0
   first_none h =
       let none : (j : ℕ) → j < n → (wrong_entry l j).applies → ⊥ = λ j i. F.clean j (omega arith) in
-      answered (each n (λ k. wrong_entry l k ∷ [])) (single-none (wrong_entry l) n none)
+      answered (each n (λ k. wrong_entry l k ∷ [])) (single_none (wrong_entry l) n none)

@@ -24,9 +24,9 @@ use Rattle.rules.proofs.Answers.{
   None,
   Numbered,
   none_left,
-  none-single,
-  single-none,
-  single-numbered,
+  none_single,
+  single_none,
+  single_numbered,
   numbered_join,
   applied,
   passed,
@@ -59,14 +59,14 @@ none_right_list l a =
       element_high = e.1;
       hyper_low = h.0;
       hyper_high = h.1;
-      entry = none-single (wrong_entry l) l.entries a.1;
+      entry = none_single (wrong_entry l) l.entries a.1;
     }
 
 pub right_list_none : (l : ElementList) → Right l → None (entry_checks l)
 unfolding entry_checks None
 right_list_none l r = (
   ⊎_elim (λ h. h (r.element_low, r.element_high)) (λ h. h (r.hyper_low, r.hyper_high)),
-  single-none (wrong_entry l) l.entries r.entry,
+  single_none (wrong_entry l) l.entries r.entry,
 )
 
 -- what fits a list fits its file
@@ -77,7 +77,7 @@ right_fits {l} r = record {
 }
 
 entries_numbered : (l : ElementList) → Numbered (entries l)
-entries_numbered l = single-numbered (wrong_entry l) l.entries (λ k z. let y : ⊥ = omega arith in y)
+entries_numbered l = single_numbered (wrong_entry l) l.entries (λ k z. let y : ⊥ = omega arith in y)
 
 -- ---- a list file
 
@@ -146,32 +146,32 @@ unfolding list_memory_checks entry_checks Numbered
 memory_numbered e h xs = (omega arith, (omega arith, entries_numbered (memory_list e h xs)))
 
 module _ (e h : ℕ) (xs : List ℕ) where
-  pub memory-right : None (list_memory_checks e h xs) → Right (memory_list e h xs)
+  pub memory_right : None (list_memory_checks e h xs) → Right (memory_list e h xs)
   unfolding list_memory_checks None
-  memory-right a = none_right_list (memory_list e h xs) a.1
+  memory_right a = none_right_list (memory_list e h xs) a.1
 
-  pub memory-whole : None (list_memory_checks e h xs) → length xs ≡ entry_numbers * (memory_list e h xs).entries
+  pub memory_whole : None (list_memory_checks e h xs) → length xs ≡ entry_numbers * (memory_list e h xs).entries
   unfolding list_memory_checks None
-  memory-whole a = let r : length xs % entry_numbers ≡ 0 = equals _ 0 a.0 in omega (arith, r)
+  memory_whole a = let r : length xs % entry_numbers ≡ 0 = equals _ 0 a.0 in omega (arith, r)
 
-  pub right-memory : length xs ≡ entry_numbers * (memory_list e h xs).entries → Right (memory_list e h xs) → None (list_memory_checks e h xs)
+  pub right_memory : length xs ≡ entry_numbers * (memory_list e h xs).entries → Right (memory_list e h xs) → None (list_memory_checks e h xs)
   unfolding list_memory_checks None
-  right-memory s r = (λ h. h (omega (arith, s)), right_list_none (memory_list e h xs) r)
+  right_memory s r = (λ h. h (omega (arith, s)), right_list_none (memory_list e h xs) r)
 
   -- 6 refuses; 30 does; the entries decide
-  pub memory-part : (n p : ℕ) → length xs % entry_numbers ≢ 0 → (n ≡ 6) × (p ≡ 0) → Answers (list_memory_checks e h xs) n p
+  pub memory_part : (n p : ℕ) → length xs % entry_numbers ≢ 0 → (n ≡ 6) × (p ≡ 0) → Answers (list_memory_checks e h xs) n p
   unfolding list_memory_checks
-  memory-part n p l q = applied _ _ n p l q.0 q.1
+  memory_part n p l q = applied _ _ n p l q.0 q.1
 
   module _ (w : length xs % entry_numbers ≡ 0) where
-    pub memory-bounds : (n p : ℕ) → n ≢ 0 → Answers (wrong_list (memory_list e h xs) ∷ []) n p → Answers (list_memory_checks e h xs) n p
+    pub memory_bounds : (n p : ℕ) → n ≢ 0 → Answers (wrong_list (memory_list e h xs) ∷ []) n p → Answers (list_memory_checks e h xs) n p
     unfolding list_memory_checks entry_checks
-    memory-bounds n p z a = passed _ _ n p (λ q. q w) (stopped (wrong_list (memory_list e h xs) ∷ []) (entries (memory_list e h xs)) n p z a)
+    memory_bounds n p z a = passed _ _ n p (λ q. q w) (stopped (wrong_list (memory_list e h xs) ∷ []) (entries (memory_list e h xs)) n p z a)
 
-    pub memory-entries : (n p : ℕ) → None (wrong_list (memory_list e h xs) ∷ []) → Answers (entries (memory_list e h xs)) n p
+    pub memory_entries : (n p : ℕ) → None (wrong_list (memory_list e h xs) ∷ []) → Answers (entries (memory_list e h xs)) n p
         → Answers (list_memory_checks e h xs) n p
     unfolding list_memory_checks entry_checks
-    memory-entries n p z a = passed _ _ n p (λ q. q w) (joined (wrong_list (memory_list e h xs) ∷ []) (entries (memory_list e h xs)) n p z a)
+    memory_entries n p z a = passed _ _ n p (λ q. q w) (joined (wrong_list (memory_list e h xs) ∷ []) (entries (memory_list e h xs)) n p z a)
 
 -- 30 alone
 pub bounds_numbered : (l : ElementList) → Numbered (wrong_list l ∷ [])

@@ -42,9 +42,9 @@ use Rattle.lists.proofs.Heads.{
   file_right,
   passed_none,
   memory_numbered,
-  memory-right,
-  memory-whole,
-  right-memory,
+  memory_right,
+  memory_whole,
+  right_memory,
 }
 
 pub record AlikeLists (l m : ElementList) : Type 0 where
@@ -89,14 +89,14 @@ right_alike {l} {m} q r = record {
 -- ---- what stands in a file, and in a slice
 
 module _ (l : ElementList) (i : ℕ) (h : i < l.entries) where
-  file-at : (j : ℕ) → j < entry_size → at (list_bytes l) (list_header + entry_size * i + j) ≡ at (in_file (l.entry i)) j
+  file_at : (j : ℕ) → j < entry_size → at (list_bytes l) (list_header + entry_size * i + j) ≡ at (in_file (l.entry i)) j
   unfolding list_bytes
-  file-at j m =
+  file_at j m =
       row_place list_header entry_size l.entries (file_head l.element l.hyper) (λ k. in_file (l.entry k)) refl (λ k h. refl) i j h m
 
-  memory-at : (j : ℕ) → j < entry_numbers → at (list_numbers l) (entry_numbers * i + j) ≡ at (in_memory (l.entry i)) j
+  memory_at : (j : ℕ) → j < entry_numbers → at (list_numbers l) (entry_numbers * i + j) ≡ at (in_memory (l.entry i)) j
   unfolding list_numbers
-  memory-at j m = rw zero-add at (row_place 0 entry_numbers l.entries [] (λ k. in_memory (l.entry k)) refl (λ k h. refl) i j h m)
+  memory_at j m = rw zero-add at (row_place 0 entry_numbers l.entries [] (λ k. in_memory (l.entry k)) refl (λ k h. refl) i j h m)
 
 pub numbers_length : (l : ElementList) → length (list_numbers l) ≡ entry_numbers * l.entries
 unfolding list_numbers
@@ -129,9 +129,9 @@ file_back l = record {
   entries = let e = bytes_length l in omega (arith, e);
   entry = λ i h.
       entry_eq (file_entry (list_bytes l) i) (l.entry i)
-      (ap₂ (λ (a b : ℕ). a + 256 * b) (rw add-zero at (file-at l i h 0 (omega arith))) (file-at l i h 1 (omega arith))
+      (ap₂ (λ (a b : ℕ). a + 256 * b) (rw add-zero at (file_at l i h 0 (omega arith))) (file_at l i h 1 (omega arith))
       ∙ low_high (l.entry i).slot)
-      (file-at l i h 2 (omega arith)) (file-at l i h 3 (omega arith));
+      (file_at l i h 2 (omega arith)) (file_at l i h 3 (omega arith));
 }
 
 pub memory_back : (l : ElementList) → AlikeLists (memory_list l.element l.hyper (list_numbers l)) l
@@ -140,8 +140,8 @@ memory_back l = record {
   hyper = refl;
   entries = let e = numbers_length l in omega (arith, e);
   entry = λ i h.
-      entry_eq (memory_entry (list_numbers l) i) (l.entry i) (rw add-zero at (memory-at l i h 0 (omega arith)))
-      (memory-at l i h 1 (omega arith)) (memory-at l i h 2 (omega arith));
+      entry_eq (memory_entry (list_numbers l) i) (l.entry i) (rw add-zero at (memory_at l i h 0 (omega arith)))
+      (memory_at l i h 1 (omega arith)) (memory_at l i h 2 (omega arith));
 }
 
 -- ---- the file or slice of a list is what the list was read from
@@ -192,7 +192,7 @@ pub read_passes : (f : List ℕ) → None (list_file_checks f)
     → None (list_memory_checks (file_list f).element (file_list f).hyper (list_numbers (file_list f)))
 read_passes f a =
     let q = memory_back (file_list f) in
-    right-memory (file_list f).element (file_list f).hyper (list_numbers (file_list f))
+    right_memory (file_list f).element (file_list f).hyper (list_numbers (file_list f))
     (numbers_length (file_list f) ∙ ap (λ (n : ℕ). entry_numbers * n) (sym q.entries)) (right_alike q (file_right f a))
 
 -- what the list's own checks pass, its file's checks pass
@@ -267,11 +267,11 @@ written_then_read e h xs was now p was' now' number place e' h' n' c l r =
     let m : ElementList = memory_list e h xs in
     let size : ℕ = list_header + entry_size * m.entries in
     let a = written_none e h xs (length was) (call_none (writer_numbered e h xs (length was)) c) in
-    let whole : length xs ≡ entry_numbers * m.entries = memory-whole e h xs a in
+    let whole : length xs ≡ entry_numbers * m.entries = memory_whole e h xs a in
     let file : take size now ≡ list_bytes m = ap (take size) (c.done refl) ∙ lent_take (list_bytes m) was size (bytes_length m) in
     let q : AlikeLists (file_list (take size now)) m = rw file (file_back m) in
     let none : None (list_reader_checks (take size now) (length was')) =
-    reader_none (take size now) (length was') (rw file (bytes_pass m (memory-right e h xs a))) (omega (arith, l, whole, q.entries)) in
+    reader_none (take size now) (length was') (rw file (bytes_pass m (memory_right e h xs a))) (omega (arith, l, whole, q.entries)) in
     let z = call_must none r in
     let all : list_numbers (file_list (take size now)) ≡ xs = numbers_alike q ∙ numbers_whole e h xs whole in (
       z.0,

@@ -24,7 +24,7 @@ use Rattle.live.specs.declared.Entry.{Entry}
 use Rattle.live.specs.State.{live_of, entry_of, row_of, blank, unchanged, PutIn}
 use Rattle.live.specs.Answers.{Sized, NewAnswer, AddAnswer, RemoveAnswer}
 use Rattle.live.proofs.Kept.{fewer_common}
-use Rattle.live.proofs.State.{blank_is_lem, blank_sized, put_is, put-sized, put-common}
+use Rattle.live.proofs.State.{blank_is_lem, blank_sized, put_is, put_sized, put_common}
 use Rattle.live.proofs.Order.{common_positive}
 
 pub answer_done : (a : Answer) → (a.number ≡ 0) × (a.place ≡ 0) → a ≡ record { number = 0; place = 0 }
@@ -71,13 +71,13 @@ some_free l h t =
 -- ---- the denominator after a change
 
 module _ {l r : Live} {k : ℕ} {row : Entry} (Z : Sized l) (h : k < max_rows) (P : PutIn l k row r) where
-  pub put-long : r.denominator ≡ 0 → max_slots < common (placed (live_of l) k (entry_of row))
-  put-long z = omega (arith, capped_none P.denominator z (common_positive (at r.period)), put-common Z h P)
+  pub put_long : r.denominator ≡ 0 → max_slots < common (placed (live_of l) k (entry_of row))
+  put_long z = omega (arith, capped_none P.denominator z (common_positive (at r.period)), put_common Z h P)
 
-  pub put-short : r.denominator ≢ 0 → common (placed (live_of l) k (entry_of row)) ≤ max_slots
-  put-short n =
+  pub put_short : r.denominator ≢ 0 → common (placed (live_of l) k (entry_of row)) ≤ max_slots
+  put_short n =
       let c = capped_some P.denominator n in
-      omega (arith, c.0, c.1, put-common Z h P)
+      omega (arith, c.0, c.1, put_common Z h P)
 
 -- ---- an addition
 
@@ -96,49 +96,49 @@ module _ (l : Live) (row : Entry) where
   SeatNumber n = n ≡ cond (repeated L e) 18 (cond (eqb (free L) max_rows) 24 0)
 
   -- the answer of a refusal
-  pub add-refused : (n : ℕ) → n ≢ 0 → Sized l → Answers (add_checks L e) n 0 → AddAnswer l row (unchanged l n)
-  add-refused n h Z a = record {
+  pub add_refused : (n : ℕ) → n ≢ 0 → Sized l → Answers (add_checks L e) n 0 → AddAnswer l row (unchanged l n)
+  add_refused n h Z a = record {
     added = record { answers = a; done = λ z. absurd (h z); refused = λ z. (refl, refl) };
     same = λ z. refl;
     size = Z;
   }
 
-  pub add-off : Sized l → (InOrder L → ⊥) → AddAnswer l row (unchanged l 15)
-  add-off Z n = add-refused 15 (λ z. omega (arith, z)) Z (applied (off_live L) _ 15 0 n refl refl)
+  pub add_off : Sized l → (InOrder L → ⊥) → AddAnswer l row (unchanged l 15)
+  add_off Z n = add_refused 15 (λ z. omega (arith, z)) Z (applied (off_live L) _ 15 0 n refl refl)
 
   module _ (Z : Sized l) (O : InOrder L) where
     in_order : (n p : ℕ) → Answers (faults (single l.elements 1 (row_of row)) 0 ++ rest) n p → Answers (add_checks L e) n p
     in_order n p a = passed (off_live L) _ n p (λ z. z O) a
 
-    pub add-fault : (n : ℕ) → n ≢ 0 → Answers (faults (single l.elements 1 (row_of row)) 0) n 0 → AddAnswer l row (unchanged l n)
-    add-fault n h a = add-refused n h Z (in_order n 0 (stopped (faults (single l.elements 1 (row_of row)) 0) rest n 0 h a))
+    pub add_fault : (n : ℕ) → n ≢ 0 → Answers (faults (single l.elements 1 (row_of row)) 0) n 0 → AddAnswer l row (unchanged l n)
+    add_fault n h a = add_refused n h Z (in_order n 0 (stopped (faults (single l.elements 1 (row_of row)) 0) rest n 0 h a))
 
     module _ (N : None (faults (single l.elements 1 (row_of row)) 0)) where
       sound : (n p : ℕ) → Answers rest n p → Answers (add_checks L e) n p
       sound n p a = in_order n p (joined (faults (single l.elements 1 (row_of row)) 0) rest n p N a)
 
-      add-repeated : T (repeated L e) → AddAnswer l row (unchanged l 18)
-      add-repeated t = add-refused 18 (λ z. omega (arith, z)) Z (sound 18 0 (applied (repeated_row L e) _ 18 0 t refl refl))
+      add_repeated : T (repeated L e) → AddAnswer l row (unchanged l 18)
+      add_repeated t = add_refused 18 (λ z. omega (arith, z)) Z (sound 18 0 (applied (repeated_row L e) _ 18 0 t refl refl))
 
-      add-full : (T (repeated L e) → ⊥) → T (every max_rows (held L)) → AddAnswer l row (unchanged l 24)
-      add-full R t =
-          add-refused 24 (λ z. omega (arith, z)) Z
+      add_full : (T (repeated L e) → ⊥) → T (every max_rows (held L)) → AddAnswer l row (unchanged l 24)
+      add_full R t =
+          add_refused 24 (λ z. omega (arith, z)) Z
           (sound 24 0 (passed (repeated_row L e) _ 24 0 R (applied (no_free_place L) _ 24 0 t refl refl)))
 
-      pub add-found : (n : ℕ) → SeatNumber n → n ≢ 0 → AddAnswer l row (unchanged l n)
-      add-found n q h = go (repeated L e) (eqb (free L) max_rows) refl refl
+      pub add_found : (n : ℕ) → SeatNumber n → n ≢ 0 → AddAnswer l row (unchanged l n)
+      add_found n q h = go (repeated L e) (eqb (free L) max_rows) refl refl
         where
           go : (a b : Bool) → repeated L e ≡ a → eqb (free L) max_rows ≡ b → AddAnswer l row (unchanged l n)
           go true b p s =
               let z : n ≡ 18 = q ∙ ap (λ (c : Bool). cond c 18 (cond (eqb (free L) max_rows) 24 0)) p in
-              rw z (add-repeated (of_true p))
+              rw z (add_repeated (of_true p))
           go false true p s =
               let z : n ≡ 24 = q ∙ ap₂ (λ (c d : Bool). cond c 18 (cond d 24 0)) p s in
-              rw z (add-full (of_false p) (all_held L (eqb→eq (free L) max_rows (of_true s))))
+              rw z (add_full (of_false p) (all_held L (eqb→eq (free L) max_rows (of_true s))))
           go false false p s = absurd (h (q ∙ ap₂ (λ (c d : Bool). cond c 18 (cond d 24 0)) p s))
 
-      pub add-clear : (n : ℕ) → SeatNumber n → n ≡ 0 → (T (repeated L e) → ⊥) × (free L < max_rows)
-      add-clear n q e' = go (repeated L e) (eqb (free L) max_rows) refl refl
+      pub add_clear : (n : ℕ) → SeatNumber n → n ≡ 0 → (T (repeated L e) → ⊥) × (free L < max_rows)
+      add_clear n q e' = go (repeated L e) (eqb (free L) max_rows) refl refl
         where
           go : (a b : Bool) → repeated L e ≡ a → eqb (free L) max_rows ≡ b → (T (repeated L e) → ⊥) × (free L < max_rows)
           go true b p s =
@@ -153,9 +153,9 @@ module _ (l : Live) (row : Entry) where
 
       module _ (R : T (repeated L e) → ⊥) where
         module _ (F : T (every max_rows (held L)) → ⊥) where
-          pub add-long : max_slots < common (placed L (free L) e) → AddAnswer l row (unchanged l 11)
-          add-long t =
-              add-refused 11 (λ z. omega (arith, z)) Z
+          pub add_long : max_slots < common (placed L (free L) e) → AddAnswer l row (unchanged l 11)
+          add_long t =
+              add_refused 11 (λ z. omega (arith, z)) Z
               (sound 11 0 (passed (repeated_row L e) _ 11 0 R
               (passed (no_free_place L) _ 11 0 F (applied (long_with L e) _ 11 0 t refl refl))))
 
@@ -169,33 +169,33 @@ module _ (l : Live) (row : Entry) where
               refused = λ z. absurd (z refl);
             };
             same = λ z. absurd (z refl);
-            size = put-sized Z h P;
+            size = put_sized Z h P;
           }
 
 -- ---- a removal
 
 module _ (l : Live) (k : ℕ) where
-  pub remove-refused : (n : ℕ) → n ≢ 0 → Sized l → Answers (remove_checks (live_of l) k) n 0 → RemoveAnswer l k (unchanged l n)
-  remove-refused n h Z a = record {
+  pub remove_refused : (n : ℕ) → n ≢ 0 → Sized l → Answers (remove_checks (live_of l) k) n 0 → RemoveAnswer l k (unchanged l n)
+  remove_refused n h Z a = record {
     removed = record { answers = a; done = λ z. absurd (h z); refused = λ z. refl };
     taken = refl;
     same = λ z. refl;
     size = Z;
   }
 
-  pub remove-off : Sized l → (InOrder (live_of l) → ⊥) → RemoveAnswer l k (unchanged l 15)
-  remove-off Z n = remove-refused 15 (λ z. omega (arith, z)) Z (applied (off_live (live_of l)) _ 15 0 n refl refl)
+  pub remove_off : Sized l → (InOrder (live_of l) → ⊥) → RemoveAnswer l k (unchanged l 15)
+  remove_off Z n = remove_refused 15 (λ z. omega (arith, z)) Z (applied (off_live (live_of l)) _ 15 0 n refl refl)
 
   module _ (Z : Sized l) (O : InOrder (live_of l)) where
-    pub remove-none : (max_rows ≤ k) ⊎ (T (held (live_of l) k) → ⊥) → RemoveAnswer l k (unchanged l 25)
-    remove-none t =
-        remove-refused 25 (λ z. omega (arith, z)) Z
+    pub remove_none : (max_rows ≤ k) ⊎ (T (held (live_of l) k) → ⊥) → RemoveAnswer l k (unchanged l 25)
+    remove_none t =
+        remove_refused 25 (λ z. omega (arith, z)) Z
         (passed (off_live (live_of l)) _ 25 0 (λ z. z O) (applied (no_row_there (live_of l) k) _ 25 0 t refl refl))
 
-    pub remove-done : {r : Live} → k < max_rows → T (held (live_of l) k)
+    pub remove_done : {r : Live} → k < max_rows → T (held (live_of l) k)
         → PutIn l k (record { cost = 0; period = 0; first = 0; second = 0; label = 0 }) r
         → RemoveAnswer l k (record { answer = record { number = 0; place = 0 }; taken = 0; live = r })
-    remove-done {r} h t P = record {
+    remove_done {r} h t P = record {
       removed = record {
         answers = passed (off_live (live_of l)) _ 0 0 (λ z. z O)
             (passed (no_row_there (live_of l) k) _ 0 0 (⊎_elim (λ z. omega (arith, z, h)) (λ n. n t)) done);
@@ -204,5 +204,5 @@ module _ (l : Live) (k : ℕ) where
       };
       taken = refl;
       same = λ z. absurd (z refl);
-      size = put-sized Z h P;
+      size = put_sized Z h P;
     }

@@ -11,7 +11,7 @@ use Rattle.numbers.specs.Finite.{every, only}
 use Rattle.numbers.specs.Divisors.{lcm}
 use Rattle.numbers.proofs.Truth.{fst, snd, both, is_true, is_false, eqb_of, limits}
 use Rattle.numbers.proofs.Finite.{least, any_of, only_false, only_zero, sum_zero}
-use Rattle.numbers.proofs.Divisors.{lcm_same, lcm-divides, lcm-multiple, lcm-positive}
+use Rattle.numbers.proofs.Divisors.{lcm_same, lcm_divides, lcm_multiple, lcm_positive}
 use Rattle.rules.specs.Bounds.{max_elements, max_rows, max_slots}
 use Rattle.rules.specs.Bus.{Table, pasted}
 use Rattle.rules.specs.Refusals.{Answers, faults}
@@ -46,17 +46,17 @@ of_three {a} {b} {c} {x} {y} {z} t =
 
 -- all rows run on the one ring
 module _ (l : Live) where
-  pub pasted-by : {i j : ℕ} → j < i → l.first j ≡ l.first i → l.second j ≡ l.second i → l.period j ≡ l.period i
+  pub pasted_by : {i j : ℕ} → j < i → l.first j ≡ l.first i → l.second j ≡ l.second i → l.period j ≡ l.period i
       → T (pasted (places l) i)
   unfolding pasted
-  pasted-by {i} {j} h f s p =
+  pasted_by {i} {j} h f s p =
       any_of i _ j h
       (both (eqb (l.first j) (l.first i) && eqb (l.second j) (l.second i) && eqb (l.period j) (l.period i)) true (three_of f s p) tt)
 
-  by-pasted : (i : ℕ) → T (pasted (places l) i)
+  by_pasted : (i : ℕ) → T (pasted (places l) i)
       → (j : ℕ) × (j < i) × ((l.first j ≡ l.first i) × (l.second j ≡ l.second i) × (l.period j ≡ l.period i))
   unfolding pasted
-  by-pasted i t =
+  by_pasted i t =
       let w = least i _ t in
       let j = w.0 in
       let same = eqb (l.first j) (l.first i) && eqb (l.second j) (l.second i) && eqb (l.period j) (l.period i) in
@@ -101,8 +101,8 @@ module _ {l : Live} (S : Seated l) (k : ℕ) {e : Entry} (A : Allowed l e) where
   abbrev after : Live
   after = put l k e
 
-  put-here : Blank after k ⊎ Answers (faults (places after) k) 0 0
-  put-here =
+  put_here : Blank after k ⊎ Answers (faults (places after) k) 0 0
+  put_here =
       ⊎_elim
       (λ (v : e ≡ vacant). inl (record {
         cost = but_same l.cost k _ ∙ ap (λ (x : Entry). x.cost) v;
@@ -116,11 +116,11 @@ module _ {l : Live} (S : Seated l) (k : ℕ) {e : Entry} (A : Allowed l e) where
       (but_same l.first k _) (but_same l.second k _) R)))
       A
 
-  pub put-place : (i : ℕ) → i < max_rows → Blank after i ⊎ Answers (faults (places after) i) 0 0
-  put-place i h = go (ℕ_discrete i k)
+  pub put_place : (i : ℕ) → i < max_rows → Blank after i ⊎ Answers (faults (places after) i) 0 0
+  put_place i h = go (ℕ_discrete i k)
     where
       go : Dec (i ≡ k) → Blank after i ⊎ Answers (faults (places after) i) 0 0
-      go (yes q) = rw q put-here
+      go (yes q) = rw q put_here
       go (no n) =
           ⊎_elim
           (λ (B : Blank l i). inl (record {
@@ -140,9 +140,9 @@ module _ {l : Live} (S : Seated l) (k : ℕ) {e : Entry} (W : Welcome l e) where
   m = put l k e
 
   -- two rows of m with the same ends and period
-  put-twice : (i j : ℕ) → i < max_rows → j < i → m.first j ≡ m.first i → m.second j ≡ m.second i → m.period j ≡ m.period i
+  put_twice : (i j : ℕ) → i < max_rows → j < i → m.first j ≡ m.first i → m.second j ≡ m.second i → m.period j ≡ m.period i
       → 0 < m.period i → ⊥
-  put-twice i j h lt f s p held' = go (ℕ_discrete i k) (ℕ_discrete j k)
+  put_twice i j h lt f s p held' = go (ℕ_discrete i k) (ℕ_discrete j k)
     where
       go : Dec (i ≡ k) → Dec (j ≡ k) → ⊥
       go (yes q) d =
@@ -162,19 +162,19 @@ module _ {l : Live} (S : Seated l) (k : ℕ) {e : Entry} (W : Welcome l e) where
           (omega (arith, held', but_other l.period k e.period i n, z))
       go (no n) (no o) =
           S.single i h (lt→ltb 0 (l.period i) (omega (arith, held', but_other l.period k e.period i n)))
-          (pasted-by l lt (sym (but_other l.first k _ j o) ∙ f ∙ but_other l.first k _ i n)
+          (pasted_by l lt (sym (but_other l.first k _ j o) ∙ f ∙ but_other l.first k _ i n)
           (sym (but_other l.second k _ j o) ∙ s ∙ but_other l.second k _ i n)
           (sym (but_other l.period k _ j o) ∙ p ∙ but_other l.period k _ i n))
 
-  put-single : (i : ℕ) → i < max_rows → T (held m i) → T (pasted (places m) i) → ⊥
-  put-single i h t p =
-      let q = by-pasted m i p in
-      put-twice i q.0 h q.1 q.2.0 q.2.1 q.2.2 (ltb→lt 0 _ t)
+  put_single : (i : ℕ) → i < max_rows → T (held m i) → T (pasted (places m) i) → ⊥
+  put_single i h t p =
+      let q = by_pasted m i p in
+      put_twice i q.0 h q.1 q.2.0 q.2.1 q.2.2 (ltb→lt 0 _ t)
 
-  pub put-in-order : common (placed l k e) ≤ max_slots → InOrder m
+  pub put_in_order : common (placed l k e) ≤ max_slots → InOrder m
   unfolding sum_over
-  put-in-order c = record {
-    rows = record { low = S.low; high = S.high; place = put-place S k W.allowed; single = put-single };
+  put_in_order c = record {
+    rows = record { low = S.low; high = S.high; place = put_place S k W.allowed; single = put_single };
     denominator = refl;
     short = c;
     sums = λ s h. refl;
@@ -192,17 +192,17 @@ fewer_divides p k i h = go (ℕ_discrete i k)
   where
     go : Dec (i ≡ k) → max 1 (but p k 0 i) ∣ lcm max_rows (λ i. max 1 (p i))
     go (yes q) = rw (ap (but p k 0) q ∙ but_same p k 0) (one-dvd _)
-    go (no n) = rw (but_other p k 0 i n) (lcm-multiple max_rows _ (one_positive p) i h)
+    go (no n) = rw (but_other p k 0 i n) (lcm_multiple max_rows _ (one_positive p) i h)
 
 pub fewer_common : (p : ℕ → ℕ) (k : ℕ) → common_of (but p k 0) ≤ common_of p
 unfolding common_of
 fewer_common p k =
-    le_of_dvd (lcm-positive max_rows _ (one_positive p))
-    (lcm-divides max_rows (λ i. max 1 (but p k 0 i)) (one_positive (but p k 0)) _ (fewer_divides p k))
+    le_of_dvd (lcm_positive max_rows _ (one_positive p))
+    (lcm_divides max_rows (λ i. max 1 (but p k 0 i)) (one_positive (but p k 0)) _ (fewer_divides p k))
 
 pub removed_in_order : {l : Live} → InOrder l → (k : ℕ) → InOrder (put l k vacant)
 removed_in_order {l} O k =
-    put-in-order O.rows k (vacant_welcome l) (omega (arith, fewer_common l.period k, O.denominator, O.short))
+    put_in_order O.rows k (vacant_welcome l) (omega (arith, fewer_common l.period k, O.denominator, O.short))
 
 -- ---- a row added
 
@@ -279,7 +279,7 @@ added_in_order l m e number place taken O c = go (ℕ_discrete number 0)
     go : Dec (number ≡ 0) → InOrder m
     go (yes z) =
         let A = addable l e O (call_none {p = place} (add_numbered l e) (rw z at c)) in
-        rw (c.done z).1 (put-in-order O.rows (free l) A.welcome A.short)
+        rw (c.done z).1 (put_in_order O.rows (free l) A.welcome A.short)
     go (no z) = rw (c.refused z).1 O
 
 taken_out_in_order : (l m : Live) (k number place : ℕ) → InOrder l → Removed l k m number place → InOrder m

@@ -7,7 +7,7 @@ use Prim.Native.Nat.{ℕ, ◌<◌}
 use native.Mathlib.Omega.{arith}
 use Rattle.numbers.specs.Decides.{Decides}
 use Rattle.numbers.specs.Lists.{at}
-use Rattle.numbers.proofs.Divisors.{lcm-positive}
+use Rattle.numbers.proofs.Divisors.{lcm_positive}
 use Rattle.rules.specs.Bounds.{max_elements, max_rows}
 use Rattle.rules.specs.Live as rules
 use Rattle.rules.specs.Live.{Blank, Seated, InOrder, common, common_of, sum_over}
@@ -42,12 +42,12 @@ seated_with l d g S = record {
 
 pub common_positive : (p : ℕ → ℕ) → 0 < common_of p
 unfolding common_of
-common_positive p = lcm-positive max_rows _ (one_positive p)
+common_positive p = lcm_positive max_rows _ (one_positive p)
 
 module _ (l : Live) {d : ℕ} (C : Capped (common (live_of l)) d) where
   -- the periods present have no common multiple up to 4096
-  pub none-short : d ≡ 0 → InOrder (live_of l) → ⊥
-  none-short z O =
+  pub none_short : d ≡ 0 → InOrder (live_of l) → ⊥
+  none_short z O =
       let h = capped_none C z (common_positive (at l.period)) in
       omega (arith, h, O.denominator, O.short)
 
@@ -55,11 +55,11 @@ module _ (l : Live) {d : ℕ} (C : Capped (common (live_of l)) d) where
   another z n O = n ((capped_some C z).0 ∙ sym O.denominator)
 
   -- the sums decide
-  pub sums-decide : d ≢ 0 → d ≡ l.denominator → Seated (live_of l) → (xs : List ℕ) {b : Bool}
+  pub sums_decide : d ≢ 0 → d ≡ l.denominator → Seated (live_of l) → (xs : List ℕ) {b : Bool}
       → at xs ≡ sum_over d (column_live l.elements l.cost l.period l.first l.second l.label)
       → Decides ((s : ℕ) → s < max_elements → at l.sums s ≡ at xs s) b → Decides (InOrder (live_of l)) b
   unfolding sum_over
-  sums-decide z e S xs {b} X D =
+  sums_decide z e S xs {b} X D =
       let c : d ≡ common (live_of l) = (capped_some C z).0 in
       let worked : (s : ℕ) → at xs s ≡ sum_over (common (live_of l)) (live_of l) s =
       λ s. ap (λ (g : ℕ → ℕ). g s) X

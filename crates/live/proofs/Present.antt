@@ -36,15 +36,15 @@ module _ (h : ℕ → Bool) where
   pub count_held : (i : ℕ) → T (h i) → count (i + 1) h ≡ count i h + 1
   count_held i t = sum_next i (λ j. only (h j) 1) ∙ ap (λ (x : ℕ). count i h + x) (only_true (h i) 1 (is_true (h i) t))
 
-  pub count-free : (i : ℕ) → (T (h i) → ⊥) → count (i + 1) h ≡ count i h
-  count-free i n =
+  pub count_free : (i : ℕ) → (T (h i) → ⊥) → count (i + 1) h ≡ count i h
+  count_free i n =
       let z = sum_next i (λ j. only (h j) 1) ∙ ap (λ (x : ℕ). count i h + x) (only_false (h i) 1 (is_false (h i) n)) in
       omega (arith, z)
 
   -- the row in a place has as many rows before it as are in the places before
-  pub place-of-count : (i : ℕ) → i < max_rows → T (h i) → place_of h (count i h) ≡ i
+  pub place_of_count : (i : ℕ) → i < max_rows → T (h i) → place_of h (count i h) ≡ i
   unfolding place_of
-  place-of-count i l t =
+  place_of_count i l t =
       lowest_is max_rows (λ k. h k && eqb (count k h) (count i h)) i l (both (h i) _ t (eqb_of (count i h) (count i h) refl))
       (λ j m q.
       let e : count j h ≡ count i h = eqb→eq (count j h) (count i h) (snd (h j) _ q) in
@@ -67,9 +67,9 @@ module _ (cost period first second label : List ℕ) where
     pub filled : Filled was out (row_numbers * n) (each n row)
 
 module _ {cost period first second label : List ℕ} where
-  pub packing-start : (was : List ℕ) → Packing cost period first second label was was 0 0
+  pub packing_start : (was : List ℕ) → Packing cost period first second label was was 0 0
   unfolding sum
-  packing-start was = record {
+  packing_start was = record {
     few = omega arith;
     fewer = omega arith;
     counted = refl;
@@ -77,11 +77,11 @@ module _ {cost period first second label : List ℕ} where
   }
 
   module _ {was out : List ℕ} {n i : ℕ} (P : Packing cost period first second label was out n i) (l : i < max_rows) where
-    pub packing-free : at period i ≡ 0 → Packing cost period first second label was out n (i + 1)
-    packing-free e = record {
+    pub packing_free : at period i ≡ 0 → Packing cost period first second label was out n (i + 1)
+    packing_free e = record {
       few = omega arith;
       fewer = omega (arith, P.fewer);
-      counted = P.counted ∙ sym (count-free (holds period) i (λ t. omega (arith, ltb→lt 0 (at period i) t, e)));
+      counted = P.counted ∙ sym (count_free (holds period) i (λ t. omega (arith, ltb→lt 0 (at period i) t, e)));
       filled = P.filled;
     }
 
@@ -91,11 +91,11 @@ module _ {cost period first second label : List ℕ} where
 
       -- the place of the row that is next
       here : place_of (holds period) n ≡ i
-      here = ap (place_of (holds period)) P.counted ∙ place-of-count (holds period) i l held
+      here = ap (place_of (holds period)) P.counted ∙ place_of_count (holds period) i l held
 
-      pub packing-held : {r : Row} {out' : List ℕ} → HasRow cost period first second i clockwise (at label i) r
+      pub packing_held : {r : Row} {out' : List ℕ} → HasRow cost period first second i clockwise (at label i) r
           → out' ≡ sets out (row_numbers * n) (in_memory 1 r) → Packing cost period first second label was out' (n + 1) (i + 1)
-      packing-held {r} {out'} R o = record {
+      packing_held {r} {out'} R o = record {
         few = omega arith;
         fewer = omega (arith, P.fewer);
         counted = ap (λ (x : ℕ). x + 1) P.counted ∙ sym (count_held (holds period) i held);
@@ -111,10 +111,10 @@ module _ {cost period first second label : List ℕ} where
             (omega arith) (omega (arith, P.fewer, room));
       }
 
-  pub packing-end : {was out : List ℕ} {n i : ℕ} → Packing cost period first second label was out n i → max_rows ≤ i
+  pub packing_end : {was out : List ℕ} {n i : ℕ} → Packing cost period first second label was out n i → max_rows ≤ i
       → PutPresent cost period first second label was out n
   unfolding numbers
-  packing-end {was} {out} {n} {i} P l =
+  packing_end {was} {out} {n} {i} P l =
       let e : i ≡ max_rows = omega (arith, P.few) in
       let rows : n ≡ count max_rows (holds period) = P.counted ∙ ap (λ (k : ℕ). count k (holds period)) e in
       record { rows = rows; holds = rw rows at (filled_lent P.filled) }
@@ -127,17 +127,17 @@ unfolding way_in label_in last_of
 present_told l i h = (refl, refl)
 
 module _ (v : ℕ) (l : Live) (was : List ℕ) where
-  pub file-off : (InOrder l → ⊥) → Filed v l was was 15 0
-  file-off n = record {
+  pub file_off : (InOrder l → ⊥) → Filed v l was was 15 0
+  file_off n = record {
     answers = applied (off_live l) _ 15 0 n refl refl;
     done = λ z. absurd (let q : ⊥ = omega (arith, z) in q);
     refused = λ z. refl;
   }
 
-  pub file-written : (n : ℕ) (xs now : List ℕ) (m p : ℕ) → InOrder l → n ≡ (present l).table.rows → xs ≡ numbers (present l)
+  pub file_written : (n : ℕ) (xs now : List ℕ) (m p : ℕ) → InOrder l → n ≡ (present l).table.rows → xs ≡ numbers (present l)
       → Written table_mark v l.elements n xs was now m p → Filed v l was now m p
   unfolding rings_of
-  file-written n xs now m p O e q w =
+  file_written n xs now m p O e q w =
       let c : Written table_mark v l.elements (present l).table.rows (numbers (present l)) was now m p = rw (e, q) at w in
       record {
         answers = passed (off_live l) _ m p (λ z. z O) c.answers;

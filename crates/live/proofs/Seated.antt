@@ -40,8 +40,8 @@ fault_decided M n row z a = record {
 
 -- what is found of a row is so of the place that holds it
 module _ {l : Live} {i : ℕ} {row : Row} (R : IsRow (record { table = places l; label = l.label }) i row) where
-  pub seat-of : Zeros row ⊎ Answers (faults (single l.elements 1 row) 0) 0 0 → Seat l i
-  seat-of =
+  pub seat_of : Zeros row ⊎ Answers (faults (single l.elements 1 row) 0) 0 0 → Seat l i
+  seat_of =
       ⊎_elim
       (λ (z : Zeros row). inl (record {
         cost = sym R.cost ∙ z.cost;
@@ -53,8 +53,8 @@ module _ {l : Live} {i : ℕ} {row : Row} (R : IsRow (record { table = places l;
       (λ a. inr (answered (faults (places l) i)
       (row_clean l.elements 1 row (record { table = places l; label = l.label }) i refl refl R a)))
 
-  pub of-seat : Seat l i → Zeros row ⊎ Answers (faults (single l.elements 1 row) 0) 0 0
-  of-seat =
+  pub of_seat : Seat l i → Zeros row ⊎ Answers (faults (single l.elements 1 row) 0) 0 0
+  of_seat =
       ⊎_elim
       (λ (z : Blank l i). inl (record {
         cost = R.cost ∙ z.cost;
@@ -69,19 +69,19 @@ module _ {l : Live} {i : ℕ} {row : Row} (R : IsRow (record { table = places l;
 -- ---- equal rows
 
 module _ (a b c x y z : ℕ) where
-  pub first-differs : a ≢ x → false ≡ (eqb a x && eqb b y && eqb c z)
-  first-differs n = sym (ap (λ (t : Bool). t && eqb b y && eqb c z) (is_false (eqb a x) (λ t. n (eqb→eq a x t))))
+  pub first_differs : a ≢ x → false ≡ (eqb a x && eqb b y && eqb c z)
+  first_differs n = sym (ap (λ (t : Bool). t && eqb b y && eqb c z) (is_false (eqb a x) (λ t. n (eqb→eq a x t))))
 
   module _ (e : a ≡ x) where
     same_first : eqb a x ≡ true
     same_first = is_true (eqb a x) (eqb_of a x e)
 
-    pub second-differs : b ≢ y → false ≡ (eqb a x && eqb b y && eqb c z)
-    second-differs n =
+    pub second_differs : b ≢ y → false ≡ (eqb a x && eqb b y && eqb c z)
+    second_differs n =
         sym (ap₂ (λ (t u : Bool). t && u && eqb c z) same_first (is_false (eqb b y) (λ t. n (eqb→eq b y t))))
 
-    pub third-decides : b ≡ y → eqb c z ≡ (eqb a x && eqb b y && eqb c z)
-    third-decides f = sym (ap₂ (λ (t u : Bool). t && u && eqb c z) same_first (is_true (eqb b y) (eqb_of b y f)))
+    pub third_decides : b ≡ y → eqb c z ≡ (eqb a x && eqb b y && eqb c z)
+    third_decides f = sym (ap₂ (λ (t u : Bool). t && u && eqb c z) same_first (is_true (eqb b y) (eqb_of b y f)))
 
 -- an earlier place has the row of place i
 pub earlier_equal : (l : Live) {i : ℕ} {row : Row} → IsRow (unlabelled (places l)) i row
@@ -91,11 +91,11 @@ earlier_equal l {i} R =
     rw (R.period, R.first, R.second) (any_eq i _ _ (λ j k. sym (and-true _)))
 
 module _ (p : ℕ) (b : Bool) where
-  pub free-single : p ≡ 0 → false ≡ (ltb 0 p && b)
-  free-single e = sym (ap (λ (t : Bool). t && b) (is_false (ltb 0 p) (λ t. omega (arith, ltb→lt 0 p t))))
+  pub free_single : p ≡ 0 → false ≡ (ltb 0 p && b)
+  free_single e = sym (ap (λ (t : Bool). t && b) (is_false (ltb 0 p) (λ t. omega (arith, ltb→lt 0 p t))))
 
-  pub held-decides : p ≢ 0 → b ≡ (ltb 0 p && b)
-  held-decides n = sym (ap (λ (t : Bool). t && b) (is_true (ltb 0 p) (lt→ltb 0 p (omega (arith, n)))))
+  pub held_decides : p ≢ 0 → b ≡ (ltb 0 p && b)
+  held_decides n = sym (ap (λ (t : Bool). t && b) (is_true (ltb 0 p) (lt→ltb 0 p (omega (arith, n)))))
 
 -- ---- all of several
 
@@ -105,14 +105,14 @@ pub record Upto (n : ℕ) (P : ℕ → Type 0) (i : ℕ) : Type 0 where
   pub all : (j : ℕ) → j < i → P j
 
 module _ {n : ℕ} {P : ℕ → Type 0} where
-  pub upto-start : Upto n P 0
-  upto-start = record { few = omega arith; all = λ j l. absurd (not-suc-le-zero l) }
+  pub upto_start : Upto n P 0
+  upto_start = record { few = omega arith; all = λ j l. absurd (not-suc-le-zero l) }
 
   pub upto_next : {i : ℕ} → Upto n P i → i < n → P i → Upto n P (i + 1)
   upto_next U l p = record { few = omega arith; all = below_more _ _ U.all p }
 
-  pub upto-end : {i : ℕ} → Upto n P i → n ≤ i → Decides ((j : ℕ) → j < n → P j) true
-  upto-end U l = decides_yes (λ j h. U.all j (omega arith))
+  pub upto_end : {i : ℕ} → Upto n P i → n ≤ i → Decides ((j : ℕ) → j < n → P j) true
+  upto_end U l = decides_yes (λ j h. U.all j (omega arith))
 
-  pub upto-stop : (i : ℕ) → i < n → (P i → ⊥) → Decides ((j : ℕ) → j < n → P j) false
-  upto-stop i l f = decides_no (λ h. f (h i l))
+  pub upto_stop : (i : ℕ) → i < n → (P i → ⊥) → Decides ((j : ℕ) → j < n → P j) false
+  upto_stop i l f = decides_no (λ h. f (h i l))

@@ -22,7 +22,7 @@ use Rattle.live.specs.declared.Entry.{Entry}
 use Rattle.live.specs.Seats.{Zeros}
 use Rattle.live.specs.State.{live_of, entry_of, row_of, blank, NewSeat, PutIn}
 use Rattle.live.specs.Answers.{Sized}
-use Rattle.live.proofs.Kept.{but_same, but_other, passed, put-place}
+use Rattle.live.proofs.Kept.{but_same, but_other, passed, put_place}
 
 -- ---- only one
 
@@ -126,21 +126,21 @@ put_passing l k row Z h S N =
       second = sym (at_set l.second k row.second (omega (arith, Z.second))) j;
       way = λ i. clockwise;
     })
-    (live_passing (put (live_of l) k (entry_of row)) S.high (put-place S k {e = entry_of row} (⊎_elim (λ R. inr R) (λ z. inl (
-    vacant-is z)) N)))
+    (live_passing (put (live_of l) k (entry_of row)) S.high (put_place S k {e = entry_of row} (⊎_elim (λ R. inr R) (λ z. inl (
+    vacant_is z)) N)))
   where
-    vacant-is : Zeros (row_of row) → entry_of row ≡ vacant
-    vacant-is z = λ j. record { cost = z.cost j; period = z.period j; first = z.first j; second = z.second j; label = z.label j }
+    vacant_is : Zeros (row_of row) → entry_of row ≡ vacant
+    vacant_is z = λ j. record { cost = z.cost j; period = z.period j; first = z.first j; second = z.second j; label = z.label j }
 
 module _ {l r : Live} {k : ℕ} {row : Entry} (Z : Sized l) (h : k < max_rows) (P : PutIn l k row r) where
-  cost-is : at r.cost ≡ but (at l.cost) k row.cost
-  cost-is = ap at P.cost ∙ at_set l.cost k row.cost (omega (arith, Z.cost))
+  cost_is : at r.cost ≡ but (at l.cost) k row.cost
+  cost_is = ap at P.cost ∙ at_set l.cost k row.cost (omega (arith, Z.cost))
 
-  pub period-is : at r.period ≡ but (at l.period) k row.period
-  period-is = ap at P.period ∙ at_set l.period k row.period (omega (arith, Z.period))
+  pub period_is : at r.period ≡ but (at l.period) k row.period
+  period_is = ap at P.period ∙ at_set l.period k row.period (omega (arith, Z.period))
 
-  first-is : at r.first ≡ but (at l.first) k row.first
-  first-is = ap at P.first ∙ at_set l.first k row.first (omega (arith, Z.first))
+  first_is : at r.first ≡ but (at l.first) k row.first
+  first_is = ap at P.first ∙ at_set l.first k row.first (omega (arith, Z.first))
 
   second_is : at r.second ≡ but (at l.second) k row.second
   second_is = ap at P.second ∙ at_set l.second k row.second (omega (arith, Z.second))
@@ -148,8 +148,8 @@ module _ {l r : Live} {k : ℕ} {row : Entry} (Z : Sized l) (h : k < max_rows) (
   label_is : at r.label ≡ but (at l.label) k row.label
   label_is = ap at P.label ∙ at_set l.label k row.label (omega (arith, Z.label))
 
-  pub put-sized : Sized r
-  put-sized = record {
+  pub put_sized : Sized r
+  put_sized = record {
     cost = ap length P.cost ∙ length-set l.cost k row.cost ∙ Z.cost;
     period = ap length P.period ∙ length-set l.period k row.period ∙ Z.period;
     first = ap length P.first ∙ length-set l.first k row.first ∙ Z.first;
@@ -158,22 +158,22 @@ module _ {l r : Live} {k : ℕ} {row : Entry} (Z : Sized l) (h : k < max_rows) (
     sums = P.size;
   }
 
-  pub put-common : common (live_of r) ≡ common (placed (live_of l) k (entry_of row))
-  put-common = ap common_of period-is
+  pub put_common : common (live_of r) ≡ common (placed (live_of l) k (entry_of row))
+  put_common = ap common_of period_is
 
   module _ (short : common (placed (live_of l) k (entry_of row)) ≤ max_slots) where
-    denominator-is : r.denominator ≡ common (placed (live_of l) k (entry_of row))
-    denominator-is = P.denominator.short (omega (arith, put-common)) ∙ put-common
+    denominator_is : r.denominator ≡ common (placed (live_of l) k (entry_of row))
+    denominator_is = P.denominator.short (omega (arith, put_common)) ∙ put_common
 
     sum_is : at r.sums ≡ sum_over (common (placed (live_of l) k (entry_of row))) (placed (live_of l) k (entry_of row))
     unfolding sum_over
     sum_is =
         P.sums
-        ∙ (λ j. sum_over (denominator-is j) (record {
+        ∙ (λ j. sum_over (denominator_is j) (record {
           elements = P.elements j;
-          cost = cost-is j;
-          period = period-is j;
-          first = first-is j;
+          cost = cost_is j;
+          period = period_is j;
+          first = first_is j;
           second = second_is j;
           label = label_is j;
           denominator = 0;
@@ -183,11 +183,11 @@ module _ {l r : Live} {k : ℕ} {row : Entry} (Z : Sized l) (h : k < max_rows) (
     pub put_is : live_of r ≡ put (live_of l) k (entry_of row)
     put_is = λ j. record {
       elements = P.elements j;
-      cost = cost-is j;
-      period = period-is j;
-      first = first-is j;
+      cost = cost_is j;
+      period = period_is j;
+      first = first_is j;
       second = second_is j;
       label = label_is j;
-      denominator = denominator-is j;
+      denominator = denominator_is j;
       sum = sum_is j;
     }

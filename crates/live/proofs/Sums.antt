@@ -19,7 +19,7 @@ use Rattle.numbers.proofs.Truth.{is_true, is_false, le_or_lt, eqb_of}
 use Rattle.numbers.proofs.Finite.{below, only_true, only_false, sum_next}
 use Rattle.numbers.proofs.Lists.{zeros_at}
 use Rattle.numbers.proofs.Word.{bit_shr, bit_word}
-use Rattle.numbers.proofs.Divisors.{Positive, lcm-of-least, lcm-as-least}
+use Rattle.numbers.proofs.Divisors.{Positive, lcm_of_least, lcm_as_least}
 use Rattle.rules.specs.Bounds.{max_elements, max_rows, max_slots}
 use Rattle.rules.specs.Bus.{Table, Labelled, clockwise, uses, route_uses}
 use Rattle.rules.specs.Live.{Live, places, common_of, sum_over}
@@ -36,8 +36,8 @@ use Rattle.live.specs.Tally.{column_places, segment_load}
 
 pub lcm_eq : (n : ℕ) (g h : ℕ → ℕ) → Positive n h → ((i : ℕ) → i < n → g i ≡ h i) → lcm n g ≡ lcm n h
 lcm_eq n g h pos e =
-    let L = lcm-as-least n h pos in
-    lcm-of-least n g (λ i l. rw (e i l) (pos i l)) (lcm n h) (record {
+    let L = lcm_as_least n h pos in
+    lcm_of_least n g (λ i l. rw (e i l) (pos i l)) (lcm n h) (record {
       multiple = λ i l. rw (e i l) (L.multiple i l);
       least = λ k M. L.least k (λ i l. rw (← e i l) (M i l));
     })
@@ -67,8 +67,8 @@ unfolding segments
 segment_bit M a b s l = bit_word M _ s ∙ ap (λ (c : Bool). c && route_uses M a b (suc s)) (is_true (ltb s M) (lt→ltb s M l))
 
 module _ (d : ℕ) (t : Table) (s : ℕ) where
-  pub free-adds : t.period 0 ≡ 0 → 0 ≡ segment_load d t s 0
-  free-adds e =
+  pub free_adds : t.period 0 ≡ 0 → 0 ≡ segment_load d t s 0
+  free_adds e =
       sym (only_false _ _ (ap (λ (b : Bool). b && uses t 0 (suc s)) (is_false (ltb 0 (t.period 0)) (λ h. omega (
         arith,
         ltb→lt 0 (t.period 0) h,
@@ -82,16 +82,16 @@ module _ (d : ℕ) (t : Table) (s : ℕ) where
         clockwise_uses M (t.first 0) (t.second 0) (suc s) c
         ∙ sym (bit_shr w s ∙ ap (λ (v : ℕ). bit v s) e ∙ segment_bit M (t.first 0) (t.second 0) s l)
 
-    pub apart-adds : w / 2 ^ s % 2 ≡ 0 → 0 ≡ segment_load d t s 0
-    apart-adds z =
+    pub apart_adds : w / 2 ^ s % 2 ≡ 0 → 0 ≡ segment_load d t s 0
+    apart_adds z =
         sym (only_false _ _ (and-false (ltb 0 (t.period 0)) _ (used ∙ ap (λ (v : ℕ). eqb v 1) z)))
       where
         and-false : (a b : Bool) → b ≡ false → (a && b) ≡ false
         and-false true b q = q
         and-false false b q = refl
 
-    pub row-adds : 0 < t.period 0 → w / 2 ^ s % 2 ≢ 0 → d / t.period 0 * t.cost 0 ≡ segment_load d t s 0
-    row-adds p z =
+    pub row_adds : 0 < t.period 0 → w / 2 ^ s % 2 ≢ 0 → d / t.period 0 * t.cost 0 ≡ segment_load d t s 0
+    row_adds p z =
         sym (only_true _ _
         (ap₂ ◌&&◌ (is_true (ltb 0 (t.period 0)) (lt→ltb 0 (t.period 0) p)) (used ∙ is_true (eqb (w / 2 ^ s % 2) 1) (eqb_of (
         w / 2 ^ s % 2) 1 (omega (arith, z))))))
@@ -104,13 +104,13 @@ pub record Adding (d : ℕ) (t : Table) (s i total : ℕ) : Type 0 where
   pub small : total ≤ i * max_slots
 
 module _ {d : ℕ} {t : Table} {s : ℕ} where
-  pub adding-start : Adding d t s 0 0
+  pub adding_start : Adding d t s 0 0
   unfolding sum
-  adding-start = record { few = omega arith; is = refl; small = omega arith }
+  adding_start = record { few = omega arith; is = refl; small = omega arith }
 
-  pub adding-next : {i total : ℕ} (r : ℕ) → Adding d t s i total → i < max_rows → r ≡ segment_load d t s i → r ≤ max_slots
+  pub adding_next : {i total : ℕ} (r : ℕ) → Adding d t s i total → i < max_rows → r ≡ segment_load d t s i → r ≤ max_slots
       → Adding d t s (i + 1) (total + r)
-  adding-next {i} {total} r A l e h = record {
+  adding_next {i} {total} r A l e h = record {
     few = omega arith;
     is = ap₂ ◌+◌ A.is e ∙ sym (sum_next i (segment_load d t s));
     small = omega (arith, A.small);

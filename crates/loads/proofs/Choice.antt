@@ -8,7 +8,7 @@ use native.Mathlib.Omega.{arith}
 use borrow.Author.Tests.{lt-ltb, le-ltb}
 use Rattle.numbers.specs.Finite.{sum_in}
 use Rattle.numbers.proofs.Finite.{sum_in_eq, sum_in_add, sum_in_scaled, sum_zero, only_zero}
-use Rattle.numbers.proofs.Rounding.{rounded-is, rounded_shift}
+use Rattle.numbers.proofs.Rounding.{rounded_is, rounded_shift}
 use Rattle.rules.specs.Interval.{Greatest}
 use Rattle.loads.specs.Loads.{in_set, none, Qualified}
 use Rattle.loads.specs.Line.{join}
@@ -53,41 +53,41 @@ sum_none n D = sum_zero n _ (λ i l. only_zero (D i))
 -- What is chosen of the parts f is chosen of the shares: w are their whole slots, and rows that have had `had` get x, in all as many.
 module _ (n K : ℕ) (a b : ℕ → ℕ) (h : ℕ) (share had f w x z : ℕ → ℕ) (pos : 0 < h) (parts : (i : ℕ) → i < n → share i ≡ f i + w i * h)
     (all : (i : ℕ) → i < n → had i + x i ≡ w i + z i) where
-  sum-as : (D : ℕ → Bool) (p q r s : ℕ → ℕ) → ((i : ℕ) → i < n → p i + q i ≡ r i + s i)
+  sum_as : (D : ℕ → Bool) (p q r s : ℕ → ℕ) → ((i : ℕ) → i < n → p i + q i ≡ r i + s i)
       → sum_in n D p + sum_in n D q ≡ sum_in n D r + sum_in n D s
-  sum-as D p q r s e =
+  sum_as D p q r s e =
       sym (sum_in_add n D p q) ∙ sum_in_eq n D D (λ i. p i + q i) (λ i. r i + s i) (λ i l. refl) (λ i l t. e i l) ∙ sum_in_add n D r s
 
   -- loads v of the parts, and u of the shares, in all as many
   module _ (u v : ℕ → ℕ) (same : (i : ℕ) → i < n → had i + u i ≡ w i + v i) where
-    qualified-up : Qualified n K a b h f none v → Qualified n K a b h share had u
-    qualified-up q = record {
+    qualified_up : Qualified n K a b h f none v → Qualified n K a b h share had u
+    qualified_up q = record {
       rows = λ i l. rw (parts i l, same i l) ((rounded_shift (w i) (v i) (f i) h pos).1 (rw (zero_plus (v i)) at (q.rows i l)));
       sets = λ k l.
           let D = in_set a b k in
-          rw (lag_sum n h share w f D parts, sum-as D had u w v same)
+          rw (lag_sum n h share w f D parts, sum_as D had u w v same)
           ((rounded_shift (sum_in n D w) (sum_in n D v) (sum_in n D f) h pos).1 (rw (sum_none n D, zero_plus (sum_in n D v)) at (q.sets k l)));
     }
 
-    qualified-down : Qualified n K a b h share had u → Qualified n K a b h f none v
-    qualified-down q = record {
+    qualified_down : Qualified n K a b h share had u → Qualified n K a b h f none v
+    qualified_down q = record {
       rows = λ i l. rw (zero_plus (v i)) ((rounded_shift (w i) (v i) (f i) h pos).0 (rw (parts i l, same i l) at (q.rows i l)));
       sets = λ k l.
           let D = in_set a b k in
           rw (sum_none n D, zero_plus (sum_in n D v))
           ((rounded_shift (sum_in n D w) (sum_in n D v) (sum_in n D f) h pos).0
-          (rw (lag_sum n h share w f D parts, sum-as D had u w v same) at (q.sets k l)));
+          (rw (lag_sum n h share w f D parts, sum_as D had u w v same) at (q.sets k l)));
     }
 
-  pub greatest-shift : Greatest n (Qualified n K a b h f none) z → Greatest n (Qualified n K a b h share had) x
-  greatest-shift g = record {
-    qualify = qualified-up x z all g.qualify;
+  pub greatest_shift : Greatest n (Qualified n K a b h f none) z → Greatest n (Qualified n K a b h share had) x
+  greatest_shift g = record {
+    qualify = qualified_up x z all g.qualify;
     most = λ u q i l eq.
         let v : ℕ → ℕ = λ j. had j + u j - w j in
         let in_all : (j : ℕ) → j < n → had j + u j ≡ w j + v j = λ j m. omega (arith, above u q j m) in
         omega (
           arith,
-          g.most v (qualified-down u v in_all q) i l (λ j m. omega (arith, eq j m, all j (omega arith))),
+          g.most v (qualified_down u v in_all q) i l (λ j m. omega (arith, eq j m, all j (omega arith))),
           all i l,
           above u q i l,
         );
@@ -95,6 +95,6 @@ module _ (n K : ℕ) (a b : ℕ → ℕ) (h : ℕ) (share had f w x z : ℕ → 
     where
       above : (u : ℕ → ℕ) → Qualified n K a b h share had u → (j : ℕ) → j < n → w j ≤ had j + u j
       above u q j m =
-          let r = rounded-is (share j) h pos (had j + u j) (q.rows j m) in
+          let r = rounded_is (share j) h pos (had j + u j) (q.rows j m) in
           let t : w j < had j + u j + 1 = lt_of_mul-lt-mul_right h (omega (arith, r.0, parts j m)) in
           omega arith

@@ -9,7 +9,7 @@ use Prim.Native.Nat.{ℕ, ◌+◌, ◌≤◌, ◌<◌}
 use native.Mathlib.Decide.{dec_lt}
 use native.Mathlib.Omega.{arith}
 use Rattle.numbers.specs.Finite.{only}
-use Rattle.numbers.proofs.Finite.{only_true, only_false, sum_add, sum-but, le_additive}
+use Rattle.numbers.proofs.Finite.{only_true, only_false, sum_add, sum_but, le_additive}
 use Rattle.loads.specs.Network.{Net, Circulation}
 use Rattle.loads.specs.Raised.{Best}
 
@@ -36,11 +36,11 @@ term_same x z p q e = rw e (omega arith)
 -- ---- the theorem
 
 module _ (G : Net) (i : ℕ) (x : ℕ → ℕ) (r : ℕ → Bool) (l : i < G.arcs) (circ : Circulation G x) (cl : Closed G i x r) where
-  pub closed-best : Best G i x
-  closed-best z circ' wz below =
+  pub closed_best : Best G i x
+  closed_best z circ' wz below =
       let T : (ℕ → ℕ) → ℕ → ℕ = λ y e. only (r (G.tail e)) (y e) in
       let H : (ℕ → ℕ) → ℕ → ℕ = λ y e. only (r (G.head e)) (y e) in
-      let k = sum-but ◌≤◌ le_additive G.arcs (λ e. H x e + T z e) (λ e. T x e + H z e) i l (λ e m ne. term e m ne (dec_lt e i)) in
+      let k = sum_but ◌≤◌ le_additive G.arcs (λ e. H x e + T z e) (λ e. T x e + H z e) i l (λ e m ne. term e m ne (dec_lt e i)) in
       omega (
         arith,
         k,

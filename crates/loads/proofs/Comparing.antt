@@ -68,14 +68,14 @@ module _ (h : ℕ) (C F : ℕ → ℕ) where
   abbrev pub lacks : ℕ → Bool
   lacks k = leb (h * C k + h) (F k)
 
-  pub takes-next : (k : ℕ) → takes (k + 1) ≡ ltb (h * C k) (F k)
-  takes-next k =
+  pub takes_next : (k : ℕ) → takes (k + 1) ≡ ltb (h * C k) (F k)
+  takes_next k =
       let e : k + 1 - 1 ≡ k = omega arith in
       rw (ne_eqb (k + 1) 0 (λ (q : k + 1 ≡ 0). omega arith), e)
 
-  pub compared-of : (K more less low : ℕ) → more ≡ word (K + 1) takes → less ≡ word K gives → low ≡ word K lacks
+  pub compared_of : (K more less low : ℕ) → more ≡ word (K + 1) takes → less ≡ word K gives → low ≡ word K lacks
       → Compared K h C F more less low
-  compared-of K more less low p q r = record {
+  compared_of K more less low p q r = record {
     first = ap (λ (w : ℕ). bit w 0) p ∙ bit_word (K + 1) takes 0 ∙ below (ltb 0 (K + 1));
     more_is = λ k. ap (λ (w : ℕ). bit w (suc k)) p ∙ bit_word (K + 1) takes (suc k) ∙ shifted k;
     less_is = λ k. ap (λ (w : ℕ). bit w k) q ∙ bit_word K gives k;
@@ -88,7 +88,7 @@ module _ (h : ℕ) (C F : ℕ → ℕ) where
 
       shifted : (k : ℕ) → (ltb (suc k) (K + 1) && takes (suc k)) ≡ (ltb k K && ltb (h * C k) (F k))
       shifted k =
-          ap₂ ◌&&◌ (same_test (dec_lt k K)) (ap takes (sym (add-one k)) ∙ takes-next k)
+          ap₂ ◌&&◌ (same_test (dec_lt k K)) (ap takes (sym (add-one k)) ∙ takes_next k)
         where
           same_test : Dec (k < K) → ltb (suc k) (K + 1) ≡ ltb k K
           same_test (yes l) = lt-ltb (suc k) (K + 1) (omega arith) ∙ sym (lt-ltb k K l)

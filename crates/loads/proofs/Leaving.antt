@@ -65,17 +65,17 @@ module _ {n : ℕ} {g : ℕ → ℕ} {out : ℕ → Type 0} {left : ℕ} {xs : L
     here : (i : ℕ) {a b : Bool} → bit left i ≡ a → bit w i ≡ b → bit (bit_and left w) i ≡ (a && b)
     here i e f = bit_and_lem left w i ∙ ap₂ ◌&&◌ e f
 
-    left-then : (i : ℕ) {a b : Bool} → bit left i ≡ a → bit w i ≡ b
+    left_then : (i : ℕ) {a b : Bool} → bit left i ≡ a → bit w i ≡ b
         → bit (bit_xor left (bit_and left w)) i ≡ cond a (not (a && b)) (a && b)
-    left-then i e f = bit_xor_lem left (bit_and left w) i ∙ ap₂ (λ (p q : Bool). cond p (not q) q) e (here i e f)
+    left_then i e f = bit_xor_lem left (bit_and left w) i ∙ ap₂ (λ (p q : Bool). cond p (not q) q) e (here i e f)
 
     kept : (i : ℕ) → bit left i ≡ false → at ys i ≡ at xs i
     kept i e = M.outside i (here i e refl)
 
     -- the rows of one more set get their node
-    pub leaving-next : (out' : ℕ → Type 0) → ((i : ℕ) → i < n → out i → bit w i ≡ true → v ≡ g i)
+    pub leaving_next : (out' : ℕ → Type 0) → ((i : ℕ) → i < n → out i → bit w i ≡ true → v ≡ g i)
         → ((i : ℕ) → out i → bit w i ≡ false → out' i) → Leaving n g out' (bit_xor left (bit_and left w)) ys
-    leaving-next out' hit miss = record {
+    leaving_next out' hit miss = record {
       size = M.size;
       coming = λ i e. coming i e (bit left i) (bit w i) refl refl;
       done = λ i l e. done i l e (bit left i) (bit w i) refl refl;
@@ -83,19 +83,19 @@ module _ {n : ℕ} {g : ℕ → ℕ} {out : ℕ → Type 0} {left : ℕ} {xs : L
     }
       where
         coming : (i : ℕ) → bit (bit_xor left (bit_and left w)) i ≡ true → (a b : Bool) → bit left i ≡ a → bit w i ≡ b → (i < n) × out' i
-        coming i e true true p q = absurd (false≢true (sym (left-then i p q) ∙ e))
+        coming i e true true p q = absurd (false≢true (sym (left_then i p q) ∙ e))
         coming i e true false p q = ((P.coming i p).0, miss i (P.coming i p).1 q)
-        coming i e false b p q = absurd (false≢true (sym (left-then i p q) ∙ e))
+        coming i e false b p q = absurd (false≢true (sym (left_then i p q) ∙ e))
 
         done : (i : ℕ) → i < n → bit (bit_xor left (bit_and left w)) i ≡ false → (a b : Bool) → bit left i ≡ a → bit w i ≡ b
             → at ys i ≡ g i
         done i l e true true p q = M.inside i (here i p q) ∙ hit i l (P.coming i p).1 q
-        done i l e true false p q = absurd (true≢false (sym (left-then i p q) ∙ e))
+        done i l e true false p q = absurd (true≢false (sym (left_then i p q) ∙ e))
         done i l e false b p q = kept i p ∙ P.done i l p
 
   -- rows that no set has get theirs at the end
-  pub leaving-end : (v : ℕ) {ys : List ℕ} → Marked left v xs ys → ((i : ℕ) → i < n → out i → v ≡ g i) → ByRow n g ys
-  leaving-end v {ys} M none = record {
+  pub leaving_end : (v : ℕ) {ys : List ℕ} → Marked left v xs ys → ((i : ℕ) → i < n → out i → v ≡ g i) → ByRow n g ys
+  leaving_end v {ys} M none = record {
     size = M.size;
     row = λ i l. go i l (bit left i) refl;
     rest = λ i l m. M.outside i (past i l) ∙ P.rest i l;

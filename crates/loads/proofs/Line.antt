@@ -8,7 +8,7 @@ use native.Mathlib.Omega.{arith}
 use lib.Dec.{leb}
 use borrow.Author.Tests.{le-leb, lt-leb}
 use Rattle.numbers.specs.Finite.{sum, sum_in, only}
-use Rattle.numbers.proofs.Finite.{only_true, only_false, only_zero, only_comm, sum_eq, sum_add, sum_split, sum-but, eq_additive, sum_in_add}
+use Rattle.numbers.proofs.Finite.{only_true, only_false, only_zero, only_comm, sum_eq, sum_add, sum_split, sum_but, eq_additive, sum_in_add}
 use Rattle.loads.specs.Network.{Net, Circulation}
 use Rattle.loads.specs.Loads.{covers, in_set}
 use Rattle.loads.specs.Line.{Lines}
@@ -141,8 +141,8 @@ module _ (n K : ℕ) (a b : ℕ → ℕ) (G : Net) (x : ℕ → ℕ) (e : G.arcs
       ≡ sum n (λ j. only (r (suc (b j))) (x j)) + sum K (λ k. only (r k) (x (n + k)))
   entering r = rw e (arcs r n K G.head x (λ j. suc (b j)) (λ k. k) L.row_head L.set_head)
 
-  pub circ-of-sums : ((k : ℕ) → k < K → x (n + k) ≡ sum_in n (in_set a b k) x) → Circulation G x
-  circ-of-sums h r =
+  pub circ_of_sums : ((k : ℕ) → k < K → x (n + k) ≡ sum_in n (in_set a b k) x) → Circulation G x
+  circ_of_sums h r =
       let S : ℕ → ℕ = λ k. sum_in n (in_set a b k) x in
       omega (
         arith,
@@ -154,8 +154,8 @@ module _ (n K : ℕ) (a b : ℕ → ℕ) (G : Net) (x : ℕ → ℕ) (e : G.arcs
       )
 
   -- by the nodes up to k
-  pub sums-of-circ : Circulation G x → (k : ℕ) → k < K → x (n + k) ≡ sum_in n (in_set a b k) x
-  sums-of-circ c k l =
+  pub sums_of_circ : Circulation G x → (k : ℕ) → k < K → x (n + k) ≡ sum_in n (in_set a b k) x
+  sums_of_circ c k l =
       let r : ℕ → Bool = λ v. leb v k in
       let X : ℕ → ℕ = λ m. x (n + m) in
       omega (
@@ -163,7 +163,7 @@ module _ (n K : ℕ) (a b : ℕ → ℕ) (G : Net) (x : ℕ → ℕ) (e : G.arcs
         c r,
         leaving r,
         entering r,
-        sum-but (λ u v. u ≡ v) eq_additive K (λ m. only (leb (suc m) k) (X m)) (λ m. only (leb m k) (X m)) k l
+        sum_but (λ u v. u ≡ v) eq_additive K (λ m. only (leb (suc m) k) (X m)) (λ m. only (leb m k) (X m)) k l
             (λ m g ne. ap (λ (t : Bool). only t (X m)) (apart m k ne (dec_lt m k))),
         sum_eq n (λ j. only (leb (a j) k) (x j)) (λ j. only (leb (suc (b j)) k) (x j) + only (covers (a j) (b j) k) (x j))
             (λ j m. begun (a j) (b j) k (x j) (ok j m).0 (dec_lt k (a j)) (dec_lt (b j) k)),

@@ -11,7 +11,7 @@ use lib.Seq.{get_or-set_same, get_or-set_other}
 use borrow.Author.Tests.{eq-eqb, ne_eqb}
 use Rattle.numbers.specs.Finite.{sum_in, only}
 use Rattle.numbers.specs.Lists.{at}
-use Rattle.numbers.proofs.Finite.{sum-but, eq_additive}
+use Rattle.numbers.proofs.Finite.{sum_but, eq_additive}
 use Rattle.loads.specs.Network.{Put}
 
 abbrev pub put : (ℕ → ℕ) → ℕ → ℕ → ℕ → ℕ
@@ -30,5 +30,5 @@ put_set_is l k v u h e = (get_or-set_same l k v 0 h ∙ e, λ w ne. get_or-set_o
 pub sum_put : (n : ℕ) (D : ℕ → Bool) (x x' : ℕ → ℕ) (c v : ℕ) → c < n → Put x c v x'
     → sum_in n D x' + only (D c) (x c) ≡ sum_in n D x + only (D c) v
 sum_put n D x x' c v l p =
-    sum-but (λ a b. a ≡ b) eq_additive n (λ e. only (D e) (x' e)) (λ e. only (D e) (x e)) c l (λ e m ne. ap (only (D e)) (p.1 e ne))
+    sum_but (λ a b. a ≡ b) eq_additive n (λ e. only (D e) (x' e)) (λ e. only (D e) (x e)) c l (λ e m ne. ap (only (D e)) (p.1 e ne))
     ∙ ap (λ (u : ℕ). sum_in n D x + only (D c) u) p.0

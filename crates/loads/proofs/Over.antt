@@ -2,7 +2,7 @@
 --
 --   over_next    one node more
 --   over_is      the rows that start before a node and don't end before it
---   over-set     past the node of a set they are the set's rows
+--   over_set     past the node of a set they are the set's rows
 use mathlib.Core.Path.{◌≡◌, refl, sym, ap, ap₂, ◌∙◌}
 use mathlib.Core.Bool.{Bool, true, false, not, ◌&&◌, cond}
 use mathlib.Core.List.{List}
@@ -103,8 +103,8 @@ module _ {n K : ℕ} {tail head out into : List ℕ} (E : Ends n K tail head out
       go (yes l) = rw (lt-ltb i n l) (next (at tail i) (at head i) k (spans i l))
       go (no l) = rw (le-ltb i n (omega arith)) refl
 
-  pub over-set : (k i : ℕ) → k < K → bit (over (at out) (at into) (suc k)) i ≡ (ltb i n && in_set (at tail) (last head) k i)
-  over-set k i m = over_is (suc k) i (omega arith) ∙ go (dec_lt i n)
+  pub over_set : (k i : ℕ) → k < K → bit (over (at out) (at into) (suc k)) i ≡ (ltb i n && in_set (at tail) (last head) k i)
+  over_set k i m = over_is (suc k) i (omega arith) ∙ go (dec_lt i n)
     where
       starts : Dec (k < at tail i) → ltb (at tail i) (suc k) ≡ leb (at tail i) k
       starts (yes d) = le-ltb (at tail i) (suc k) (omega arith) ∙ sym (lt-leb (at tail i) k d)

@@ -109,9 +109,9 @@ module _ {n : ℕ} {g : ℕ → ℕ} {far : ℕ → Type 0} {left : ℕ} {xs : L
       taken i false e h = absurd (true≢false (sym h ∙ bit_and_lem left w i ∙ ap (λ (b : Bool). b && bit w i) e))
 
   -- the rows that no set has: then all have their node
-  pub sorted-end : {ys : List ℕ} → Marked left v xs ys
+  pub sorted_end : {ys : List ℕ} → Marked left v xs ys
       → (u i : ℕ) → bit (at (set out v (bit_or (at out v) left)) u) i ≡ (ltb i n && eqb (at ys i) u)
-  sorted-end {ys} M u i =
+  sorted_end {ys} M u i =
       sorted_next n left 0 left v xs ys (at out) _ S (λ j. bit_zero j ∙ sym (both_not (bit left j))) (λ j h. (h, (P.coming j h).0)) M
       (put_set out v (bit_or (at out v) left) room) u i
       ∙ ap (λ (b : Bool). ltb i n && (not b && eqb (at ys i) u)) (bit_zero i)

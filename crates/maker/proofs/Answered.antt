@@ -33,7 +33,7 @@ use Rattle.maker.specs.Words.{flat}
 use Rattle.maker.specs.declared.Source.{Source}
 use Rattle.maker.specs.declared.Making.{Making}
 use Rattle.maker.specs.Finding.{word_checks, early_checks, Finds, Fits, IsNothing, IsMade}
-use Rattle.maker.proofs.Finding.{early-numbered}
+use Rattle.maker.proofs.Finding.{early_numbered}
 
 -- ---- the list's numbers and bytes, entry by entry
 
@@ -51,13 +51,13 @@ flat_each g x (y ∷ xs) =
     next j = let e : 1 + j ≡ suc j = omega arith in ap (λ (k : ℕ). g (get_or (y ∷ xs) k x)) e
 
 module _ (t : Table) (e : ℕ) (plan : List ℕ) where
-  pub numbers-are : flat in_memory (element_moves t e plan) ≡ list_numbers (moves_list t e plan)
+  pub numbers_are : flat in_memory (element_moves t e plan) ≡ list_numbers (moves_list t e plan)
   unfolding list_numbers
-  numbers-are = sym (flat_each in_memory (move 0 0 0) (element_moves t e plan))
+  numbers_are = sym (flat_each in_memory (move 0 0 0) (element_moves t e plan))
 
-  pub bytes-are : file_head e (hyperperiod t) ++ flat in_file (element_moves t e plan) ≡ list_bytes (moves_list t e plan)
+  pub bytes_are : file_head e (hyperperiod t) ++ flat in_file (element_moves t e plan) ≡ list_bytes (moves_list t e plan)
   unfolding list_bytes
-  bytes-are = ap (λ (r : List ℕ). file_head e (hyperperiod t) ++ r) (sym (flat_each in_file (move 0 0 0) (element_moves t e plan)))
+  bytes_are = ap (λ (r : List ℕ). file_head e (hyperperiod t) ++ r) (sym (flat_each in_file (move 0 0 0) (element_moves t e plan)))
 
 -- ---- the answer
 
@@ -85,8 +85,8 @@ module _ (a : Ask) (N : Numbered a.checks) (plan : List ℕ) (e room wants : ℕ
   unfolding maker_checks
   split = refl
 
-  early-none : (p : ℕ) → Answers early 0 p → None early
-  early-none p q = none_of early p (early-numbered t plan e a.checks N) q
+  early_none : (p : ℕ) → Answers early 0 p → None early
+  early_none p q = none_of early p (early_numbered t plan e a.checks N) q
 
   late : (n p : ℕ) → n ≢ 0 → Answers (short_output brief ∷ []) n p → Answers last n p
   unfolding Answers
@@ -110,11 +110,11 @@ module _ (a : Ask) (N : Numbered a.checks) (plan : List ℕ) (e room wants : ℕ
 
     module _ (z : s.answer.number ≡ 0) where
       none : None early
-      none = early-none s.answer.place (rw z at F.answers)
+      none = early_none s.answer.place (rw z at F.answers)
 
       -- the output is too short
-      pub fits-short : (x : Answer) (r : Source) → cramped → (x.number ≡ 17) × (x.place ≡ 0) → IsNothing x r → Fits a plan e room wants r
-      fits-short x r l y q = record {
+      pub fits_short : (x : Answer) (r : Source) → cramped → (x.number ≡ 17) × (x.place ≡ 0) → IsNothing x r → Fits a plan e room wants r
+      fits_short x r l y q = record {
         answers = rw (q.answer, y.0, y.1, split) (joined words last 17 0 (none_left words (short_output brief ∷ []) none)
             (applied (short_output (brief ⊎ cramped)) [] 17 0 (inr l) refl refl));
         ready = λ k. absurd (let w : ⊥ = omega (arith, k, y.0, ap (λ (b : Answer). b.number) q.answer) in w);
@@ -144,15 +144,15 @@ module _ (a : Ask) (plan : List ℕ) (e : ℕ) (form : ElementList → List ℕ)
   abbrev Told : List ℕ → Type 0
   Told now = ListMade a plan e form was now r.answer.number r.answer.place r.hyper r.entries
 
-  pub made-refused : s.answer.number ≢ 0 → Told was
-  made-refused z = rw (q.answer, q.hyper, q.entries, size) record {
+  pub made_refused : s.answer.number ≢ 0 → Told was
+  made_refused z = rw (q.answer, q.hyper, q.entries, size) record {
     answers = F.answers;
     done = λ y. absurd (z y);
     refused = λ y. ((F.none z).0, (F.none z).1, refl);
   }
 
-  pub made-done : s.answer.number ≡ 0 → (now : List ℕ) → now ≡ lent (form (moves_list a.table e plan)) was → Told now
-  made-done z now w = rw (q.answer, q.hyper, q.entries, size) record {
+  pub made_done : s.answer.number ≡ 0 → (now : List ℕ) → now ≡ lent (form (moves_list a.table e plan)) was → Told now
+  made_done z now w = rw (q.answer, q.hyper, q.entries, size) record {
     answers = F.answers;
     done = λ y. ((F.ready z).hyper, (F.ready z).entries, w);
     refused = λ y. absurd (y z);

@@ -101,8 +101,8 @@ used_skip {t} {w} {i} {used} U n = record {
 
 module _ {t : Table} {w i used : ℕ} (U : Used t w i used) (b : T (bit w i)) (one : (j : ℕ) → j < i → t.way j ≡ t.way i) where
   -- it shares no segment with those before it
-  pub used-add : bit_and used (route t i) ≡ 0 → Used t w (i + 1) (bit_or used (route t i))
-  used-add z = record {
+  pub used_add : bit_and used (route t i) ≡ 0 → Used t w (i + 1) (bit_or used (route t i))
+  used_add z = record {
     covers = λ j l c s r.
         along (sym (bit_or_lem used (route t i) s))
         (⊎_elim (λ (e : j ≡ i). orr (bit used s) (bit (route t i) s) (rw e at r))
@@ -123,8 +123,8 @@ module _ {t : Table} {w i used : ℕ} (U : Used t w i used) (b : T (bit w i)) (o
           (both (bit used s) (bit (route t i) s) (U.covers j l c s x) y)
 
   -- it shares one
-  pub used-stop : i < t.rows → bit_and used (route t i) ≢ 0 → BadWord t w
-  used-stop l n =
+  pub used_stop : i < t.rows → bit_and used (route t i) ≢ 0 → BadWord t w
+  used_stop l n =
       ⊎_elim
       (λ h.
       let q = least i (λ j. bit w j && overlap t j i) h in
@@ -156,19 +156,19 @@ no_word : (t : Table) → BadWord t 0 → ⊥
 no_word t b = ⊎_elim (λ q. along (bit_zero q.0) q.2) (λ q. along (bit_zero q.0) q.4) b
 
 module _ (t : Table) (ws : List ℕ) where
-  pub clean-start : Clean t ws 0
-  clean-start s l = absurd (not-suc-le-zero l)
+  pub clean_start : Clean t ws 0
+  clean_start s l = absurd (not-suc-le-zero l)
 
   module _ (n : ℕ) where
-    pub clean-next : Clean t ws n → (BadWord t (at ws n) → ⊥) → Clean t ws (n + 1)
-    clean-next h b s l = ⊎_elim (λ (q : n ≤ s). let e : s ≡ n = omega arith in rw e b) (λ q. h s q) (le_or_lt n s)
+    pub clean_next : Clean t ws n → (BadWord t (at ws n) → ⊥) → Clean t ws (n + 1)
+    clean_next h b s l = ⊎_elim (λ (q : n ≤ s). let e : s ≡ n = omega arith in rw e b) (λ q. h s q) (le_or_lt n s)
 
     pub clean_found : (m : ℕ) → Clean t ws n → n ≤ m → BadWord t (at ws n) → LowestBad t ws m n
     clean_found m h l b = record { most = l; none = h; bad = λ q. b }
 
     -- the plan is too short
-    pub clean-past : (m : ℕ) → Clean t ws n → length ws ≤ n → LowestBad t ws m m
-    clean-past m h l = record {
+    pub clean_past : (m : ℕ) → Clean t ws n → length ws ≤ n → LowestBad t ws m m
+    clean_past m h l = record {
       most = omega arith;
       none = λ s q. ⊎_elim (λ (k : n ≤ s). rw (past_end ws s (omega arith)) (no_word t)) (λ k. h s k) (le_or_lt n s);
       bad = λ q. absurd (let z : ⊥ = omega arith in z);
@@ -183,11 +183,11 @@ module _ {t : Table} (S : Sound t) (one : t.rings ≡ 1) where
   clock : (i : ℕ) → i < t.rows → t.way i ≡ clockwise
   clock i l = omega (arith, one, (S.row i l).way_known)
 
-  first-element : (i : ℕ) → i < t.rows → Element t.elements (t.first i)
-  first-element i l = record { low = (S.row i l).first_low; high = (S.row i l).first_high }
+  first_element : (i : ℕ) → i < t.rows → Element t.elements (t.first i)
+  first_element i l = record { low = (S.row i l).first_low; high = (S.row i l).first_high }
 
-  second-element : (i : ℕ) → i < t.rows → Element t.elements (t.second i)
-  second-element i l = record { low = (S.row i l).second_low; high = (S.row i l).second_high }
+  second_element : (i : ℕ) → i < t.rows → Element t.elements (t.second i)
+  second_element i l = record { low = (S.row i l).second_low; high = (S.row i l).second_high }
 
   differ : (i : ℕ) (l : i < t.rows) → (t.first i < t.second i) ⊎ (t.second i < t.first i)
   differ i l =
@@ -196,49 +196,49 @@ module _ {t : Table} (S : Sound t) (one : t.rings ≡ 1) where
       (le_or_lt (t.first i) (t.second i))) inl (le_or_lt (t.second i) (t.first i))
 
   -- a row uses the segment that begins at element e, of those on its route
-  used-at : (i e : ℕ) → i < t.rows → 1 ≤ e → steps t.elements (t.first i) e < steps t.elements (t.first i) (t.second i)
+  used_at : (i e : ℕ) → i < t.rows → 1 ≤ e → steps t.elements (t.first i) e < steps t.elements (t.first i) (t.second i)
       → T (uses t i (suc (e - 1)))
   unfolding uses
-  used-at i e l h m =
+  used_at i e l h m =
       let q : suc (e - 1) ≡ e = omega arith in
       along (sym (clockwise_uses t.elements (t.first i) (t.second i) (suc (e - 1)) (clock i l)))
       (rw q (lt→ltb (steps t.elements (t.first i) e) (steps t.elements (t.first i) (t.second i)) m))
 
-  first-used : (i : ℕ) → i < t.rows → T (uses t i (suc (t.first i - 1)))
-  first-used i l =
-      let f = first-element i l in
-      let g = second-element i l in
-      used-at i (t.first i) l f.low
+  first_used : (i : ℕ) → i < t.rows → T (uses t i (suc (t.first i - 1)))
+  first_used i l =
+      let f = first_element i l in
+      let g = second_element i l in
+      used_at i (t.first i) l f.low
       (⊎_elim
       (λ d. ⊎_elim (λ q. omega (arith, steps_same f, q.1)) (λ q. omega (arith, q.0)) (steps_cases f g))
       (λ d. ⊎_elim (λ q. omega (arith, q.0)) (λ q. omega (arith, steps_same f, q.1, f.high, g.low)) (steps_cases f g))
       (differ i l))
 
   -- the segment that ends at its second end begins one element before, M before 1
-  abbrev last-segment : ℕ → ℕ
-  last-segment e = cond (eqb e 1) t.elements (e - 1)
+  abbrev last_segment : ℕ → ℕ
+  last_segment e = cond (eqb e 1) t.elements (e - 1)
 
-  last-element : (e : ℕ) → Element t.elements e → Element t.elements (last-segment e)
-  last-element e g =
+  last_element : (e : ℕ) → Element t.elements e → Element t.elements (last_segment e)
+  last_element e g =
       ⊎_elim (λ (h : T (eqb e 1)). rw (is_true (eqb e 1) h) (record { low = omega (arith, S.elements_low); high = omega arith }))
-      (λ h. rw (is_false (eqb e 1) h) (record { low = omega (arith, g.low, not-one e h); high = omega (arith, g.high) }))
+      (λ h. rw (is_false (eqb e 1) h) (record { low = omega (arith, g.low, not_one e h); high = omega (arith, g.high) }))
       (decide (eqb e 1))
     where
-      not-one : (e : ℕ) → (T (eqb e 1) → ⊥) → e ≢ 1
-      not-one e h q = h (eqb_of e 1 q)
+      not_one : (e : ℕ) → (T (eqb e 1) → ⊥) → e ≢ 1
+      not_one e h q = h (eqb_of e 1 q)
 
-  second-used : (i : ℕ) → i < t.rows → T (uses t i (suc (last-segment (t.second i) - 1)))
-  second-used i l =
-      let f = first-element i l in
-      let g = second-element i l in
-      let m = last-element (t.second i) g in
-      used-at i (last-segment (t.second i)) l m.low (less i l (decide (eqb (t.second i) 1)))
+  second_used : (i : ℕ) → i < t.rows → T (uses t i (suc (last_segment (t.second i) - 1)))
+  second_used i l =
+      let f = first_element i l in
+      let g = second_element i l in
+      let m = last_element (t.second i) g in
+      used_at i (last_segment (t.second i)) l m.low (less i l (decide (eqb (t.second i) 1)))
     where
       less : (i : ℕ) (l : i < t.rows) → T (eqb (t.second i) 1) ⊎ (T (eqb (t.second i) 1) → ⊥)
-          → steps t.elements (t.first i) (last-segment (t.second i)) < steps t.elements (t.first i) (t.second i)
+          → steps t.elements (t.first i) (last_segment (t.second i)) < steps t.elements (t.first i) (t.second i)
       less i l (inl h) =
-          let f = first-element i l in
-          let g = second-element i l in
+          let f = first_element i l in
+          let g = second_element i l in
           let e : t.second i ≡ 1 = eqb→eq (t.second i) 1 h in
           let m : Element t.elements t.elements = record { low = omega (arith, S.elements_low); high = omega arith } in
           rw (is_true (eqb (t.second i) 1) h)
@@ -247,8 +247,8 @@ module _ {t : Table} (S : Sound t) (one : t.rings ≡ 1) where
           (steps_cases f m))
           (steps_cases f g)) (differ i l))
       less i l (inr h) =
-          let f = first-element i l in
-          let g = second-element i l in
+          let f = first_element i l in
+          let g = second_element i l in
           let n : t.second i ≢ 1 = λ q. h (eqb_of (t.second i) 1 q) in
           let m : Element t.elements (t.second i - 1) = record { low = omega (arith, g.low, n); high = omega (arith, g.high) } in
           rw (is_false (eqb (t.second i) 1) h)
@@ -259,19 +259,19 @@ module _ {t : Table} (S : Sound t) (one : t.rings ≡ 1) where
           (steps_cases f m)) (steps_cases f g))
           (differ i l))
 
-  overlap-at : (i j e : ℕ) → i < t.rows → j < t.rows → Element t.elements e → T (uses t i (suc (e - 1)))
+  overlap_at : (i j e : ℕ) → i < t.rows → j < t.rows → Element t.elements e → T (uses t i (suc (e - 1)))
       → T (uses t j (suc (e - 1))) → T (overlap t i j)
   unfolding overlap
-  overlap-at i j e l m g a b =
+  overlap_at i j e l m g a b =
       any_of t.elements (λ s. shares t i j (suc s)) (e - 1) (omega (arith, g.low, g.high))
       (both (eqb (t.way i) (t.way j)) (uses t i (suc (e - 1)) && uses t j (suc (e - 1)))
       (eqb_of (t.way i) (t.way j) (clock i l ∙ sym (clock j m))) (both (uses t i (suc (e - 1))) (uses t j (suc (e - 1))) a b))
 
-  pub first-overlap : (i j : ℕ) → i < t.rows → j < t.rows → t.first i ≡ t.first j → T (overlap t i j)
-  first-overlap i j l m e =
-      overlap-at i j (t.first i) l m (first-element i l) (first-used i l) (rw e (first-used j m))
+  pub first_overlap : (i j : ℕ) → i < t.rows → j < t.rows → t.first i ≡ t.first j → T (overlap t i j)
+  first_overlap i j l m e =
+      overlap_at i j (t.first i) l m (first_element i l) (first_used i l) (rw e (first_used j m))
 
-  pub second-overlap : (i j : ℕ) → i < t.rows → j < t.rows → t.second i ≡ t.second j → T (overlap t i j)
-  second-overlap i j l m e =
-      overlap-at i j (last-segment (t.second i)) l m (last-element (t.second i) (second-element i l)) (second-used i l)
-      (rw e (second-used j m))
+  pub second_overlap : (i j : ℕ) → i < t.rows → j < t.rows → t.second i ≡ t.second j → T (overlap t i j)
+  second_overlap i j l m e =
+      overlap_at i j (last_segment (t.second i)) l m (last_element (t.second i) (second_element i l)) (second_used i l)
+      (rw e (second_used j m))

@@ -18,7 +18,7 @@ use Rattle.rules.specs.ElementList.{Entry, slot_moves, BadWord}
 use Rattle.table.specs.Sound.{Sound}
 use Rattle.maker.specs.Words.{ending_at, word_moves, plan_moves, AtMostOne, OneEach}
 use Rattle.maker.proofs.Words.{bit_ending, picked_ending}
-use Rattle.maker.proofs.Bad.{first-overlap, second-overlap}
+use Rattle.maker.proofs.Bad.{first_overlap, second_overlap}
 
 module _ {t : Table} (S : Sound t) (e : ℕ) where
   abbrev into : ℕ
@@ -28,14 +28,14 @@ module _ {t : Table} (S : Sound t) (e : ℕ) where
   from = ending_at t.rows t.first e
 
   -- the code's moves are the definition's
-  pub word-slot : (s w : ℕ) → word_moves into from s w ≡ slot_moves t e s w
+  pub word_slot : (s w : ℕ) → word_moves into from s w ≡ slot_moves t e s w
   unfolding slot_moves
-  word-slot s w =
+  word_slot s w =
       ap₂ (λ (x y : List Entry). x ++ y) (picked_ending t.rows t.second e s w 0 S.rows_high)
       (picked_ending t.rows t.first e s w 1 S.rows_high)
 
-  pub plan-moves : (n : ℕ) (ws : List ℕ) → plan_moves into from n ws ≡ each n (λ s. slot_moves t e s (at ws s))
-  plan-moves n ws = each_eq n (λ s. word_moves into from s (at ws s)) (λ s. slot_moves t e s (at ws s)) (λ s l. word-slot s (at ws s))
+  pub plan_moves_lem : (n : ℕ) (ws : List ℕ) → plan_moves into from n ws ≡ each n (λ s. slot_moves t e s (at ws s))
+  plan_moves_lem n ws = each_eq n (λ s. word_moves into from s (at ws s)) (λ s. slot_moves t e s (at ws s)) (λ s l. word_slot s (at ws s))
 
   -- a word that isn't bad has at most one row that ends at the element
   module _ (ends : ℕ → ℕ) (meet : (i j : ℕ) → i < t.rows → j < t.rows → ends i ≡ ends j → T (overlap t i j))
@@ -60,8 +60,8 @@ module _ {t : Table} (S : Sound t) (e : ℕ) where
         ⊎_elim (λ (l : i ≤ j). ⊎_elim (λ (m : j ≤ i). omega arith) (λ m. absurd (apart i j m x y)) (le_or_lt j i))
         (λ l. absurd (apart j i l y x)) (le_or_lt i j)
 
-  pub clean-clear : t.rings ≡ 1 → (n : ℕ) (ws : List ℕ) → ((s : ℕ) → s < n → BadWord t (at ws s) → ⊥) → OneEach into from n ws
-  clean-clear one n ws h = record {
-    into = λ s l. at_most_one t.second (second-overlap S one) (at ws s) (h s l);
-    from = λ s l. at_most_one t.first (first-overlap S one) (at ws s) (h s l);
+  pub clean_clear : t.rings ≡ 1 → (n : ℕ) (ws : List ℕ) → ((s : ℕ) → s < n → BadWord t (at ws s) → ⊥) → OneEach into from n ws
+  clean_clear one n ws h = record {
+    into = λ s l. at_most_one t.second (second_overlap S one) (at ws s) (h s l);
+    from = λ s l. at_most_one t.first (first_overlap S one) (at ws s) (h s l);
   }

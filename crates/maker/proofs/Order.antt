@@ -21,8 +21,8 @@ use Rattle.rules.specs.Loads.{hyperperiod}
 use Rattle.rules.specs.ElementList.{Entry, move, way_moves, slot_moves, element_moves, IsMove, BadWord}
 use Rattle.lists.specs.Entries.{rank}
 use Rattle.table.specs.Sound.{Sound}
-use Rattle.maker.proofs.Words.{picks-none, picks-one}
-use Rattle.maker.proofs.Bad.{first-overlap, second-overlap}
+use Rattle.maker.proofs.Words.{picks_none, picks_one}
+use Rattle.maker.proofs.Bad.{first_overlap, second_overlap}
 
 abbrev none : Entry
 none = move 0 0 0
@@ -90,8 +90,8 @@ module _ (P : Entry → Type 0) where
         (λ t.
         let w = least n p t in
         let q = h w.0 w.1 w.2 in
-        rw (picks-one p g n w.0 w.1 w.2 (λ j m u. only j w.0 m w.1 u w.2)) (q.1, q.0, omega (arith, q.2)))
-        (λ u. rw (picks-none p g n (λ i m t. u (any_of n p i m t))) l)
+        rw (picks_one p g n w.0 w.1 w.2 (λ j m u. only j w.0 m w.1 u w.2)) (q.1, q.0, omega (arith, q.2)))
+        (λ u. rw (picks_none p g n (λ i m t. u (any_of n p i m t))) l)
         (decide (any n p))
 
 -- ---- all of them
@@ -145,10 +145,10 @@ one false x y (k, l, e) = absurd (not-suc-le-zero l)
 -- ---- the moves of an element
 
 module _ (t : Table) (e : ℕ) (ws : List ℕ) where
-  way-has : (end : ℕ → ℕ) (s i d : ℕ) → i < t.rows → T (bit (at ws s) i) → end i ≡ e
+  way_has : (end : ℕ → ℕ) (s i d : ℕ) → i < t.rows → T (bit (at ws s) i) → end i ≡ e
       → Has (way_moves t.rows end e s (at ws s) d) (move s i d)
   unfolding way_moves
-  way-has end s i d l b q =
+  way_has end s i d l b q =
       has_each (move s i d) (λ j. cond (bit (at ws s) j && eqb (end j) e) (move s j d ∷ []) []) t.rows i l
       (has_one (bit (at ws s) i && eqb (end i) e) (move s i d) (both (bit (at ws s) i) (eqb (end i) e) b (eqb_of (end i) e q)))
 
@@ -161,20 +161,20 @@ module _ (t : Table) (e : ℕ) (ws : List ℕ) where
       (λ q. has_left x (way_moves t.rows t.second e x.slot (at ws x.slot) 0)
       (way_moves t.rows t.first e x.slot (at ws x.slot) 1)
       (subst (λ (y : Entry). Has (way_moves t.rows t.second e x.slot (at ws x.slot) 0) y) (same 0 q.0)
-      (way-has t.second x.slot x.row 0 m.row m.moves q.1)))
+      (way_has t.second x.slot x.row 0 m.row m.moves q.1)))
       (λ q. has_right x (way_moves t.rows t.second e x.slot (at ws x.slot) 0)
       (way_moves t.rows t.first e x.slot (at ws x.slot) 1)
       (subst (λ (y : Entry). Has (way_moves t.rows t.first e x.slot (at ws x.slot) 1) y) (same 1 q.0)
-      (way-has t.first x.slot x.row 1 m.row m.moves q.1)))
+      (way_has t.first x.slot x.row 1 m.row m.moves q.1)))
       m.end)
     where
       same : (d : ℕ) → x.way ≡ d → move x.slot x.row d ≡ x
       same d q = λ k. record { slot = x.slot; row = x.row; way = sym q k }
 
-  way-is : (end : ℕ → ℕ) (s d : ℕ) (x : Entry) → Has (way_moves t.rows end e s (at ws s) d) x
+  way_is : (end : ℕ → ℕ) (s d : ℕ) (x : Entry) → Has (way_moves t.rows end e s (at ws s) d) x
       → (i : ℕ) × (i < t.rows) × T (bit (at ws s) i) × (end i ≡ e) × (move s i d ≡ x)
   unfolding way_moves
-  way-is end s d x q =
+  way_is end s d x q =
       let w = some x (λ j. cond (bit (at ws s) j && eqb (end j) e) (move s j d ∷ []) []) t.rows q in
       let i = w.0 in
       let v = one (bit (at ws s) i && eqb (end i) e) x (move s i d) w.2 in
@@ -188,20 +188,20 @@ module _ (t : Table) (e : ℕ) (ws : List ℕ) where
       let s = w.0 in
       ⊎_elim
       (λ h.
-      let v = way-is t.second s 0 x h in
+      let v = way_is t.second s 0 x h in
       subst (IsMove t e ws) v.4 (record { slot = w.1; row = v.1; moves = v.2; end = inl (refl, v.3) }))
       (λ h.
-      let v = way-is t.first s 1 x h in
+      let v = way_is t.first s 1 x h in
       subst (IsMove t e ws) v.4 (record { slot = w.1; row = v.1; moves = v.2; end = inr (refl, v.3) }))
       (split x (way_moves t.rows t.second e s (at ws s) 0) (way_moves t.rows t.first e s (at ws s) 1) w.2)
 
   -- in words that aren't bad there is at most one each way, so the moves stand in order
   module _ (S : Sound t) (one : t.rings ≡ 1) (clean : (s : ℕ) → s < hyperperiod t → BadWord t (at ws s) → ⊥) where
-    way-order : (end : ℕ → ℕ) → ((i j : ℕ) → i < t.rows → j < t.rows → end i ≡ end j → T (overlap t i j)) → (s d : ℕ) → s < hyperperiod t
+    way_order : (end : ℕ → ℕ) → ((i j : ℕ) → i < t.rows → j < t.rows → end i ≡ end j → T (overlap t i j)) → (s d : ℕ) → s < hyperperiod t
         → ((i : ℕ) → i < t.rows → T (bit (at ws s) i) → end i ≡ e → IsMove t e ws (move s i d))
         → Between (IsMove t e ws) (2 * s + d) (2 * s + d + 1) (way_moves t.rows end e s (at ws s) d)
     unfolding way_moves
-    way-order end meet s d l is =
+    way_order end meet s d l is =
         at_most_one (IsMove t e ws) (λ i. bit (at ws s) i && eqb (end i) e) (λ i. move s i d) t.rows (2 * s + d) (2 * s + d + 1)
         (omega arith) single (λ i m h. (is i m (moves i h) (ends i h), omega arith, omega arith))
       where
@@ -230,7 +230,7 @@ module _ (t : Table) (e : ℕ) (ws : List ℕ) where
         let c : 2 * s + 1 + 1 ≡ 2 * s + 2 = omega arith in
         join (IsMove t e ws) (2 * s) (2 * s + 1) (2 * s + 2) (way_moves t.rows t.second e s (at ws s) 0)
         (way_moves t.rows t.first e s (at ws s) 1)
-        (rw (b, a) at (way-order t.second (second-overlap S one) s 0 l
+        (rw (b, a) at (way_order t.second (second_overlap S one) s 0 l
         (λ i m h q. record { slot = l; row = m; moves = h; end = inl (refl, q) })))
-        (rw c at (way-order t.first (first-overlap S one) s 1 l
+        (rw c at (way_order t.first (first_overlap S one) s 1 l
         (λ i m h q. record { slot = l; row = m; moves = h; end = inr (refl, q) }))))

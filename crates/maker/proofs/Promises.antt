@@ -42,19 +42,19 @@ use Rattle.rules.proofs.Answers.{
   none_right,
   numbered_join,
   none_join,
-  single-none,
-  none-single,
-  single-numbered,
+  single_none,
+  none_single,
+  single_numbered,
 }
 use Rattle.rules.proofs.Calls.{lent_take, call_none}
 use Rattle.table.specs.Sound.{Sound}
-use Rattle.lags.proofs.Intervals.{hyperperiod-positive}
-use Rattle.lists.proofs.Heads.{Right, right-memory}
+use Rattle.lags.proofs.Intervals.{hyperperiod_positive}
+use Rattle.lists.proofs.Heads.{Right, right_memory}
 use Rattle.lists.proofs.RoundTrip.{right_alike, numbers_length, bytes_length, memory_back, bytes_pass}
 use Rattle.lists.specs.Entries.{rank}
 use Rattle.maker.specs.Finding.{word_checks}
 use Rattle.maker.specs.Promises.{Exactly, MadeExactly, AllTwice, MadeFew, MadePasses, FirstWords}
-use Rattle.maker.proofs.Finding.{judged_numbered, admitted-table}
+use Rattle.maker.proofs.Finding.{judged_numbered, admitted_table}
 use Rattle.maker.proofs.Order.{has, ascends, bounded, all, only, ordered}
 
 -- ---- of the moves in words that aren't bad
@@ -87,8 +87,8 @@ module _ (t : Table) (e : ℕ) (ws : List ℕ) (S : Sound t) (one : t.rings ≡ 
   pub few : length xs ≤ 2 * hyperperiod t
   few = let z = bounded (IsMove t e ws) 0 (2 * hyperperiod t) xs (ordered t e ws S one clean) in omega (arith, z)
 
-  way-small : (k : ℕ) → k < length xs → (made.entry k).way ≤ 1
-  way-small k l = ⊎_elim (λ q. omega (arith, q.0)) (λ q. omega (arith, q.0)) (is_move k l).end
+  way_small : (k : ℕ) → k < length xs → (made.entry k).way ≤ 1
+  way_small k l = ⊎_elim (λ q. omega (arith, q.0)) (λ q. omega (arith, q.0)) (is_move k l).end
 
   in_order : (k : ℕ) → k < length xs → Rises made k
   in_order k l = go (ℕ_discrete k 0)
@@ -96,7 +96,7 @@ module _ (t : Table) (e : ℕ) (ws : List ℕ) (S : Sound t) (one : t.rings ≡ 
       after : k ≢ 0 → Before (made.entry (k - 1)) (made.entry k)
       after z =
           let r : rank (made.entry (k - 1)) < rank (made.entry k) = rises (k - 1) k (omega arith) l in
-          let w = way-small k l in
+          let w = way_small k l in
           ⊎_elim
           (λ (h : (made.entry k).slot ≤ (made.entry (k - 1)).slot).
           inr (omega (arith, r, w), omega (arith, r, w)))
@@ -111,7 +111,7 @@ module _ (t : Table) (e : ℕ) (ws : List ℕ) (S : Sound t) (one : t.rings ≡ 
   right (low, high) few = record {
     element_low = low;
     element_high = omega (arith, S.elements_high);
-    hyper_low = hyperperiod-positive S;
+    hyper_low = hyperperiod_positive S;
     hyper_high = few;
     entry = wrong;
   }
@@ -121,7 +121,7 @@ module _ (t : Table) (e : ℕ) (ws : List ℕ) (S : Sound t) (one : t.rings ≡ 
           let m = is_move k l in
           ⊎_elim (λ h. let z : ⊥ = omega (arith, m.slot, h) in z)
           (λ v. ⊎_elim (λ h. let z : ⊥ = omega (arith, m.row, S.rows_high, h) in z)
-          (λ u. ⊎_elim (λ h. let z : ⊥ = omega (arith, way-small k l, h) in z) (λ n. n (in_order k l)) u) v) w
+          (λ u. ⊎_elim (λ h. let z : ⊥ = omega (arith, way_small k l, h) in z) (λ n. n (in_order k l)) u) v) w
 
 -- ---- of a list that was made
 
@@ -135,49 +135,49 @@ module _ (a : Ask) (plan : List ℕ) (e room wants : ℕ) where
   abbrev short : Check
   short = short_output ((length plan < hyperperiod a.table) ⊎ (room < wants))
 
-  pub maker-numbered : Numbered a.checks → Numbered checks
+  pub maker_numbered : Numbered a.checks → Numbered checks
   unfolding maker_checks Numbered
-  maker-numbered N =
+  maker_numbered N =
       numbered_join (word_checks a.checks a.table plan e) (short ∷ [])
       (numbered_join (a.checks ++ (wrong_element a.table e ∷ [])) bad
       (numbered_join a.checks (wrong_element a.table e ∷ []) N (omega arith))
-      (single-numbered (bad_word a.table plan) (hyperperiod a.table) (λ s z. let y : ⊥ = omega arith in y)))
+      (single_numbered (bad_word a.table plan) (hyperperiod a.table) (λ s z. let y : ⊥ = omega arith in y)))
       (omega arith)
 
-  pub maker-none : None a.checks → (1 ≤ e) × (e ≤ a.table.elements)
+  pub maker_none : None a.checks → (1 ≤ e) × (e ≤ a.table.elements)
       → ((s : ℕ) → s < hyperperiod a.table → BadWord a.table (at plan s) → ⊥) → hyperperiod a.table ≤ length plan → wants ≤ room
       → None checks
   unfolding maker_checks None
-  maker-none n there clean long enough =
+  maker_none n there clean long enough =
       none_join (word_checks a.checks a.table plan e) (short ∷ [])
       (none_join (a.checks ++ (wrong_element a.table e ∷ [])) bad
       (none_join a.checks (wrong_element a.table e ∷ []) n (λ h. h there, tt))
-      (single-none (bad_word a.table plan) (hyperperiod a.table) clean)) (
+      (single_none (bad_word a.table plan) (hyperperiod a.table) clean)) (
         ⊎_elim (λ (h : length plan < hyperperiod a.table). let z : ⊥ = omega arith in z)
             (λ (h : room < wants). let z : ⊥ = omega arith in z),
         tt,
       )
 
   module _ (n : None checks) where
-    words-none : None (word_checks a.checks a.table plan e)
+    words_none : None (word_checks a.checks a.table plan e)
     unfolding maker_checks
-    words-none = none_left (word_checks a.checks a.table plan e) (short ∷ []) n
+    words_none = none_left (word_checks a.checks a.table plan e) (short ∷ []) n
 
-    pub before-none : None a.checks
-    before-none = none_left a.checks (wrong_element a.table e ∷ [])
-        (none_left (a.checks ++ (wrong_element a.table e ∷ [])) bad words-none)
+    pub before_none : None a.checks
+    before_none = none_left a.checks (wrong_element a.table e ∷ [])
+        (none_left (a.checks ++ (wrong_element a.table e ∷ [])) bad words_none)
 
-    pub element-there : (1 ≤ e) × (e ≤ a.table.elements)
+    pub element_there : (1 ≤ e) × (e ≤ a.table.elements)
     unfolding None
-    element-there =
+    element_there =
         limits e 1 a.table.elements
         (none_right a.checks (wrong_element a.table e ∷ [])
-        (none_left (a.checks ++ (wrong_element a.table e ∷ [])) bad words-none)).0
+        (none_left (a.checks ++ (wrong_element a.table e ∷ [])) bad words_none)).0
 
-    pub words-clean : (s : ℕ) → s < hyperperiod a.table → BadWord a.table (at plan s) → ⊥
-    words-clean =
-        none-single (bad_word a.table plan) (hyperperiod a.table)
-        (none_right (a.checks ++ (wrong_element a.table e ∷ [])) bad words-none)
+    pub words_clean : (s : ℕ) → s < hyperperiod a.table → BadWord a.table (at plan s) → ⊥
+    words_clean =
+        none_single (bad_word a.table plan) (hyperperiod a.table)
+        (none_right (a.checks ++ (wrong_element a.table e ∷ [])) bad words_none)
 
 module _ (f plan : List ℕ) (e : ℕ) (form : ElementList → List ℕ) (was now : List ℕ) (p h k : ℕ)
     (M : ListMade (one_ring_ask f) plan e form was now 0 p h k) where
@@ -188,29 +188,29 @@ module _ (f plan : List ℕ) (e : ℕ) (form : ElementList → List ℕ) (was no
   wants = length (form (moves_list t e plan))
 
   none : None (maker_checks (one_ring_ask f).checks t plan e (length was) wants)
-  none = call_none (maker-numbered (one_ring_ask f) plan e (length was) wants (judged_numbered f)) M
+  none = call_none (maker_numbered (one_ring_ask f) plan e (length was) wants (judged_numbered f)) M
 
   admitted : Sound t × (hyperperiod t ≤ max_slots) × (t.rings ≡ 1)
-  admitted = admitted-table f plan e (before-none (one_ring_ask f) plan e (length was) wants none)
+  admitted = admitted_table f plan e (before_none (one_ring_ask f) plan e (length was) wants none)
 
-  clean-words : (s : ℕ) → s < hyperperiod t → BadWord t (at plan s) → ⊥
-  clean-words = words-clean (one_ring_ask f) plan e (length was) wants none
+  clean_words : (s : ℕ) → s < hyperperiod t → BadWord t (at plan s) → ⊥
+  clean_words = words_clean (one_ring_ask f) plan e (length was) wants none
 
-  pub made-right : Right (moves_list t e plan)
-  made-right =
-      right t e plan admitted.0 admitted.2 clean-words (element-there (one_ring_ask f) plan e (length was) wants none) admitted.1
+  pub made_right : Right (moves_list t e plan)
+  made_right =
+      right t e plan admitted.0 admitted.2 clean_words (element_there (one_ring_ask f) plan e (length was) wants none) admitted.1
 
-  pub made-moves : Exactly t e plan
-  made-moves = exactly t e plan admitted.0 admitted.2 clean-words
+  pub made_moves : Exactly t e plan
+  made_moves = exactly t e plan admitted.0 admitted.2 clean_words
 
 pub made_exactly : MadeExactly
-made_exactly f plan e form was now p h k M = made-moves f plan e form was now p h k M
+made_exactly f plan e form was now p h k M = made_moves f plan e form was now p h k M
 
 pub made_few : MadeFew
 made_few f plan e form was now p h k M =
     let d = M.done refl in
     let A = admitted f plan e form was now p h k M in
-    let l = few (file_table f) e plan A.0 A.2 (clean-words f plan e form was now p h k M) in
+    let l = few (file_table f) e plan A.0 A.2 (clean_words f plan e form was now p h k M) in
     (omega (arith, d.0, d.1, l), omega (arith, d.0, A.1))
 
 pub made_entries : (f plan : List ℕ) (e : ℕ) (form : ElementList → List ℕ) (was now : List ℕ) (n p h k : ℕ) → n ≡ 0
@@ -233,8 +233,8 @@ made_passes = record { numbers = numbers; bytes = bytes }
         ∙ lent_take (list_numbers l) was (entry_numbers * l.entries) (numbers_length l) in
         let q = memory_back l in
         rw (same, d.0) (answered (list_memory_checks e l.hyper (list_numbers l))
-        (right-memory e l.hyper (list_numbers l) (numbers_length l ∙ ap (λ (n : ℕ). entry_numbers * n) (sym q.entries))
-        (right_alike q (made-right f plan e list_numbers was now p h k M))))
+        (right_memory e l.hyper (list_numbers l) (numbers_length l ∙ ap (λ (n : ℕ). entry_numbers * n) (sym q.entries))
+        (right_alike q (made_right f plan e list_numbers was now p h k M))))
 
     bytes : (f plan : List ℕ) (e : ℕ) (was now : List ℕ) (p h k : ℕ) → ListMade (one_ring_ask f) plan e list_bytes was now 0 p h k
         → Answers (list_file_checks (take (list_header + entry_size * k) now)) 0 0
@@ -244,7 +244,7 @@ made_passes = record { numbers = numbers; bytes = bytes }
         let same : take (list_header + entry_size * k) now ≡ list_bytes l =
         ap₂ (λ (n : ℕ) (o : List ℕ). take (list_header + entry_size * n) o) d.1 d.2
         ∙ lent_take (list_bytes l) was (list_header + entry_size * l.entries) (bytes_length l) in
-        rw same (answered (list_file_checks (list_bytes l)) (bytes_pass l (made-right f plan e list_bytes was now p h k M)))
+        rw same (answered (list_file_checks (list_bytes l)) (bytes_pass l (made_right f plan e list_bytes was now p h k M)))
 
 -- ---- all elements' lists
 
@@ -282,18 +282,18 @@ module _ (a : Ask) (plan : List ℕ) (e : ℕ) where
     word : (s : ℕ) → s < h → at front s ≡ at plan s
     word s m = get_or-take h plan s 0 m
 
-    same-moves : element_moves a.table e front ≡ element_moves a.table e plan
+    same_moves : element_moves a.table e front ≡ element_moves a.table e plan
     unfolding element_moves
-    same-moves =
+    same_moves =
         each_eq h (λ s. slot_moves a.table e s (at front s)) (λ s. slot_moves a.table e s (at plan s))
         (λ s m. ap (slot_moves a.table e s) (word s m))
 
-    same-list : moves_list a.table e front ≡ moves_list a.table e plan
-    same-list = λ k. record {
+    same_list : moves_list a.table e front ≡ moves_list a.table e plan
+    same_list = λ k. record {
       element = e;
       hyper = hyperperiod a.table;
-      entries = length (same-moves k);
-      entry = λ i. get_or (same-moves k) i (move 0 0 0);
+      entries = length (same_moves k);
+      entry = λ i. get_or (same_moves k) i (move 0 0 0);
     }
 
     same_words : word_checks a.checks a.table front e ≡ word_checks a.checks a.table plan e
@@ -313,7 +313,7 @@ module _ (a : Ask) (plan : List ℕ) (e : ℕ) where
       last ws = short_output ((length ws < h) ⊎ cramped ws) ∷ []
 
       fits : cramped front ≡ cramped plan
-      fits = ap (λ (m : ElementList). length was < length (form m)) same-list
+      fits = ap (λ (m : ElementList). length was < length (form m)) same_list
 
       answer : Answers (last plan) n p → Answers (last front) n p
       unfolding Answers
@@ -335,7 +335,7 @@ module _ (a : Ask) (plan : List ℕ) (e : ℕ) where
         answers = rw same_words (exchanged (word_checks a.checks a.table plan e) (last plan) (last front) n p answer M.answers);
         done = λ z.
             let d = M.done z in
-            (d.0, d.1 ∙ sym (ap length same-moves), d.2 ∙ ap (λ (l : ElementList). lent (form l) was) (sym same-list));
+            (d.0, d.1 ∙ sym (ap length same_moves), d.2 ∙ ap (λ (l : ElementList). lent (form l) was) (sym same_list));
         refused = M.refused;
       }
 

@@ -26,31 +26,31 @@ use Rattle.maker.specs.Words.{ending_at, picked, word_moves, plan_moves, AtMostO
 -- ---- those of n that have p
 
 module _ (p : ℕ → Bool) (g : ℕ → Entry) where
-  abbrev one-if : ℕ → List Entry
-  one-if i = cond (p i) (g i ∷ []) []
+  abbrev one_if : ℕ → List Entry
+  one_if i = cond (p i) (g i ∷ []) []
 
-  pub picks-none : (n : ℕ) → ((i : ℕ) → i < n → T (p i) → ⊥) → each n one-if ≡ []
+  pub picks_none : (n : ℕ) → ((i : ℕ) → i < n → T (p i) → ⊥) → each n one_if ≡ []
   unfolding each
-  picks-none zero h = refl
-  picks-none (suc n) h = rw (picks-none n (λ i l. h i (omega arith)), is_false (p n) (h n (omega arith)))
+  picks_none zero h = refl
+  picks_none (suc n) h = rw (picks_none n (λ i l. h i (omega arith)), is_false (p n) (h n (omega arith)))
 
-  pub picks-one : (n i : ℕ) → i < n → T (p i) → ((j : ℕ) → j < n → T (p j) → j ≡ i) → each n one-if ≡ g i ∷ []
+  pub picks_one : (n i : ℕ) → i < n → T (p i) → ((j : ℕ) → j < n → T (p j) → j ≡ i) → each n one_if ≡ g i ∷ []
   unfolding each
-  picks-one zero i l t u = absurd (not-suc-le-zero l)
-  picks-one (suc n) i l t u =
+  picks_one zero i l t u = absurd (not-suc-le-zero l)
+  picks_one (suc n) i l t u =
       ⊎_elim
       (λ (e : i ≡ n).
-      let none : each n one-if ≡ [] = picks-none n (λ j m q. let z : ⊥ = omega (arith, u j (omega arith) q) in z) in
+      let none : each n one_if ≡ [] = picks_none n (λ j m q. let z : ⊥ = omega (arith, u j (omega arith) q) in z) in
       rw (none, is_true (p n) (rw e at t), ← e))
       (λ m.
       let no : p n ≡ false = is_false (p n) (λ q. let z : ⊥ = omega (arith, u n (omega arith) q) in z) in
       let only : (j : ℕ) → j < n → T (p j) → j ≡ i = λ j k q. u j (omega arith) q in
-      let rest : each n one-if ≡ g i ∷ [] = picks-one n i m t only in
+      let rest : each n one_if ≡ g i ∷ [] = picks_one n i m t only in
       rw (rest, no))
       (below l)
 
   -- none past n
-  pub picks_more : (n k : ℕ) → ((i : ℕ) → n ≤ i → T (p i) → ⊥) → each (n + k) one-if ≡ each n one-if
+  pub picks_more : (n k : ℕ) → ((i : ℕ) → n ≤ i → T (p i) → ⊥) → each (n + k) one_if ≡ each n one_if
   unfolding each
   picks_more n zero h = let e : n + 0 ≡ n = omega arith in rw e
   picks_more n (suc k) h =
@@ -79,11 +79,11 @@ some_bit x l n =
 
 pub picked_none : (s d : ℕ) → picked 0 s d ≡ []
 unfolding picked
-picked_none s d = picks-none (bit 0) (λ i. move s i d) max_rows (λ i l t. along (bit_zero i) t)
+picked_none s d = picks_none (bit 0) (λ i. move s i d) max_rows (λ i l t. along (bit_zero i) t)
 
 pub picked_one : (x s d i : ℕ) → AtMostOne x → i < 64 → T (bit x i) → picked x s d ≡ move s i d ∷ []
 unfolding picked
-picked_one x s d i o l t = picks-one (bit x) (λ i. move s i d) max_rows i l t (λ j m q. o j i q t)
+picked_one x s d i o l t = picks_one (bit x) (λ i. move s i d) max_rows i l t (λ j m q. o j i q t)
 
 -- ---- entries, joined
 
@@ -93,24 +93,24 @@ module _ (g : Entry → List ℕ) where
   flat_append [] ys = refl
   flat_append (x ∷ xs) ys = ap (λ (r : List ℕ). g x ++ r) (flat_append xs ys) ∙ sym (append_assoc (g x) (flat g xs) (flat g ys))
 
-  pub flat-length : (k : ℕ) → ((x : Entry) → length (g x) ≡ k) → (xs : List Entry) → length (flat g xs) ≡ k * length xs
+  pub flat_length : (k : ℕ) → ((x : Entry) → length (g x) ≡ k) → (xs : List Entry) → length (flat g xs) ≡ k * length xs
   unfolding flat
-  flat-length k h [] = omega arith
-  flat-length k h (x ∷ xs) = omega (arith, length-append (g x) (flat g xs), h x, flat-length k h xs)
+  flat_length k h [] = omega arith
+  flat_length k h (x ∷ xs) = omega (arith, length-append (g x) (flat g xs), h x, flat_length k h xs)
 
   -- more entries, after p and those before them
-  filled-flat : {was out : List ℕ} {n : ℕ} (k : ℕ) → ((x : Entry) → length (g x) ≡ k) → (p : List ℕ) (xs ys : List Entry)
+  filled_flat : {was out : List ℕ} {n : ℕ} (k : ℕ) → ((x : Entry) → length (g x) ≡ k) → (p : List ℕ) (xs ys : List Entry)
       (out' : List ℕ) (m : ℕ) → Filled was out n (p ++ flat g xs) → out' ≡ sets out n (flat g ys) → m ≡ n + k * length ys → m ≤ length was
       → Filled was out' m (p ++ flat g (xs ++ ys))
-  filled-flat k h p xs ys out' m F o e l =
+  filled_flat k h p xs ys out' m F o e l =
       let same : (p ++ flat g xs) ++ flat g ys ≡ p ++ flat g (xs ++ ys) =
       append_assoc p (flat g xs) (flat g ys) ∙ ap (λ (r : List ℕ). p ++ r) (sym (flat_append xs ys)) in
-      rw o (rw same at (filled_sets (flat g ys) m F (omega (arith, e, flat-length k h ys)) l))
+      rw o (rw same at (filled_sets (flat g ys) m F (omega (arith, e, flat_length k h ys)) l))
 
   -- a word without a move, and one with one
-  pub put-none : (x s d p n : ℕ) (was : List ℕ) → x ≡ 0 → PutMoves g (picked x s d) p was was n n
+  pub put_none : (x s d p n : ℕ) (was : List ℕ) → x ≡ 0 → PutMoves g (picked x s d) p was was n n
   unfolding flat
-  put-none x s d p n was z =
+  put_none x s d p n was z =
       let none : picked x s d ≡ [] = rw z (picked_none s d) in
       record { holds = rw none; count = omega (arith, ap length none) }
 
@@ -123,12 +123,12 @@ module _ (g : Entry → List ℕ) where
 -- ---- the plan's words, one after the other
 
 module _ (a b : ℕ) (ws : List ℕ) where
-  pub moves-empty : (g : Entry → List ℕ) → flat g (plan_moves a b 0 ws) ≡ []
+  pub moves_empty : (g : Entry → List ℕ) → flat g (plan_moves a b 0 ws) ≡ []
   unfolding each flat
-  moves-empty g = refl
+  moves_empty g = refl
 
-  pub moves-none : length (plan_moves a b 0 ws) ≡ 0
-  moves-none = ap length (each_none (λ s. word_moves a b s (at ws s)))
+  pub moves_none : length (plan_moves a b 0 ws) ≡ 0
+  moves_none = ap length (each_none (λ s. word_moves a b s (at ws s)))
 
   pub moves_next : (s : ℕ)
       → plan_moves a b (s + 1) ws ≡ (plan_moves a b s ws ++ picked (bit_and (at ws s) a) s 0) ++ picked (bit_and (at ws s) b) s 1
@@ -136,9 +136,9 @@ module _ (a b : ℕ) (ws : List ℕ) where
       each_next s (λ s. word_moves a b s (at ws s))
       ∙ sym (append_assoc (plan_moves a b s ws) (picked (bit_and (at ws s) a) s 0) (picked (bit_and (at ws s) b) s 1))
 
-  pub moves-length : (s : ℕ) → length (plan_moves a b (s + 1) ws)
+  pub moves_length : (s : ℕ) → length (plan_moves a b (s + 1) ws)
       ≡ length (plan_moves a b s ws) + length (picked (bit_and (at ws s) a) s 0) + length (picked (bit_and (at ws s) b) s 1)
-  moves-length s =
+  moves_length s =
       ap length (moves_next s)
       ∙ length-append (plan_moves a b s ws ++ picked (bit_and (at ws s) a) s 0) (picked (bit_and (at ws s) b) s 1)
       ∙ ap (λ (k : ℕ). k + length (picked (bit_and (at ws s) b) s 1)) (length-append (plan_moves a b s ws) (picked (bit_and (at ws s) a) s 0))
@@ -147,7 +147,7 @@ module _ (a b : ℕ) (ws : List ℕ) where
   grows s zero = let e : s + 0 ≡ s = omega arith in omega (arith, ap (λ (n : ℕ). length (plan_moves a b n ws)) e)
   grows s (suc k) =
       let e : s + suc k ≡ s + k + 1 = omega arith in
-      omega (arith, grows s k, moves-length (s + k), ap (λ (n : ℕ). length (plan_moves a b n ws)) e)
+      omega (arith, grows s k, moves_length (s + k), ap (λ (n : ℕ). length (plan_moves a b n ws)) e)
 
   moves_grow : (s n : ℕ) → s ≤ n → length (plan_moves a b s ws) ≤ length (plan_moves a b n ws)
   moves_grow s n l =
@@ -164,7 +164,7 @@ pub record Written (g : Entry → List ℕ) (a b : ℕ) (ws front was out : List
 pub written_start : (g : Entry → List ℕ) (a b : ℕ) (ws : List ℕ) {front was : List ℕ} {p : ℕ} → Filled was was p front
     → Written g a b ws front was was 0 p 0
 written_start g a b ws {front} F =
-    record { count = sym (moves-none a b ws); filled = rw (moves-empty a b ws g, append-nil front) F }
+    record { count = sym (moves_none a b ws); filled = rw (moves_empty a b ws g, append-nil front) F }
 
 module _ {g : Entry → List ℕ} {a b : ℕ} {ws front was out : List ℕ} {n p s : ℕ} (W : Written g a b ws front was out n p s) where
   abbrev xs : List Entry
@@ -174,8 +174,8 @@ module _ {g : Entry → List ℕ} {a b : ℕ} {ws front was out : List ℕ} {n p
   ys = picked (bit_and (at ws s) b) s 1
 
   -- up to word s and in it there are no more moves than in h words
-  pub written-room : (h : ℕ) → s < h → n + length xs + length ys ≤ length (plan_moves a b h ws)
-  written-room h l = omega (arith, W.count, moves-length a b ws s, moves_grow a b ws (s + 1) h (omega arith))
+  pub written_room : (h : ℕ) → s < h → n + length xs + length ys ≤ length (plan_moves a b h ws)
+  written_room h l = omega (arith, W.count, moves_length a b ws s, moves_grow a b ws (s + 1) h (omega arith))
 
   -- both moves of word s, each of k places
   pub written_next : (k : ℕ) → ((x : Entry) → length (g x) ≡ k) → {out₁ out₂ : List ℕ} {n₁ n₂ p₁ : ℕ} (p₂ : ℕ)
@@ -183,10 +183,10 @@ module _ {g : Entry → List ℕ} {a b : ℕ} {ws front was out : List ℕ} {n p
       → p₂ ≤ length was → Written g a b ws front was out₂ n₂ p₂ (s + 1)
   written_next k wide {out₁} {out₂} {p₁ = p₁} p₂ P e Q f l =
       let ms = plan_moves a b s ws in
-      let F = filled-flat g k wide front ms xs out₁ p₁ W.filled P.holds e (omega arith) in
+      let F = filled_flat g k wide front ms xs out₁ p₁ W.filled P.holds e (omega arith) in
       record {
-        count = omega (arith, W.count, P.count, Q.count, moves-length a b ws s);
-        filled = rw (moves_next a b ws s) (filled-flat g k wide front (ms ++ xs) ys out₂ p₂ F Q.holds f l);
+        count = omega (arith, W.count, P.count, Q.count, moves_length a b ws s);
+        filled = rw (moves_next a b ws s) (filled_flat g k wide front (ms ++ xs) ys out₂ p₂ F Q.holds f l);
       }
 
 -- ---- a table's rows that end at an element

@@ -21,8 +21,8 @@ module _ (f : List ℕ) (i j : ℕ) (r : Decoded) (D : Decodes (file_checks f) (
   abbrev t : Table
   t = file_table f
 
-  abbrev no-first : Check
-  no-first = no_row t 0 i
+  abbrev no_first : Check
+  no_first = no_row t 0 i
 
   abbrev no_second : Check
   no_second = no_row t 1 j
@@ -31,7 +31,7 @@ module _ (f : List ℕ) (i j : ℕ) (r : Decoded) (D : Decodes (file_checks f) (
   pub met_refused : r.answer.number ≢ 0 → Met f i j r.answer.number r.answer.place 0
   unfolding shared_checks
   met_refused h = record {
-    answers = stopped (file_checks f) (no-first ∷ no_second ∷ []) _ _ h D.answers;
+    answers = stopped (file_checks f) (no_first ∷ no_second ∷ []) _ _ h D.answers;
     done = λ e. absurd (h e);
     refused = λ e. refl;
   }
@@ -46,45 +46,45 @@ module _ (f : List ℕ) (i j : ℕ) (r : Decoded) (D : Decodes (file_checks f) (
     rows_are : r.columns.rows ≡ t.rows
     rows_are = ap (λ (u : Table). u.rows) held
 
-    pub met-routes : Routes r.columns.elements r.columns.rows (at r.columns.first) (at r.columns.second)
+    pub met_routes : Routes r.columns.elements r.columns.rows (at r.columns.first) (at r.columns.second)
         (at r.columns.way)
-    met-routes = sound_routes {t = table_of r.columns} (rw held (passed_none f none).sound)
+    met_routes = sound_routes {t = table_of r.columns} (rw held (passed_none f none).sound)
 
     -- 32 refuses
-    pub no-first-row : (n p : ℕ) → r.columns.rows ≤ i → (n ≡ 32) × (p ≡ 0) → Met f i j n p 0
+    pub no_first_row : (n p : ℕ) → r.columns.rows ≤ i → (n ≡ 32) × (p ≡ 0) → Met f i j n p 0
     unfolding shared_checks
-    no-first-row n p l e = record {
-      answers = joined (file_checks f) _ n p none (applied no-first (no_second ∷ []) n p (omega (arith, rows_are)) e.0 e.1);
+    no_first_row n p l e = record {
+      answers = joined (file_checks f) _ n p none (applied no_first (no_second ∷ []) n p (omega (arith, rows_are)) e.0 e.1);
       done = λ q. absurd (omega (arith, e.0));
       refused = λ q. refl;
     }
 
     module _ (l : i < r.columns.rows) where
-      first-there : t.rows ≤ i → ⊥
-      first-there m = omega (arith, rows_are)
+      first_there : t.rows ≤ i → ⊥
+      first_there m = omega (arith, rows_are)
 
-      pub no-second-row : (n p : ℕ) → r.columns.rows ≤ j → (n ≡ 32) × (p ≡ 1) → Met f i j n p 0
+      pub no_second_row : (n p : ℕ) → r.columns.rows ≤ j → (n ≡ 32) × (p ≡ 1) → Met f i j n p 0
       unfolding shared_checks
-      no-second-row n p k e = record {
+      no_second_row n p k e = record {
         answers =
             joined (file_checks f) _ n p none
-            (passed no-first (no_second ∷ []) n p first-there (applied no_second [] n p (omega (arith, rows_are)) e.0 e.1));
+            (passed no_first (no_second ∷ []) n p first_there (applied no_second [] n p (omega (arith, rows_are)) e.0 e.1));
         done = λ q. absurd (omega (arith, e.0));
         refused = λ q. refl;
       }
 
       -- nothing does
-      pub met-done : (n p w : ℕ) → j < r.columns.rows → (n ≡ 0) × (p ≡ 0)
+      pub met_done : (n p w : ℕ) → j < r.columns.rows → (n ≡ 0) × (p ≡ 0)
           → w
           ≡ shared
           (on_ring r.columns.elements r.columns.rows (at r.columns.first) (at r.columns.second) (at r.columns.way))
           i j
           → Met f i j n p w
       unfolding shared_checks shared uses
-      met-done n p w k e q = record {
+      met_done n p w k e q = record {
         answers =
             rw (e.0, e.1) (joined (file_checks f) _ 0 0 none
-            (passed no-first (no_second ∷ []) 0 0 first-there
+            (passed no_first (no_second ∷ []) 0 0 first_there
             (passed no_second [] 0 0 (λ (m : t.rows ≤ j). omega (arith, rows_are)) done)));
         done = λ z. q ∙ ap (λ (u : Table). shared u i j) held;
         refused = λ h. absurd (h e.0);

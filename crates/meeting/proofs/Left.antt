@@ -58,13 +58,13 @@ left_same M n p e h =
 
 -- `(set >> i) % 2 == 1`, as the loop tests it
 module _ (p : Bool) (w i : ℕ) where
-  pub in-set : w / 2 ^ i % 2 ≡ 1 → (not (bit w i) || p) ≡ p
+  pub in_set : w / 2 ^ i % 2 ≡ 1 → (not (bit w i) || p) ≡ p
   unfolding bit
-  in-set e = ap (λ (x : ℕ). not (eqb x 1) || p) e
+  in_set e = ap (λ (x : ℕ). not (eqb x 1) || p) e
 
-  pub not-in-set : (w / 2 ^ i % 2 ≡ 1 → ⊥) → (not (bit w i) || p) ≡ true
+  pub not_in_set : (w / 2 ^ i % 2 ≡ 1 → ⊥) → (not (bit w i) || p) ≡ true
   unfolding bit
-  not-in-set h = ap (λ (c : Bool). not c || p) (ne_eqb (w / 2 ^ i % 2) 1 h)
+  not_in_set h = ap (λ (c : Bool). not c || p) (ne_eqb (w / 2 ^ i % 2) 1 h)
 
 -- a word of no more bits than a ring has segments
 pub stretch_fits : {M w : ℕ} → Stretch 0 M w → w < 2 ^ M

@@ -101,9 +101,9 @@ least_of (suc n) g pos =
 
 module _ (n : ℕ) (g : ℕ → ℕ) (pos : Positive n g) where
   -- it is the common multiple that is above 0 and no greater than any other
-  pub lcm-is : (m : ℕ) → 0 < m → Multiple n g m → ((k : ℕ) → 0 < k → Multiple n g k → m ≤ k) → lcm n g ≡ m
+  pub lcm_is : (m : ℕ) → 0 < m → Multiple n g m → ((k : ℕ) → 0 < k → Multiple n g k → m ≤ k) → lcm n g ≡ m
   unfolding lcm
-  lcm-is m mp M L =
+  lcm_is m mp M L =
       lowest_is (suc (product n g)) (λ k. ltb 0 k && every n (λ i. divides (g i) k)) m
       (omega (arith, L (product n g) (product_positive n g pos) (product_multiple n g)))
       (both (ltb 0 m) (every n (λ i. divides (g i) m)) (lt→ltb 0 m mp) (every_of n (λ i. divides (g i) m) (λ i l. of_dvd (g i) m (M i l))))
@@ -113,43 +113,43 @@ module _ (n : ℕ) (g : ℕ → ℕ) (pos : Positive n g) where
       omega arith)
 
   -- it is the common multiple that divides every other
-  pub lcm-of-least : (m : ℕ) → Least n g m → lcm n g ≡ m
-  lcm-of-least m L =
-      lcm-is m
+  pub lcm_of_least : (m : ℕ) → Least n g m → lcm n g ≡ m
+  lcm_of_least m L =
+      lcm_is m
       (pos_of_dvd_of_pos (L.least (product n g) (product_multiple n g)) (product_positive n g pos))
       L.multiple
       (λ k kp K. le_of_dvd kp (L.least k K))
 
-  pub lcm-as-least : Least n g (lcm n g)
-  lcm-as-least = let r = least_of n g pos in subst (Least n g) (sym (lcm-of-least r.0 r.2)) r.2
+  pub lcm_as_least : Least n g (lcm n g)
+  lcm_as_least = let r = least_of n g pos in subst (Least n g) (sym (lcm_of_least r.0 r.2)) r.2
 
-  pub lcm-multiple : (i : ℕ) → i < n → g i ∣ lcm n g
-  lcm-multiple = lcm-as-least.multiple
+  pub lcm_multiple : (i : ℕ) → i < n → g i ∣ lcm n g
+  lcm_multiple = lcm_as_least.multiple
 
-  pub lcm-divides : (m : ℕ) → Multiple n g m → lcm n g ∣ m
-  lcm-divides = lcm-as-least.least
+  pub lcm_divides : (m : ℕ) → Multiple n g m → lcm n g ∣ m
+  lcm_divides = lcm_as_least.least
 
-  pub lcm-positive : 0 < lcm n g
-  lcm-positive = pos_of_dvd_of_pos (lcm-divides (product n g) (product_multiple n g)) (product_positive n g pos)
+  pub lcm_positive : 0 < lcm n g
+  lcm_positive = pos_of_dvd_of_pos (lcm_divides (product n g) (product_multiple n g)) (product_positive n g pos)
 
 -- that of the first m numbers divides it, and so is no greater: a loop may stop once it is above a bound
 pub lcm_prefix : (m n : ℕ) (g : ℕ → ℕ) → Positive n g → m ≤ n → lcm m g ∣ lcm n g
-lcm_prefix m n g pos l = lcm-divides m g (λ i k. pos i (omega arith)) (lcm n g) (λ i k. lcm-multiple n g pos i (omega arith))
+lcm_prefix m n g pos l = lcm_divides m g (λ i k. pos i (omega arith)) (lcm n g) (λ i k. lcm_multiple n g pos i (omega arith))
 
 pub lcm_grows : (m n : ℕ) (g : ℕ → ℕ) → Positive n g → m ≤ n → lcm m g ≤ lcm n g
-lcm_grows m n g pos l = le_of_dvd (lcm-positive n g pos) (lcm_prefix m n g pos l)
+lcm_grows m n g pos l = le_of_dvd (lcm_positive n g pos) (lcm_prefix m n g pos l)
 
 pub lcm_none : (g : ℕ → ℕ) → lcm 0 g ≡ 1
-lcm_none g = lcm-of-least 0 g (λ i l. absurd (omega arith)) 1 (least_none g)
+lcm_none g = lcm_of_least 0 g (λ i l. absurd (omega arith)) 1 (least_none g)
 
 pub lcm_next : (n : ℕ) (g : ℕ → ℕ) → Positive (n + 1) g → (m : ℕ) → IsLcm (lcm n g) (g n) m → lcm (n + 1) g ≡ m
 lcm_next n g pos m P =
-    rw add-one (lcm-of-least (suc n) g (λ i l. pos i (omega arith)) m (least_next (lcm-as-least n g (λ i l. pos i (omega arith))) P))
+    rw add-one (lcm_of_least (suc n) g (λ i l. pos i (omega arith)) m (least_next (lcm_as_least n g (λ i l. pos i (omega arith))) P))
 
 -- numbers that are all equal
 pub lcm_same : (n : ℕ) (g : ℕ → ℕ) (c : ℕ) → 0 < n → 0 < c → ((i : ℕ) → i < n → g i ≡ c) → lcm n g ≡ c
 lcm_same n g c some pos e =
-    lcm-of-least n g (λ i l. rw (e i l) pos) c (record {
+    lcm_of_least n g (λ i l. rw (e i l) pos) c (record {
       multiple = λ i l. rw (e i l) (dvd_refl c);
       least = λ k M. rw (e 0 some) at (M 0 some);
     })
@@ -175,27 +175,27 @@ greatest_of (suc (suc n)) g some =
 
 module _ (n : ℕ) (g : ℕ → ℕ) (some : 0 < n) (pos : Positive n g) where
   -- it is the common divisor that is no less than any other
-  pub gcd-is : (d : ℕ) → Divisor n g d → ((e : ℕ) → Divisor n g e → e ≤ d) → gcd n g ≡ d
+  pub gcd_is : (d : ℕ) → Divisor n g d → ((e : ℕ) → Divisor n g e → e ≤ d) → gcd n g ≡ d
   unfolding gcd
-  gcd-is d D G =
+  gcd_is d D G =
       highest_is (suc (g 0)) (λ e. every n (λ i. divides e (g i))) d
       (omega (arith, le_of_dvd (pos 0 some) (D 0 some)))
       (every_of n (λ i. divides d (g i)) (λ i l. of_dvd d (g i) (D i l)))
       (λ j l k t. let z = G j (λ i m. dvd_of j (g i) (every_at n (λ i. divides j (g i)) t i m)) in omega arith)
 
   -- it is the common divisor that every other divides
-  pub gcd-of-greatest : (d : ℕ) → Greatest n g d → gcd n g ≡ d
-  gcd-of-greatest d G =
-      gcd-is d G.divisor (λ e E. le_of_dvd (pos_of_dvd_of_pos (G.divisor 0 some) (pos 0 some)) (G.greatest e E))
+  pub gcd_of_greatest : (d : ℕ) → Greatest n g d → gcd n g ≡ d
+  gcd_of_greatest d G =
+      gcd_is d G.divisor (λ e E. le_of_dvd (pos_of_dvd_of_pos (G.divisor 0 some) (pos 0 some)) (G.greatest e E))
 
-  pub gcd-as-greatest : Greatest n g (gcd n g)
-  gcd-as-greatest = let r = greatest_of n g some in subst (Greatest n g) (sym (gcd-of-greatest r.0 r.1)) r.1
+  pub gcd_as_greatest : Greatest n g (gcd n g)
+  gcd_as_greatest = let r = greatest_of n g some in subst (Greatest n g) (sym (gcd_of_greatest r.0 r.1)) r.1
 
-  pub gcd-divides : (i : ℕ) → i < n → gcd n g ∣ g i
-  gcd-divides = gcd-as-greatest.divisor
+  pub gcd_divides : (i : ℕ) → i < n → gcd n g ∣ g i
+  gcd_divides = gcd_as_greatest.divisor
 
-  pub gcd-positive : 0 < gcd n g
-  gcd-positive = pos_of_dvd_of_pos (gcd-divides 0 some) (pos 0 some)
+  pub gcd_positive : 0 < gcd n g
+  gcd_positive = pos_of_dvd_of_pos (gcd_divides 0 some) (pos 0 some)
 
 -- ---- the leading numbers
 
@@ -234,16 +234,16 @@ unfolding leading
 leading_none g = each_none (λ i. cond (any i (λ j. divides (g j) (g i))) [] (g i ∷ []))
 
 module _ (n : ℕ) (g : ℕ → ℕ) where
-  leading-next : leading (n + 1) g ≡ leading n g ++ cond (any n (λ j. divides (g j) (g n))) [] (g n ∷ [])
+  leading_next : leading (n + 1) g ≡ leading n g ++ cond (any n (λ j. divides (g j) (g n))) [] (g n ∷ [])
   unfolding leading
-  leading-next = each_next n (λ i. cond (any i (λ j. divides (g j) (g i))) [] (g i ∷ []))
+  leading_next = each_next n (λ i. cond (any i (λ j. divides (g j) (g i))) [] (g i ∷ []))
 
-  pub leading-kept : any n (λ j. divides (g j) (g n)) ≡ true → leading (n + 1) g ≡ leading n g
-  leading-kept e =
-      leading-next ∙ ap (λ (b : Bool). leading n g ++ cond b [] (g n ∷ [])) e ∙ append-nil (leading n g)
+  pub leading_kept : any n (λ j. divides (g j) (g n)) ≡ true → leading (n + 1) g ≡ leading n g
+  leading_kept e =
+      leading_next ∙ ap (λ (b : Bool). leading n g ++ cond b [] (g n ∷ [])) e ∙ append-nil (leading n g)
 
-  pub leading-new : any n (λ j. divides (g j) (g n)) ≡ false → leading (n + 1) g ≡ leading n g ++ (g n ∷ [])
-  leading-new e = leading-next ∙ ap (λ (b : Bool). leading n g ++ cond b [] (g n ∷ [])) e
+  pub leading_new : any n (λ j. divides (g j) (g n)) ≡ false → leading (n + 1) g ≡ leading n g ++ (g n ∷ [])
+  leading_new e = leading_next ∙ ap (λ (b : Bool). leading n g ++ cond b [] (g n ∷ [])) e
 
 pub leading_leads : (n : ℕ) (g : ℕ → ℕ) → Leads n g (length (leading n g)) (at (leading n g))
 leading_leads zero g = rw (leading_none g) (leads_none g (at []))
@@ -253,10 +253,10 @@ leading_leads (suc n) g =
     ⊎_elim
     (λ (t : T (any n (λ j. divides (g j) (g n)))).
     let r = least n (λ j. divides (g j) (g n)) t in
-    let e : leading (suc n) g ≡ ws = rw add-one at (leading-kept n g (is_true _ t)) in
+    let e : leading (suc n) g ≡ ws = rw add-one at (leading_kept n g (is_true _ t)) in
     rw e (leads_kept L r.0 r.1 (dvd_of (g r.0) (g n) r.2)))
     (λ (t : T (any n (λ j. divides (g j) (g n))) → ⊥).
-    let e : leading (suc n) g ≡ ws ++ (g n ∷ []) = rw add-one at (leading-new n g (is_false _ t)) in
+    let e : leading (suc n) g ≡ ws ++ (g n ∷ []) = rw add-one at (leading_new n g (is_false _ t)) in
     let z : length ws - length ws ≡ 0 = omega arith in
     let size : length (leading (suc n) g) ≡ suc (length ws) = ap length e ∙ length-append ws (g n ∷ []) ∙ add-one (length ws) in
     rw size (leads_new L (λ k l. ap (λ (vs : List ℕ). at vs k) e ∙ get_or-append ws (g n ∷ []) 0 k l)
@@ -276,10 +276,10 @@ leading_few (suc n) g =
     let few = leading_few n g in
     ⊎_elim
     (λ (t : T (any n (λ j. divides (g j) (g n)))).
-    let e : leading (suc n) g ≡ leading n g = rw add-one at (leading-kept n g (is_true _ t)) in
+    let e : leading (suc n) g ≡ leading n g = rw add-one at (leading_kept n g (is_true _ t)) in
     omega (arith, ap length e))
     (λ (t : T (any n (λ j. divides (g j) (g n))) → ⊥).
-    let e : leading (suc n) g ≡ leading n g ++ (g n ∷ []) = rw add-one at (leading-new n g (is_false _ t)) in
+    let e : leading (suc n) g ≡ leading n g ++ (g n ∷ []) = rw add-one at (leading_new n g (is_false _ t)) in
     omega (arith, ap length e ∙ length-append (leading n g) (g n ∷ [])))
     (decide (any n (λ j. divides (g j) (g n))))
 
@@ -339,15 +339,15 @@ past_next {n} {g} {s} {r} P pos =
 -- ---- the least greatest common divisor of any two
 
 module _ {n : ℕ} {g : ℕ → ℕ} where
-  pub least-gcd-only : {l k : ℕ} → LeastGcd n g l → LeastGcd n g k → l ≡ k
-  least-gcd-only {l} {k} L K =
+  pub least_gcd_only : {l k : ℕ} → LeastGcd n g l → LeastGcd n g k → l ≡ k
+  least_gcd_only {l} {k} L K =
       let a = K.some in
       let b = L.some in
       omega (arith, L.least a.0 a.1 k a.2 a.3 a.4, K.least b.0 b.1 l b.2 b.3 b.4)
 
   -- it is that of the leading ones
-  pub least-gcd-led : {m l : ℕ} {f : ℕ → ℕ} → Positive n g → Leads n g m f → LeastGcd m f l → LeastGcd n g l
-  least-gcd-led {m} {l} {f} pos L G = record {
+  pub least_gcd_led : {m l : ℕ} {f : ℕ → ℕ} → Positive n g → Leads n g m f → LeastGcd m f l → LeastGcd n g l
+  least_gcd_led {m} {l} {f} pos L G = record {
     some =
         let r = G.some in
         let i = L.among r.0 r.2 in

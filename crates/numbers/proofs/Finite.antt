@@ -136,17 +136,17 @@ pub record Sought (n : ℕ) (p : ℕ → Bool) (i : ℕ) : Type 0 where
   pub none : (j : ℕ) → j < i → T (p j) → ⊥
 
 module _ {n : ℕ} {p : ℕ → Bool} where
-  pub sought-start : Sought n p 0
-  sought-start = record { within = omega arith; none = λ j l. absurd (omega arith) }
+  pub sought_start : Sought n p 0
+  sought_start = record { within = omega arith; none = λ j l. absurd (omega arith) }
 
-  pub sought-next : {i : ℕ} → Sought n p i → i < n → p i ≡ false → Sought n p (i + 1)
-  sought-next h l e = record { within = omega arith; none = below_more _ _ h.none (of_false e) }
+  pub sought_next : {i : ℕ} → Sought n p i → i < n → p i ≡ false → Sought n p (i + 1)
+  sought_next h l e = record { within = omega arith; none = below_more _ _ h.none (of_false e) }
 
-  pub sought-found : {i : ℕ} → Sought n p i → i < n → p i ≡ true → i ≡ lowest n p
-  sought-found {i} h l e = sym (lowest_is n p i l (of_true e) h.none)
+  pub sought_found : {i : ℕ} → Sought n p i → i < n → p i ≡ true → i ≡ lowest n p
+  sought_found {i} h l e = sym (lowest_is n p i l (of_true e) h.none)
 
-  pub sought-end : {i : ℕ} → Sought n p i → n ≤ i → i ≡ lowest n p
-  sought-end {i} h l = omega (arith, lowest_none n p (λ j m. h.none j (omega arith)))
+  pub sought_end : {i : ℕ} → Sought n p i → n ≤ i → i ≡ lowest n p
+  sought_end {i} h l = omega (arith, lowest_none n p (λ j m. h.none j (omega arith)))
 
 -- ---- highest
 
@@ -302,38 +302,38 @@ zero_of_cong h x c =
     sym (add-mul-mod_self_right x c.0 h) ∙ ap (λ (k : ℕ). k % h) c.2 ∙ add-mul-mod_self_right 0 c.1 h ∙ zero-mod h
 
 module _ (R : ℕ → ℕ → Type 0) (A : Additive R) where
-  pub sum-rel : (n : ℕ) (g h : ℕ → ℕ) → ((i : ℕ) → i < n → R (g i) (h i)) → R (sum n g) (sum n h)
+  pub sum_rel : (n : ℕ) (g h : ℕ → ℕ) → ((i : ℕ) → i < n → R (g i) (h i)) → R (sum n g) (sum n h)
   unfolding sum
-  sum-rel zero g h r = A.same 0
-  sum-rel (suc n) g h r = A.more _ _ _ _ _ _ (sum-rel n g h (λ i l. r i (omega arith))) (r n (le_refl (suc n))) refl refl
+  sum_rel zero g h r = A.same 0
+  sum_rel (suc n) g h r = A.more _ _ _ _ _ _ (sum_rel n g h (λ i l. r i (omega arith))) (r n (le_refl (suc n))) refl refl
 
   -- the terms are related but for one, i: then so are the sums, with that one put on the other side
-  pub sum-but : (n : ℕ) (g h : ℕ → ℕ) (i : ℕ) → i < n → ((j : ℕ) → j < n → j ≢ i → R (g j) (h j)) → R (sum n g + h i) (sum n h + g i)
+  pub sum_but : (n : ℕ) (g h : ℕ → ℕ) (i : ℕ) → i < n → ((j : ℕ) → j < n → j ≢ i → R (g j) (h j)) → R (sum n g + h i) (sum n h + g i)
   unfolding sum
-  sum-but zero g h i l r = absurd (not-suc-le-zero l)
-  sum-but (suc n) g h i l r =
+  sum_but zero g h i l r = absurd (not-suc-le-zero l)
+  sum_but (suc n) g h i l r =
       ⊎_elim
       (λ (q : i ≡ n).
       let gi : g i ≡ g n = ap g q in
       let hi : h i ≡ h n = ap h q in
-      A.more _ _ _ _ _ _ (sum-rel n g h (λ j k. r j (omega arith) (omega arith))) (A.same (g n + h n)) (omega arith) (omega arith))
+      A.more _ _ _ _ _ _ (sum_rel n g h (λ j k. r j (omega arith) (omega arith))) (A.same (g n + h n)) (omega arith) (omega arith))
       (λ (k : i < n).
-      A.more _ _ _ _ _ _ (sum-but n g h i k (λ j m. r j (omega arith))) (r n (le_refl (suc n)) (omega arith)) (omega arith) (omega arith))
+      A.more _ _ _ _ _ _ (sum_but n g h i k (λ j m. r j (omega arith))) (r n (le_refl (suc n)) (omega arith)) (omega arith) (omega arith))
       (below l)
 
 pub sum_eq : (n : ℕ) (g h : ℕ → ℕ) → ((i : ℕ) → i < n → g i ≡ h i) → sum n g ≡ sum n h
-sum_eq = sum-rel (λ a b. a ≡ b) eq_additive
+sum_eq = sum_rel (λ a b. a ≡ b) eq_additive
 
 pub sum_le : (n : ℕ) (g h : ℕ → ℕ) → ((i : ℕ) → i < n → g i ≤ h i) → sum n g ≤ sum n h
-sum_le = sum-rel ◌≤◌ le_additive
+sum_le = sum_rel ◌≤◌ le_additive
 
 -- one term is x more
 pub sum_bump : (n : ℕ) (g h : ℕ → ℕ) (i x : ℕ) → i < n → ((j : ℕ) → j < n → j ≢ i → h j ≡ g j) → h i ≡ g i + x → sum n h ≡ sum n g + x
-sum_bump n g h i x l o e = omega (arith, sum-but (λ a b. a ≡ b) eq_additive n h g i l o)
+sum_bump n g h i x l o e = omega (arith, sum_but (λ a b. a ≡ b) eq_additive n h g i l o)
 
 -- one term is at least x more
 pub sum_one : (n : ℕ) (g h : ℕ → ℕ) (i x : ℕ) → i < n → ((j : ℕ) → j < n → j ≢ i → g j ≤ h j) → g i + x ≤ h i → sum n g + x ≤ sum n h
-sum_one n g h i x l o e = omega (arith, sum-but ◌≤◌ le_additive n g h i l o)
+sum_one n g h i x l o e = omega (arith, sum_but ◌≤◌ le_additive n g h i l o)
 
 -- ---- sums
 
@@ -466,20 +466,20 @@ count_eqb (suc n) x =
 -- ---- largest
 
 module _ (g : ℕ → ℕ) where
-  pub largest-next : (n : ℕ) → largest (n + 1) g ≡ max (largest n g) (g n)
+  pub largest_next : (n : ℕ) → largest (n + 1) g ≡ max (largest n g) (g n)
   unfolding largest
-  largest-next n = rw add-one
+  largest_next n = rw add-one
 
-  pub largest-above : (n i : ℕ) → i < n → g i ≤ largest n g
+  pub largest_above : (n i : ℕ) → i < n → g i ≤ largest n g
   unfolding largest
-  largest-above zero i l = absurd (not-suc-le-zero l)
-  largest-above (suc n) i l =
-      ⊎_elim (λ (e : i ≡ n). omega (arith, ap g e)) (λ k. omega (arith, largest-above n i k)) (below l)
+  largest_above zero i l = absurd (not-suc-le-zero l)
+  largest_above (suc n) i l =
+      ⊎_elim (λ (e : i ≡ n). omega (arith, ap g e)) (λ k. omega (arith, largest_above n i k)) (below l)
 
-  pub largest-under : (n b : ℕ) → ((i : ℕ) → i < n → g i ≤ b) → largest n g ≤ b
+  pub largest_under : (n b : ℕ) → ((i : ℕ) → i < n → g i ≤ b) → largest n g ≤ b
   unfolding largest
-  largest-under zero b h = omega arith
-  largest-under (suc n) b h = omega (arith, largest-under n b (λ i l. h i (omega arith)), h n (omega arith))
+  largest_under zero b h = omega arith
+  largest_under (suc n) b h = omega (arith, largest_under n b (λ i l. h i (omega arith)), h n (omega arith))
 
 pub largest_eq : (n : ℕ) (g h : ℕ → ℕ) → ((i : ℕ) → i < n → g i ≡ h i) → largest n g ≡ largest n h
 unfolding largest

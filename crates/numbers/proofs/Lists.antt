@@ -100,12 +100,12 @@ each_windows n k xs e = each_take n k xs ∙ take_all (n * k) xs (le_of_eq e)
 
 module _ {A : Type 0} (f : ℕ → List A) where
   -- the first i stretches are no longer than all
-  pub each-grows : (n i : ℕ) → i ≤ n → length (each i f) ≤ length (each n f)
+  pub each_grows : (n i : ℕ) → i ≤ n → length (each i f) ≤ length (each n f)
   unfolding each
-  each-grows zero i l = let e : i ≡ 0 = omega arith in rw e (omega arith)
-  each-grows (suc n) i l =
+  each_grows zero i l = let e : i ≡ 0 = omega arith in rw e (omega arith)
+  each_grows (suc n) i l =
       ⊎_elim (λ (e : i ≡ suc n). rw e (omega arith))
-      (λ (m : i < suc n). omega (arith, length-append (each n f) (f n), each-grows n i (omega arith)))
+      (λ (m : i < suc n). omega (arith, length-append (each n f) (f n), each_grows n i (omega arith)))
       (below (let z : i < suc (suc n) = omega arith in z))
 
   -- place j of stretch i
@@ -116,21 +116,21 @@ module _ {A : Type 0} (f : ℕ → List A) where
       ⊎_elim
       (λ (e : i ≡ n). rw e (get_or-append-add (each n f) (f n) j d))
       (λ (k : i < n).
-      let room : length (each (suc i) f) ≤ length (each n f) = each-grows n (suc i) k in
+      let room : length (each (suc i) f) ≤ length (each n f) = each_grows n (suc i) k in
       get_or-append (each n f) (f n) d (length (each i f) + j) (omega (arith, length-append (each i f) (f i)))
       ∙ each_part d n i j k m)
       (below l)
 
   -- every place is one of some stretch
-  pub each-find : (n k : ℕ) → k < length (each n f) → (i : ℕ) × (j : ℕ) × (i < n) × (j < length (f i)) × (k ≡ length (each i f) + j)
+  pub each_find : (n k : ℕ) → k < length (each n f) → (i : ℕ) × (j : ℕ) × (i < n) × (j < length (f i)) × (k ≡ length (each i f) + j)
   unfolding each
-  each-find zero k l = absurd (not-suc-le-zero l)
-  each-find (suc n) k l =
+  each_find zero k l = absurd (not-suc-le-zero l)
+  each_find (suc n) k l =
       ⊎_elim
       (λ (m : length (each n f) ≤ k).
       (n, k - length (each n f), omega arith, omega (arith, length-append (each n f) (f n)), omega arith))
       (λ (m : k < length (each n f)).
-      let w = each-find n k m in
+      let w = each_find n k m in
       (w.0, w.1, omega (arith, w.2), w.3, w.4))
       (le_or_lt (length (each n f)) k)
 

@@ -13,7 +13,7 @@ use lib.Signed.{mag, ◌≤ℤ◌, ◌<ℤ◌}
 use Rattle.numbers.specs.Finite.{only, sum, sum_in}
 use Rattle.numbers.specs.Rounding.{Rounded}
 use Rattle.numbers.specs.Signed.{sum_inℤ, Roundedℤ}
-use Rattle.numbers.proofs.Rounding.{rounded-is, rounded-of}
+use Rattle.numbers.proofs.Rounding.{rounded_is, rounded_of}
 
 diff : (a b : ℕ) → pos a -ℤ pos b ≡ sub_ℕ a b
 diff a zero = ap₂ (λ (t : Bool) (x : ℕ). cond t (negsuc (0 - suc a)) (pos x)) (sym (le-ltb a 0 (omega arith))) (omega arith)
@@ -71,7 +71,7 @@ less_none a = ap pos (add-zero a)
 -- ---- how they are rounded: a − m × b over b, and a over b
 
 pub rounded_diff : (n m a b : ℕ) → 0 < b → Roundedℤ n (pos a -ℤ pos (m * b)) b ↔ Rounded (m + n) a b
-rounded_diff n m a b pos-b = (λ r. is r, λ r. of (rounded-is a b pos-b (m + n) r) (dec_le ((m + n) * b) a))
+rounded_diff n m a b pos-b = (λ r. is r, λ r. of (rounded_is a b pos-b (m + n) r) (dec_le ((m + n) * b) a))
   where
     z : ℤ
     z = pos a -ℤ pos (m * b)
@@ -80,11 +80,11 @@ rounded_diff n m a b pos-b = (λ r. is r, λ r. of (rounded-is a b pos-b (m + n)
     is (Roundedℤ.down h k) =
         let u = (diff_le (n * b) 0 a (m * b)).0 (rw (less_none (n * b)) h) in
         let v = (diff_lt a (m * b) (n * b + b) 0).0 (rw (less_none (n * b + b)) k) in
-        rounded-of a b pos-b (m + n) (omega arith) (omega arith)
+        rounded_of a b pos-b (m + n) (omega arith) (omega arith)
     is (Roundedℤ.up h k) =
         let u = (diff_lt (n * b) b a (m * b)).0 h in
         let v = (diff_le a (m * b) (n * b) 0).0 (rw (less_none (n * b)) k) in
-        rounded-of a b pos-b (m + n) (omega arith) (omega arith)
+        rounded_of a b pos-b (m + n) (omega arith) (omega arith)
 
     of : (a < (m + n + 1) * b) × ((m + n) * b < a + b) → Dec ((m + n) * b ≤ a) → Roundedℤ n z b
     of r (yes l) =

@@ -50,29 +50,29 @@ same_test a b = record { test = beq a b; is = λ h. beq_is a b h; of = λ e. sub
 
 module _ {A : Type 0} (p : Test A) where
   -- the same fact in other words
-  abbrev pub as-test : {B : Type 0} → (A → B) → (B → A) → Test B
-  as-test f g = record { test = p.test; is = λ h. f (p.is h); of = λ b. p.of (g b) }
+  abbrev pub as_test : {B : Type 0} → (A → B) → (B → A) → Test B
+  as_test f g = record { test = p.test; is = λ h. f (p.is h); of = λ b. p.of (g b) }
 
   abbrev pub not_test : Test (A → ⊥)
   not_test = record { test = not p.test; is = λ h a. refutes p.test h (p.of a); of = λ f. refuted p.test (λ h. f (p.is h)) }
 
   module _ {B : Type 0} (q : Test B) where
-    abbrev pub and-test : Test (A × B)
-    and-test = record {
+    abbrev pub and_test : Test (A × B)
+    and_test = record {
       test = p.test && q.test;
       is = λ h. (p.is (fst p.test q.test h), q.is (snd p.test q.test h));
       of = λ w. both p.test q.test (p.of w.0) (q.of w.1);
     }
 
-    abbrev pub or-test : Test (A ⊎ B)
-    or-test = record {
+    abbrev pub or_test : Test (A ⊎ B)
+    or_test = record {
       test = p.test || q.test;
       is = λ h. ⊎_elim (λ a. inl (p.is a)) (λ b. inr (q.is b)) (or_cases p.test q.test h);
       of = λ w. ⊎_elim (λ a. orl p.test q.test (p.of a)) (λ b. orr p.test q.test (q.of b)) w;
     }
 
-    abbrev pub if-test : Test (A → B)
-    if-test = record {
+    abbrev pub if_test : Test (A → B)
+    if_test = record {
       test = not p.test || q.test;
       is = λ h a. ⊎_elim (λ n. absurd (refutes p.test n (p.of a))) (λ b. q.is b) (or_cases (not p.test) q.test h);
       of = λ f. ⊎_elim
@@ -81,20 +81,20 @@ module _ {A : Type 0} (p : Test A) where
     }
 
 abbrev pub three_test : {A B C : Type 0} → Test A → Test B → Test C → Test (A × B × C)
-three_test p q r = as-test (and-test (and-test p q) r) (λ h. (h.0.0, h.0.1, h.1)) (λ w. ((w.0, w.1), w.2))
+three_test p q r = as_test (and_test (and_test p q) r) (λ h. (h.0.0, h.0.1, h.1)) (λ w. ((w.0, w.1), w.2))
 
 -- ---- the numbers below n
 
 module _ {A : ℕ → Type 0} (n : ℕ) (p : (i : ℕ) → Test (A i)) where
-  abbrev pub every-test : Test ((i : ℕ) → i < n → A i)
-  every-test = record {
+  abbrev pub every_test : Test ((i : ℕ) → i < n → A i)
+  every_test = record {
     test = every n (λ i. (p i).test);
     is = λ h i l. (p i).is (every_at n (λ i. (p i).test) h i l);
     of = λ f. every_of n (λ i. (p i).test) (λ i l. (p i).of (f i l));
   }
 
-  abbrev pub any-test : Test ((i : ℕ) × (i < n) × A i)
-  any-test = record {
+  abbrev pub any_test : Test ((i : ℕ) × (i < n) × A i)
+  any_test = record {
     test = any n (λ i. (p i).test);
     is = λ h. let r = least n (λ i. (p i).test) h in (r.0, r.1, (p r.0).is r.2);
     of = λ w. any_of n (λ i. (p i).test) w.0 w.1 ((p w.0).of w.2);
@@ -113,7 +113,7 @@ list_test [] [] = record { test = true; is = λ h. refl; of = λ e. tt }
 list_test [] (y ∷ ys) = record { test = false; is = λ h. absurd h; of = λ e. cons_nil y ys (sym e) }
 list_test (x ∷ xs) [] = record { test = false; is = λ h. absurd h; of = λ e. cons_nil x xs e }
 list_test (x ∷ xs) (y ∷ ys) =
-    as-test (and-test (eq_test x y) (list_test xs ys)) (λ h. ap₂ ◌∷◌ h.0 h.1) (λ e. cons_same x y xs ys e)
+    as_test (and_test (eq_test x y) (list_test xs ys)) (λ h. ap₂ ◌∷◌ h.0 h.1) (λ e. cons_same x y xs ys e)
 
 module _ {X : Type 0} where
   abbrev pub OneOf : List X → (X → Type 0) → Type 0
@@ -124,13 +124,13 @@ module _ {X : Type 0} where
   EachOf [] P = Unit {0}
   EachOf (x ∷ xs) P = P x × EachOf xs P
 
-  abbrev pub one-test : (xs : List X) (P : X → Type 0) → ((x : X) → Test (P x)) → Test (OneOf xs P)
-  one-test [] P p = record { test = false; is = λ h. h; of = λ h. h }
-  one-test (x ∷ xs) P p = or-test (p x) (one-test xs P p)
+  abbrev pub one_test : (xs : List X) (P : X → Type 0) → ((x : X) → Test (P x)) → Test (OneOf xs P)
+  one_test [] P p = record { test = false; is = λ h. h; of = λ h. h }
+  one_test (x ∷ xs) P p = or_test (p x) (one_test xs P p)
 
-  abbrev pub each-test : (xs : List X) (P : X → Type 0) → ((x : X) → Test (P x)) → Test (EachOf xs P)
-  each-test [] P p = record { test = true; is = λ h. h; of = λ h. h }
-  each-test (x ∷ xs) P p = and-test (p x) (each-test xs P p)
+  abbrev pub each_test : (xs : List X) (P : X → Type 0) → ((x : X) → Test (P x)) → Test (EachOf xs P)
+  each_test [] P p = record { test = true; is = λ h. h; of = λ h. h }
+  each_test (x ∷ xs) P p = and_test (p x) (each_test xs P p)
 
   -- what follows from what one element has, with what every element has
   pub one_out : (xs : List X) {P Q : X → Type 0} {C : Type 0} → ((x : X) → P x → Q x → C) → EachOf xs P → OneOf xs Q → C

@@ -6,7 +6,6 @@ use Prim.Native.Nat.{ℕ, ◌≤◌, ◌<◌}
 use native.Mathlib.Nat.{lt_of_not-le}
 use native.Mathlib.Decide.{dec_le, ℕ_discrete}
 use native.Mathlib.Omega.{arith}
-use borrow.Author.Tests.{not-true, not-false}
 use lib.Dec.{T, eqb, eqb_refl, not_T, T_not}
 use Rattle.numbers.specs.Decides.{Decides}
 
@@ -116,8 +115,8 @@ decides_no h = record { holds = λ e. absurd (of_true e); fails = λ e a. h a }
 
 -- what a branch on a test that is not met shows
 
-pub denied : {A : Type 0} {b : Bool} → Decides A b → not b ≡ true → A → ⊥
-denied {b = b} d e = d.fails (not-true b e)
+pub denied : {A : Type 0} {b : Bool} → Decides A b → b ≡ false → A → ⊥
+denied d e = d.fails e
 
-pub granted : {A : Type 0} {b : Bool} → Decides A b → not b ≡ false → A
-granted {b = b} d e = d.holds (not-false b e)
+pub granted : {A : Type 0} {b : Bool} → Decides A b → b ≡ true → A
+granted d e = d.holds e

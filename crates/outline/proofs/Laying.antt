@@ -18,7 +18,7 @@ use Rattle.outline.specs.declared.Layout.{Layout}
 use Rattle.outline.specs.declared.Outline.{Outline}
 use Rattle.outline.specs.Layout.{Lies, no_layout, LaidOut}
 use Rattle.outline.specs.Outlined.{blank, Outlined}
-use Rattle.outline.proofs.Sets.{Ends, ends_on_line, ring-list}
+use Rattle.outline.proofs.Sets.{Ends, ends_on_line, ring_list}
 use Rattle.time.proofs.Periods.{time_only}
 use Rattle.outline.proofs.Outlined.{answer_only, line_none, outlined_refused}
 
@@ -52,19 +52,19 @@ with_sets t l k ws = record {
 }
 
 module _ {t : Table} {l : Layout} (A : LaidOut t l) where
-  pub outlined-unlaid : l.answer.number ≢ 0 → Outlined (line_checks t) t (blank l.answer)
-  outlined-unlaid h = outlined_refused l.answer h A.answers
+  pub outlined_unlaid : l.answer.number ≢ 0 → Outlined (line_checks t) t (blank l.answer)
+  outlined_unlaid h = outlined_refused l.answer h A.answers
 
   module _ (z : l.answer.number ≡ 0) where
-    lies-ends : Ends t (at l.line.first) (at l.line.second)
-    lies-ends i m = let L = A.found z in (L.first.row i m, L.second.row i m)
+    lies_ends : Ends t (at l.line.first) (at l.line.second)
+    lies_ends i m = let L = A.found z in (L.first.row i m, L.second.row i m)
 
-    pub lies-on-line : OnLine t.rows (at l.line.first) (at l.line.second) l.top
-    lies-on-line = let L = A.found z in rw L.top (ends_on_line t L.timed.sound L.clear _ _ lies-ends)
+    pub lies_on_line : OnLine t.rows (at l.line.first) (at l.line.second) l.top
+    lies_on_line = let L = A.found z in rw L.top (ends_on_line t L.timed.sound L.clear _ _ lies_ends)
 
-    pub outlined-laid : (k : ℕ) (ws : List ℕ) → SetWords t.rows (at l.line.first) (at l.line.second) k ws
+    pub outlined_laid : (k : ℕ) (ws : List ℕ) → SetWords t.rows (at l.line.first) (at l.line.second) k ws
         → Outlined (line_checks t) t (with_sets t l k ws)
-    outlined-laid k ws S = let L = A.found z in record {
+    outlined_laid k ws S = let L = A.found z in record {
       answers = A.answers;
       found = λ e. record {
         timed = L.timed;
@@ -77,7 +77,7 @@ module _ {t : Table} {l : Layout} (A : LaidOut t l) where
         first = L.first;
         second = L.second;
         few = S.few;
-        list = ring-list t L.timed.sound L.clear _ _ lies-ends (take k ws) S.sets;
+        list = ring_list t L.timed.sound L.clear _ _ lies_ends (take k ws) S.sets;
         size = S.size;
         rest = S.rest;
       };

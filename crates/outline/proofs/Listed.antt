@@ -11,13 +11,13 @@ use Rattle.rules.specs.Line.{Sets}
 use Rattle.rules.specs.Refusals.{Check, Answers, short_output, sets_checks}
 use Rattle.rules.specs.Calls.{lent, Ask, admitted, line_ask, Listed}
 use Rattle.rules.proofs.Answers.{None, Numbered, done, none_of, none_left, numbered_join, answers_only}
-use Rattle.rules.proofs.Calls.{call-refused, call-short, call-done, call_after}
-use Rattle.rules.proofs.Sets.{sets-only}
+use Rattle.rules.proofs.Calls.{call_refused, call_short, call_done, call_after}
+use Rattle.rules.proofs.Sets.{sets_only}
 use Rattle.outline.specs.declared.Outline.{Outline}
 use Rattle.outline.specs.declared.Listing.{Listing}
 use Rattle.outline.specs.Outlined.{Found, Outlined}
 use Rattle.outline.specs.Listed.{Traced, unlisted, ListedOn}
-use Rattle.outline.proofs.Outlined.{outline-numbered, outline-passed, outlined_none, found_count}
+use Rattle.outline.proofs.Outlined.{outline_numbered, outline_passed, outlined_none, found_count}
 
 -- the output is too short
 abbrev short : Table → ℕ → Type 0
@@ -26,33 +26,33 @@ short t room = (ws : List ℕ) × Sets t ws × (room < length ws)
 -- ---- on an outline
 
 module _ (was : List ℕ) {o : Outline} where
-  pub on-refused : o.answer.number ≢ 0 → ListedOn o (unlisted o.answer) was was
-  on-refused h = record { done = λ z. absurd (h z); refused = λ z. (refl, refl) }
+  pub on_refused : o.answer.number ≢ 0 → ListedOn o (unlisted o.answer) was was
+  on_refused h = record { done = λ z. absurd (h z); refused = λ z. (refl, refl) }
 
   module _ (z : o.answer.number ≡ 0) where
     -- whatever table it is of
-    on-any : (r : Listing) (now : List ℕ)
+    on_any : (r : Listing) (now : List ℕ)
         → ((t : Table) → Found t o → Listed (admitted t) was now r.answer.number r.answer.place r.sets) → ListedOn o r was now
-    on-any r now h = record { done = λ y. h; refused = λ n. absurd (n z) }
+    on_any r now h = record { done = λ y. h; refused = λ n. absurd (n z) }
 
-    pub on-short : (r : Listing) → (r.answer.number ≡ 17) × (r.answer.place ≡ 0) → r.sets ≡ 0 → length was < o.sets
+    pub on_short : (r : Listing) → (r.answer.number ≡ 17) × (r.answer.place ≡ 0) → r.sets ≡ 0 → length was < o.sets
         → ListedOn o r was was
     unfolding sets_checks None
-    on-short r e s l =
-        on-any r was
+    on_short r e s l =
+        on_any r was
         (λ t F.
         rw (e.0, e.1)
-        (call-short [] (short t (length was)) tt (take o.sets o.words, F.list, omega (arith, found_count F)) (s, refl)))
+        (call_short [] (short t (length was)) tt (take o.sets o.words, F.list, omega (arith, found_count F)) (s, refl)))
 
-    pub on-done : (r : Listing) (now : List ℕ) → (r.answer.number ≡ 0) × (r.answer.place ≡ 0) → r.sets ≡ o.sets
+    pub on_done : (r : Listing) (now : List ℕ) → (r.answer.number ≡ 0) × (r.answer.place ≡ 0) → r.sets ≡ o.sets
         → o.sets ≤ length was → now ≡ lent (take o.sets o.words) was → ListedOn o r was now
     unfolding sets_checks Answers Numbered
-    on-done r now e s l h =
-        on-any r now
+    on_done r now e s l h =
+        on_any r now
         (λ t F.
         rw (e.0, e.1)
-        (call-done [] (short t (length was)) tt (refl, refl) refl
-        (λ w. omega (arith, w.2, found_count F, ap length (sets-only F.timed.sound.rows_low w.1 F.list)))
+        (call_done [] (short t (length was)) tt (refl, refl) refl
+        (λ w. omega (arith, w.2, found_count F, ap length (sets_only F.timed.sound.rows_low w.1 F.list)))
         (take o.sets o.words, F.list, s ∙ sym (found_count F), h)))
 
 -- ---- from an outline to its ask
@@ -69,7 +69,7 @@ list_asked a N {o} O r was now L = go (ℕ_discrete o.answer.number 0)
     go (yes z) = call_after a.checks _ (outlined_none N O z) (L.done z a.table (O.found z))
     go (no z) =
         let e = L.refused z in
-        rw (e.0, e.1) (call-refused a.checks (short a.table (length was)) O.answers z (refl, refl))
+        rw (e.0, e.1) (call_refused a.checks (short a.table (length was)) O.answers z (refl, refl))
 
 -- ---- only one answer fits
 
@@ -94,7 +94,7 @@ listed_only a N some was now now' n n' p p' s s' A B = go (ℕ_discrete n 0)
     go (yes z) =
         let x = A.done z in
         let y = B.done (sym same.0 ∙ z) in
-        let e : x.0 ≡ y.0 = sets-only (some (none z)) x.1 y.1 in
+        let e : x.0 ≡ y.0 = sets_only (some (none z)) x.1 y.1 in
         (x.3 ∙ ap (λ (ws : List ℕ). lent ws was) e ∙ sym y.3, same.0, same.1, x.2 ∙ ap length e ∙ sym y.2)
     go (no z) =
         let x = A.refused z in
@@ -104,7 +104,7 @@ listed_only a N some was now now' n n' p p' s s' A B = go (ℕ_discrete n 0)
 -- of a file's table
 pub file_listed_only : (f was now now' : List ℕ) (n n' p p' s s' : ℕ) → Listed (line_ask f) was now n p s
     → Listed (line_ask f) was now' n' p' s' → (now ≡ now') × (n ≡ n') × (p ≡ p') × (s ≡ s')
-file_listed_only f = listed_only (line_ask f) (outline-numbered f) (λ n. (outline-passed f n).sound.rows_low)
+file_listed_only f = listed_only (line_ask f) (outline_numbered f) (λ n. (outline_passed f n).sound.rows_low)
 
 -- on an outline
 pub listed_on_only : {o : Outline} → Traced o → (r s : Listing) (was now then : List ℕ) → ListedOn o r was now → ListedOn o s was then

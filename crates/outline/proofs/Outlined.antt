@@ -27,14 +27,14 @@ use Rattle.rules.proofs.Answers.{
   none_right,
   numbered_join,
   answers_only,
-  single-none,
-  none-single,
-  single-numbered,
-  single-stopped,
+  single_none,
+  none_single,
+  single_numbered,
+  single_stopped,
 }
-use Rattle.rules.proofs.Sets.{sets-only}
+use Rattle.rules.proofs.Sets.{sets_only}
 use Rattle.table.specs.Sound.{Passed}
-use Rattle.ring.proofs.Cut.{cut_high, cut-none}
+use Rattle.ring.proofs.Cut.{cut_high, cut_none}
 use Rattle.sets.specs.Sets.{OnLine, SetWords}
 use Rattle.sets.proofs.SetWords.{set_words_only}
 use Rattle.table.specs.declared.Answer.{Answer}
@@ -42,8 +42,8 @@ use Rattle.table.proofs.ByRow.{by_row_only}
 use Rattle.outline.specs.declared.Outline.{Outline}
 use Rattle.time.proofs.Periods.{time_only}
 use Rattle.outline.specs.Outlined.{Found, blank, outline_checks, Outlined}
-use Rattle.pasted.proofs.AsGiven.{given-numbered, given-passed}
-use Rattle.outline.proofs.Sets.{Ends, own_ends, ends_on_line, line-list}
+use Rattle.pasted.proofs.AsGiven.{given_numbered, given_passed}
+use Rattle.outline.proofs.Sets.{Ends, own_ends, ends_on_line, line_list}
 
 -- ---- one shape for number and place
 
@@ -67,64 +67,64 @@ module _ (t : Table) where
   abbrev long : List Check
   long = long_hyperperiod t ∷ []
 
-  pub line-numbered : Numbered (line_checks t)
+  pub line_numbered : Numbered (line_checks t)
   unfolding line_checks cut_checks Numbered
-  line-numbered =
-      numbered_join (cut_checks t) long (single-numbered (no_cut t) t.rings (λ d. omega arith)) ((λ e. omega arith), tt)
+  line_numbered =
+      numbered_join (cut_checks t) long (single_numbered (no_cut t) t.rings (λ d. omega arith)) ((λ e. omega arith), tt)
 
-  has-cut : (d : ℕ) → cut t d ≤ t.elements → (no_cut t d).applies → ⊥
-  has-cut d l a = omega (arith, (cut-none t d).0 a)
+  has_cut : (d : ℕ) → cut t d ≤ t.elements → (no_cut t d).applies → ⊥
+  has_cut d l a = omega (arith, (cut_none t d).0 a)
 
-  no-cut-applies : (d : ℕ) → t.elements < cut t d → (no_cut t d).applies
-  no-cut-applies d l = (cut-none t d).1 (omega (arith, cut_high t d))
+  no_cut_applies : (d : ℕ) → t.elements < cut t d → (no_cut t d).applies
+  no_cut_applies d l = (cut_none t d).1 (omega (arith, cut_high t d))
 
   -- ring d is the lowest without a cut
-  pub cut-refused : (d : ℕ) → d < t.rings → ((e : ℕ) → e < d → cut t e ≤ t.elements) → t.elements < cut t d
+  pub cut_refused : (d : ℕ) → d < t.rings → ((e : ℕ) → e < d → cut t e ≤ t.elements) → t.elements < cut t d
       → Answers (line_checks t) (no_cut t d).number d
   unfolding line_checks cut_checks
-  cut-refused d l has h =
+  cut_refused d l has h =
       stopped (cut_checks t) long _ d (omega arith)
-      (single-stopped (no_cut t) t.rings d l (omega arith) (λ e m. has-cut e (has e m)) (no-cut-applies d h))
+      (single_stopped (no_cut t) t.rings d l (omega arith) (λ e m. has_cut e (has e m)) (no_cut_applies d h))
 
-  cuts-none : HasCuts t → None (cut_checks t)
+  cuts_none : HasCuts t → None (cut_checks t)
   unfolding cut_checks
-  cuts-none has = single-none (no_cut t) t.rings (λ d l. has-cut d (has d l))
+  cuts_none has = single_none (no_cut t) t.rings (λ d l. has_cut d (has d l))
 
-  none-cuts : None (cut_checks t) → HasCuts t
+  none_cuts : None (cut_checks t) → HasCuts t
   unfolding cut_checks
-  none-cuts a d l =
-      ⊎_elim (λ m. m) (λ m. absurd (none-single (no_cut t) t.rings a d l (no-cut-applies d m))) (le_or_lt (cut t d) t.elements)
+  none_cuts a d l =
+      ⊎_elim (λ m. m) (λ m. absurd (none_single (no_cut t) t.rings a d l (no_cut_applies d m))) (le_or_lt (cut t d) t.elements)
 
-  pub long-refused : HasCuts t → max_slots < hyperperiod t → Answers (line_checks t) (long_hyperperiod t).number 0
+  pub long_refused : HasCuts t → max_slots < hyperperiod t → Answers (line_checks t) (long_hyperperiod t).number 0
   unfolding line_checks
-  long-refused has h = joined (cut_checks t) long _ _ (cuts-none has) (applied (long_hyperperiod t) [] _ _ h refl refl)
+  long_refused has h = joined (cut_checks t) long _ _ (cuts_none has) (applied (long_hyperperiod t) [] _ _ h refl refl)
 
   pub line_none : HasCuts t → hyperperiod t ≤ max_slots → None (line_checks t)
   unfolding line_checks None
-  line_none has h = none_join (cut_checks t) long (cuts-none has) ((λ a. omega arith), tt)
+  line_none has h = none_join (cut_checks t) long (cuts_none has) ((λ a. omega arith), tt)
 
-  pub none-line : None (line_checks t) → HasCuts t × (hyperperiod t ≤ max_slots)
+  pub none_line : None (line_checks t) → HasCuts t × (hyperperiod t ≤ max_slots)
   unfolding line_checks None
-  none-line a = (
-    none-cuts (none_left (cut_checks t) long a),
+  none_line a = (
+    none_cuts (none_left (cut_checks t) long a),
     ⊎_elim (λ l. l) (λ l. absurd ((none_right (cut_checks t) long a).0 l)) (le_or_lt (hyperperiod t) max_slots),
   )
 
 -- ---- files that pass 1 to 9, 26, 18, 10 and 11
 
 module _ (f : List ℕ) where
-  pub outline-numbered : Numbered (outline_checks f)
-  outline-numbered = numbered_join (given_checks f) (line_checks (file_table f)) (given-numbered f) (line-numbered (file_table f))
+  pub outline_numbered : Numbered (outline_checks f)
+  outline_numbered = numbered_join (given_checks f) (line_checks (file_table f)) (given_numbered f) (line_numbered (file_table f))
 
   module _ (a : None (outline_checks f)) where
-    pub outline-passed : Passed f
-    outline-passed = given-passed f (none_left (given_checks f) (line_checks (file_table f)) a)
+    pub outline_passed : Passed f
+    outline_passed = given_passed f (none_left (given_checks f) (line_checks (file_table f)) a)
 
-    pub outline-short : HasCuts (file_table f) × (hyperperiod (file_table f) ≤ max_slots)
-    outline-short = none-line (file_table f) (none_right (given_checks f) (line_checks (file_table f)) a)
+    pub outline_short : HasCuts (file_table f) × (hyperperiod (file_table f) ≤ max_slots)
+    outline_short = none_line (file_table f) (none_right (given_checks f) (line_checks (file_table f)) a)
 
-    pub outline-list-only : (ws vs : List ℕ) → Sets (file_table f) ws → Sets (file_table f) vs → ws ≡ vs
-    outline-list-only ws vs A B = sets-only outline-passed.sound.rows_low A B
+    pub outline_list_only : (ws vs : List ℕ) → Sets (file_table f) ws → Sets (file_table f) vs → ws ≡ vs
+    outline_list_only ws vs A B = sets_only outline_passed.sound.rows_low A B
 
 -- ---- the outline of each outcome
 
@@ -133,17 +133,17 @@ pub outlined_refused : {cs : List Check} {t : Table} (r : Answer) → r.number �
 outlined_refused r h a = record { answers = a; found = λ e. absurd (h e); refused = λ e. refl }
 
 module _ (f : List ℕ) where
-  pub outlined-given : (r : Answer) → r.number ≢ 0 → Answers (given_checks f) r.number r.place
+  pub outlined_given : (r : Answer) → r.number ≢ 0 → Answers (given_checks f) r.number r.place
       → Outlined (outline_checks f) (file_table f) (blank r)
-  outlined-given r h a = outlined_refused r h (stopped (given_checks f) (line_checks (file_table f)) r.number r.place h a)
+  outlined_given r h a = outlined_refused r h (stopped (given_checks f) (line_checks (file_table f)) r.number r.place h a)
 
   -- past these checks its table's outline is the file's
-  pub outlined-past : (p : ℕ) → Answers (given_checks f) 0 p → {o : Outline} → Outlined (line_checks (file_table f)) (file_table f) o
+  pub outlined_past : (p : ℕ) → Answers (given_checks f) 0 p → {o : Outline} → Outlined (line_checks (file_table f)) (file_table f) o
       → Outlined (outline_checks f) (file_table f) o
-  outlined-past p a {o} O = record {
+  outlined_past p a {o} O = record {
     answers =
         joined (given_checks f) (line_checks (file_table f)) o.answer.number o.answer.place
-        (none_of (given_checks f) p (given-numbered f) a) O.answers;
+        (none_of (given_checks f) p (given_numbered f) a) O.answers;
     found = O.found;
     refused = O.refused;
   }
@@ -160,18 +160,18 @@ pub found_count : {t : Table} {o : Outline} → Found t o → length (take o.set
 found_count {t} {o} F = omega (arith, length-take o.sets o.words, found_few F)
 
 module _ {t : Table} {o : Outline} (F : Found t o) where
-  pub found-ends : Ends t (at o.first) (at o.second)
-  found-ends i l = (F.first.row i l, F.second.row i l)
+  pub found_ends : Ends t (at o.first) (at o.second)
+  found_ends i l = (F.first.row i l, F.second.row i l)
 
   module _ (first second : ℕ → ℕ) (ends : Ends t first second) where
-    pub found-on-line : OnLine t.rows first second (line_top t)
-    found-on-line = ends_on_line t F.timed.sound F.clear first second ends
+    pub found_on_line : OnLine t.rows first second (line_top t)
+    found_on_line = ends_on_line t F.timed.sound F.clear first second ends
 
-    pub found-words : SetWords t.rows first second o.sets o.words
-    found-words = record {
+    pub found_words : SetWords t.rows first second o.sets o.words
+    found_words = record {
       size = F.size;
       few = F.few;
-      sets = line-list t F.timed.sound F.clear first second ends (take o.sets o.words) F.list;
+      sets = line_list t F.timed.sound F.clear first second ends (take o.sets o.words) F.list;
       rest = F.rest;
     }
 
@@ -181,8 +181,8 @@ pub found_only : {t : Table} {o u : Outline} → o.answer ≡ u.answer → Found
 found_only {t} {o} {u} e F G =
     let ends = own_ends t in
     let w =
-    set_words_only (found-on-line F (line_first t) (line_second t) ends)
-    (found-words F (line_first t) (line_second t) ends) (found-words G (line_first t) (line_second t) ends) in
+    set_words_only (found_on_line F (line_first t) (line_second t) ends)
+    (found_words F (line_first t) (line_second t) ends) (found_words G (line_first t) (line_second t) ends) in
     λ k. record {
       answer = e k;
       elements = (F.elements ∙ sym G.elements) k;

@@ -17,7 +17,7 @@ use Rattle.rules.specs.Bus.{Table, Labelled, pasted}
 use Rattle.rules.specs.TableFile.{file_table}
 use Rattle.rules.specs.Refusals.{Check, Answers, pasted_row, file_checks, pasted_checks, given_checks}
 use Rattle.rules.proofs.Answers.{None, Numbered, stopped, joined, answered, none_of, none_left, none_join, numbered_join, answers_only}
-use Rattle.rules.proofs.Answers.{single-none, single-numbered, single-stopped}
+use Rattle.rules.proofs.Answers.{single_none, single_numbered, single_stopped}
 use Rattle.table.specs.Sound.{Sound, Passed}
 use Rattle.table.specs.Columns.{table_of, Holds}
 use Rattle.decoding.specs.Decoded.{no_head, DecodesInto, refusal, Decodes}
@@ -92,59 +92,59 @@ module _ (f : List ℕ) where
   abbrev t : Table
   t = file_table f
 
-  pub given-numbered : Numbered (given_checks f)
+  pub given_numbered : Numbered (given_checks f)
   unfolding given_checks pasted_checks
-  given-numbered =
-      numbered_join (file_checks f) (pasted_checks t) (file_numbered f) (single-numbered (pasted_row t) t.rows (λ i. omega arith))
+  given_numbered =
+      numbered_join (file_checks f) (pasted_checks t) (file_numbered f) (single_numbered (pasted_row t) t.rows (λ i. omega arith))
 
-  pub given-passed : None (given_checks f) → Passed f
+  pub given_passed : None (given_checks f) → Passed f
   unfolding given_checks
-  given-passed a = passed_none f (none_left (file_checks f) (pasted_checks t) a)
+  given_passed a = passed_none f (none_left (file_checks f) (pasted_checks t) a)
 
-  pub given-of : (p : ℕ) → Answers (given_checks f) 0 p → Passed f
-  given-of p a = given-passed (none_of (given_checks f) p given-numbered a)
+  pub given_of : (p : ℕ) → Answers (given_checks f) 0 p → Passed f
+  given_of p a = given_passed (none_of (given_checks f) p given_numbered a)
 
   -- an answer of 1 to 9 and 26, and the columns beside it
   module _ (a : Answer) (c : Columns) (A : Answers (file_checks f) a.number a.place) (H : a.number ≡ 0 → Holds t c) where
     -- 1 to 9 refuse
-    pub given-stopped : a.number ≢ 0 → Answers (given_checks f) a.number a.place
+    pub given_stopped : a.number ≢ 0 → Answers (given_checks f) a.number a.place
     unfolding given_checks
-    given-stopped h = stopped (file_checks f) (pasted_checks t) a.number a.place h A
+    given_stopped h = stopped (file_checks f) (pasted_checks t) a.number a.place h A
 
     module _ (z : a.number ≡ 0) where
       none : None (file_checks f)
       none = none_of (file_checks f) a.place (file_numbered f) (rw z at A)
 
       -- the ends are on the ring
-      pub given-ends : (c.rows ≤ max_rows) × ((i : ℕ) → i < c.rows → at c.first i ≤ max_elements)
-      given-ends =
+      pub given_ends : (c.rows ≤ max_rows) × ((i : ℕ) → i < c.rows → at c.first i ≤ max_elements)
+      given_ends =
           let s : Sound (table_of c) = rw (H z).table (passed_none f none).sound in
           (s.rows_high, λ i l. let row = s.row i l in omega arith)
 
       module _ (i : ℕ) (e : i ≡ lowest c.rows (pasted (table_of c))) where
-        is-lowest : i ≡ lowest t.rows (pasted t)
-        is-lowest = subst (λ (u : Table). i ≡ lowest u.rows (pasted u)) (H z).table e
+        is_lowest : i ≡ lowest t.rows (pasted t)
+        is_lowest = subst (λ (u : Table). i ≡ lowest u.rows (pasted u)) (H z).table e
 
         rows_are : c.rows ≡ t.rows
         rows_are = ap (λ (u : Table). u.rows) (H z).table
 
         -- 18 refuses
-        pub given-pasted : i < c.rows → Answers (given_checks f) 18 i
+        pub given_pasted : i < c.rows → Answers (given_checks f) 18 i
         unfolding given_checks pasted_checks
-        given-pasted l =
-            let m : lowest t.rows (pasted t) < t.rows = omega (arith, is-lowest, rows_are) in
+        given_pasted l =
+            let m : lowest t.rows (pasted t) < t.rows = omega (arith, is_lowest, rows_are) in
             joined (file_checks f) (pasted_checks t) 18 i none
-            (single-stopped (pasted_row t) t.rows i (omega (arith, rows_are)) (omega arith)
-            (λ j h. lowest_below t.rows (pasted t) j (omega (arith, is-lowest)))
-            (rw is-lowest (lowest_has t.rows (pasted t) m)))
+            (single_stopped (pasted_row t) t.rows i (omega (arith, rows_are)) (omega arith)
+            (λ j h. lowest_below t.rows (pasted t) j (omega (arith, is_lowest)))
+            (rw is_lowest (lowest_has t.rows (pasted t) m)))
 
         -- nothing does
-        pub given-whole : c.rows ≤ i → Answers (given_checks f) a.number a.place
+        pub given_whole : c.rows ≤ i → Answers (given_checks f) a.number a.place
         unfolding given_checks pasted_checks
-        given-whole l =
+        given_whole l =
             let all : None (given_checks f) =
             none_join (file_checks f) (pasted_checks t) none
-            (single-none (pasted_row t) t.rows (λ j h. lowest_below t.rows (pasted t) j (omega (arith, is-lowest, rows_are)))) in
+            (single_none (pasted_row t) t.rows (λ j h. lowest_below t.rows (pasted t) j (omega (arith, is_lowest, rows_are)))) in
             let still = answers_only (file_checks f) _ 0 _ 0 A (answered (file_checks f) none) in
             rw (still.0, still.1) (answered (given_checks f) all)
 
@@ -165,10 +165,10 @@ decodes_refusal a h A = record {
 }
 
 module _ {cs : List Check} {t : Table} {cost period first second way : List ℕ} where
-  pub into-as : {ds : List Check} {h : Head} → DecodesInto cs t h cost period first second way
+  pub into_as : {ds : List Check} {h : Head} → DecodesInto cs t h cost period first second way
       → Answers ds h.answer.number h.answer.place → DecodesInto ds t h cost period first second way
-  into-as D a = record { answers = a; passed = D.passed; refused = D.refused }
+  into_as D a = record { answers = a; passed = D.passed; refused = D.refused }
 
-  pub into-refusal : (a : Answer) → a.number ≢ 0 → Answers cs a.number a.place
+  pub into_refusal : (a : Answer) → a.number ≢ 0 → Answers cs a.number a.place
       → DecodesInto cs t (no_head a) cost period first second way
-  into-refusal a h A = record { answers = A; passed = λ e. absurd (h e); refused = λ e. refl }
+  into_refusal a h A = record { answers = A; passed = λ e. absurd (h e); refused = λ e. refl }

@@ -9,41 +9,41 @@ use Rattle.rules.proofs.Answers.{None, Numbered, none_of}
 use Rattle.table.specs.declared.Answer.{Answer}
 use Rattle.decoding.specs.declared.Decoded.{Decoded}
 use Rattle.decoding.specs.Decoded.{refusal, Decodes}
-use Rattle.decoding.proofs.OneRing.{OtherMark, other-mark, own-mark, one-numbered, one-rest, one-rings}
-use Rattle.pasted.proofs.AsGiven.{given-numbered}
+use Rattle.decoding.proofs.OneRing.{OtherMark, other_mark, own_mark, one_numbered, one_rest, one_rings}
+use Rattle.pasted.proofs.AsGiven.{given_numbered}
 
 module _ (f : List ℕ) where
   abbrev checks : List Check
   checks = one_ring_checks f (given_checks f)
 
-  pub one-ring-numbered : Numbered checks
-  one-ring-numbered = one-numbered f (given_checks f) (given-numbered f)
+  pub one_ring_numbered : Numbered checks
+  one_ring_numbered = one_numbered f (given_checks f) (given_numbered f)
 
   -- what passes passes the checks of a table as it is given, and has one ring
   module _ (p : ℕ) (a : Answers checks 0 p) where
     none : None checks
-    none = none_of checks p one-ring-numbered a
+    none = none_of checks p one_ring_numbered a
 
-    pub one-ring-none : None (given_checks f)
-    one-ring-none = one-rest f (given_checks f) none
+    pub one_ring_none : None (given_checks f)
+    one_ring_none = one_rest f (given_checks f) none
 
     pub one_ring : file_rings f ≡ 1
-    one_ring = one-rings f (given_checks f) none
+    one_ring = one_rings f (given_checks f) none
 
   -- ---- the table of each outcome
 
-  pub given-other : (a : Answer) → (a.number ≡ 2) × (a.place ≡ 0) → OtherMark f → Decodes checks (file_labelled f) (refusal a)
-  given-other a e w = record {
-    answers = rw (e.0, e.1) (other-mark f (given_checks f) w);
+  pub given_other : (a : Answer) → (a.number ≡ 2) × (a.place ≡ 0) → OtherMark f → Decodes checks (file_labelled f) (refusal a)
+  given_other a e w = record {
+    answers = rw (e.0, e.1) (other_mark f (given_checks f) w);
     passed = λ z. absurd (omega (arith, e.0));
     labelled = λ z. absurd (omega (arith, e.0));
     refused = λ h. (refl, refl);
   }
 
-  pub given-own : (r : Decoded) → (OtherMark f → ⊥) → Decodes (given_checks f) (file_labelled f) r → Decodes checks (file_labelled f) r
+  pub given_own : (r : Decoded) → (OtherMark f → ⊥) → Decodes (given_checks f) (file_labelled f) r → Decodes checks (file_labelled f) r
   unfolding given_checks file_checks header_checks
-  given-own r own D = record {
-    answers = own-mark f _ own r.answer.number r.answer.place D.answers;
+  given_own r own D = record {
+    answers = own_mark f _ own r.answer.number r.answer.place D.answers;
     passed = D.passed;
     labelled = D.labelled;
     refused = D.refused;

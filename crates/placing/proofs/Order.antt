@@ -2,9 +2,9 @@
 -- n, with first ends f.
 --
 --   taken n f e r j       row j is taken before row r of those that start at element e
---   taken_none, taken_more, taken-skip, taken_next, taken-all
+--   taken_none, taken_more, taken_skip, taken_next, taken_all
 --                         none is taken; one more is; the walk goes on along a link, or to the next element; all are
---   free-among            a slot is free for a row just when no row there overlaps it, where all rows there are taken before it
+--   free_among            a slot is free for a row just when no row there overlaps it, where all rows there are taken before it
 use mathlib.Core.Path.{◌≡◌, sym, ap, ◌∙◌, subst}
 use mathlib.Core.Logic.{◌⊎◌, inl, inr, ⊎_elim}
 use mathlib.Core.Bool.{Bool, false, not, ◌&&◌, ◌||◌}
@@ -42,9 +42,9 @@ module _ (n : ℕ) (f : ℕ → ℕ) (e r j : ℕ) where
       (both (eqb (f j) e) (ltb j r) (eqb_of (f j) e a.0) (lt→ltb j r a.1))) k)
 
   -- where row r starts at e, they come before it
-  pub taken-ahead : f r ≡ e → T (taken n f e r j) → T (before f j r)
+  pub taken_ahead : f r ≡ e → T (taken n f e r j) → T (before f j r)
   unfolding taken before
-  taken-ahead q h =
+  taken_ahead q h =
       subst (λ (d : ℕ). T (ltb (f j) d || (eqb (f j) d && ltb j r))) (sym q)
       (snd (ltb j n) (ltb (f j) e || (eqb (f j) e && ltb j r)) h)
 
@@ -64,8 +64,8 @@ module _ (n : ℕ) (f : ℕ → ℕ) (e : ℕ) where
       (decide (eqb j r)))
 
   -- no row that the link skips starts at e
-  pub taken-skip : {k r : ℕ} → Link n f e k r → 0 < r → (j : ℕ) → taken n f e k j ≡ taken n f e (r - 1) j
-  taken-skip {k} {r} L some j =
+  pub taken_skip : {k r : ℕ} → Link n f e k r → 0 < r → (j : ℕ) → taken n f e k j ≡ taken n f e (r - 1) j
+  taken_skip {k} {r} L some j =
       same (taken n f e k j) (taken n f e (r - 1) j)
       (λ h. let w = taken_is n f e k j h in
       taken_of n f e (r - 1) j w.0 (⊎_elim (λ b. inl b) (λ b. inr (b.0, omega (arith, L.starts some))) w.1))
@@ -92,17 +92,17 @@ module _ (n : ℕ) (f : ℕ → ℕ) (e : ℕ) where
       is_false (taken n f e 0 j) (λ t. let w = taken_is n f e 0 j t in
       ⊎_elim (λ b. omega (arith, h j w.0)) (λ b. not-suc-le-zero b.1) w.1)
 
-  pub taken-all : ((j : ℕ) → j < n → f j < e) → (j : ℕ) → taken n f e 0 j ≡ ltb j n
-  taken-all h j =
+  pub taken_all : ((j : ℕ) → j < n → f j < e) → (j : ℕ) → taken n f e 0 j ≡ ltb j n
+  taken_all h j =
       same (taken n f e 0 j) (ltb j n) (λ t. lt→ltb j n (taken_is n f e 0 j t).0)
       (λ t. taken_of n f e 0 j (ltb→lt j n t) (inl (h j (ltb→lt j n t))))
 
 -- ---- is a slot free
 
 module _ (n : ℕ) (o : ℕ → ℕ → Bool) (f : ℕ → ℕ) (P : ℕ → ℕ → Bool) (i s : ℕ) (ahead : (j : ℕ) → T (P j s) → T (before f j i)) where
-  pub free-among : free n o f P i s ≡ not (any n (λ j. P j s && o j i))
+  pub free_among : free n o f P i s ≡ not (any n (λ j. P j s && o j i))
   unfolding free hinders
-  free-among =
+  free_among =
       ap not (any_eq n (λ j. hinders o f j i && P j s) (λ j. P j s && o j i)
       (λ j d. same ((before f j i && o j i) && P j s) (P j s && o j i)
       (λ h. both (P j s) (o j i) (snd (before f j i && o j i) (P j s) h)

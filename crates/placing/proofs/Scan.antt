@@ -3,7 +3,7 @@
 --   within s e u              slot u is one of those from s up to e
 --   Scan l P₀ p i k s left P  row i, with load k, has taken its slots of those below s that have p, and `left` of its load is left;
 --                             P₀ says who had which slot when the scan began
---   scan-start, scan-skip, scan-take, scan-end
+--   scan_start, scan_skip, scan_take, scan_end
 --                             the scan begins, past slots that are not free; a stretch is passed, or taken whole; the scan is over, at
 --                             the last slot or with no load left
 use mathlib.Core.Path.{◌≡◌, refl, sym, ap, ◌∙◌}
@@ -47,8 +47,8 @@ pub record Scan (l : ℕ) (P₀ : ℕ → ℕ → Bool) (p : ℕ → Bool) (i k 
   pub rest : left + count s (chosen p k) ≡ k
 
 module _ {l : ℕ} {P₀ : ℕ → ℕ → Bool} {p : ℕ → Bool} {i k : ℕ} where
-  pub scan-start : (s : ℕ) → ((u : ℕ) → u < s → p u ≡ false) → Scan l P₀ p i k s k P₀
-  scan-start s none = record {
+  pub scan_start : (s : ℕ) → ((u : ℕ) → u < s → p u ≡ false) → Scan l P₀ p i k s k P₀
+  scan_start s none = record {
     had = λ j u m.
         sym (ap (λ (b : Bool). P₀ j u || (eqb j i && b))
         (is_false (up_to p k s u) (λ t. barred u (up_to_lt p k s u t) (up_to_chosen p k s u t)))
@@ -60,8 +60,8 @@ module _ {l : ℕ} {P₀ : ℕ → ℕ → Bool} {p : ℕ → Bool} {i k : ℕ} 
       barred u h t = of_false (none u h) (fst (p u) (ltb (count u p) k) t)
 
   module _ {s left : ℕ} {P : ℕ → ℕ → Bool} (S : Scan l P₀ p i k s left P) {e : ℕ} (on : s ≤ e) where
-    pub scan-skip : ((u : ℕ) → s ≤ u → u < e → p u ≡ false) → Scan l P₀ p i k e left P
-    scan-skip none = record {
+    pub scan_skip : ((u : ℕ) → s ≤ u → u < e → p u ≡ false) → Scan l P₀ p i k e left P
+    scan_skip none = record {
       had = λ j u m.
           S.had j u m
           ∙ ap (λ (b : Bool). P₀ j u || (eqb j i && b))
@@ -81,10 +81,10 @@ module _ {l : ℕ} {P₀ : ℕ → ℕ → Bool} {p : ℕ → Bool} {i k : ℕ} 
         barred : (u : ℕ) → s ≤ u → u < e → T (chosen p k u) → ⊥
         barred u a b t = of_false (none u a b) (fst (p u) (ltb (count u p) k) t)
 
-    pub scan-take : {Q : ℕ → ℕ → Bool} → e - s ≤ left → ((u : ℕ) → s ≤ u → u < e → p u ≡ true)
+    pub scan_take : {Q : ℕ → ℕ → Bool} → e - s ≤ left → ((u : ℕ) → s ≤ u → u < e → p u ≡ true)
         → ((j u : ℕ) → u < l → Q j u ≡ (P j u || (within s e u && eqb j i)))
         → Scan l P₀ p i k e (left - (e - s)) Q
-    scan-take few all put = record {
+    scan_take few all put = record {
       had = λ j u m.
           put j u m ∙ ap (λ (b : Bool). b || (within s e u && eqb j i)) (S.had j u m)
           ∙ merge (P₀ j u) (eqb j i) (up_to p k s u) (within s e u) (up_to p k e u)
@@ -115,9 +115,9 @@ module _ {l : ℕ} {P₀ : ℕ → ℕ → Bool} {p : ℕ → Bool} {i k : ℕ} 
             (λ w. ⊎_elim f (λ v. g (fst b true v)) (or_cases a (b && true) w))
             (λ w. ⊎_elim (orl a (b && true)) (λ v. orr a (b && true) (both b true v tt)) (h w))
 
-  pub scan-end : {s left : ℕ} {P : ℕ → ℕ → Bool} → Scan l P₀ p i k s left P → (l ≤ s) ⊎ (left ≡ 0)
+  pub scan_end : {s left : ℕ} {P : ℕ → ℕ → Bool} → Scan l P₀ p i k s left P → (l ≤ s) ⊎ (left ≡ 0)
       → (j u : ℕ) → u < l → P j u ≡ (P₀ j u || (eqb j i && chosen p k u))
-  scan-end {s} {left} S over j u m =
+  scan_end {s} {left} S over j u m =
       S.had j u m
       ∙ ap (λ (b : Bool). P₀ j u || (eqb j i && b))
       (same (up_to p k s u) (chosen p k u) (up_to_chosen p k s u) (λ h. up_to_of p k s u (inside h over) h))

@@ -8,7 +8,7 @@ use borrow.Author.Tests.{eq-eqb, ne_eqb}
 use Rattle.rules.specs.Bus.{Table}
 use Rattle.rules.specs.Loads.{hyperperiod, start, end, intervals}
 use Rattle.rules.specs.Planner.{due, next, reached}
-use Rattle.lags.proofs.Intervals.{start-in, start-strict, start-last, end-next}
+use Rattle.lags.proofs.Intervals.{start_in, start_strict, start_last, end_next}
 use Rattle.lags.proofs.States.{next_due, next_finished}
 use Rattle.table.specs.Sound.{Sound}
 use Rattle.verdict.specs.declared.Analysis.{Analysis}
@@ -35,17 +35,17 @@ module _ {t : Table} {a : Analysis} (A : Accepted t a) where
 module _ {t : Table} (S : Sound t) where
   -- the slot reached, where the interval due is one of the table's
   pub slot_is : (s : Stage) → ((k : ℕ) → stage_of s ≡ due k → k < intervals t) → slot_of t s ≡ reached t (stage_of s)
-  slot_is (Due k) l = start-in S k (l k refl)
+  slot_is (Due k) l = start_in S k (l k refl)
   slot_is Finished l = refl
 
   -- an interval ends at h exactly if it is the last
-  pub next-is : (k e h : ℕ) → k < intervals t → e ≡ end t k → h ≡ hyperperiod t → stage_of (stage_after e h (k + 1)) ≡ next t k
-  next-is k e h l ends hyper =
+  pub next_is : (k e h : ℕ) → k < intervals t → e ≡ end t k → h ≡ hyperperiod t → stage_of (stage_after e h (k + 1)) ≡ next t k
+  next_is k e h l ends hyper =
       ⊎_elim
       (λ (q : k + 1 ≡ intervals t).
-      let z : e ≡ h = ends ∙ end-next S k ∙ rw q (start-last S) ∙ sym hyper in
+      let z : e ≡ h = ends ∙ end_next S k ∙ rw q (start_last S) ∙ sym hyper in
       rw (eq-eqb e h z) (sym (next_finished t k q)))
       (λ (q : k + 1 < intervals t).
-      let far = start-strict S (k + 1) (intervals t) q (le_refl (intervals t)) in
-      rw (ne_eqb e h (λ z. omega (arith, ends, hyper, far, end-next S k, start-last S))) (sym (next_due t k q)))
+      let far = start_strict S (k + 1) (intervals t) q (le_refl (intervals t)) in
+      rw (ne_eqb e h (λ z. omega (arith, ends, hyper, far, end_next S k, start_last S))) (sym (next_due t k q)))
       (eq-or-lt_of_le (omega arith))

@@ -27,11 +27,11 @@ use Rattle.rules.specs.Bus.{Table, overlap}
 use Rattle.rules.specs.Line.{OverlapSet, Sets}
 use Rattle.rules.specs.Loads.{hyperperiod, intervals, rate, share}
 use Rattle.rules.specs.Planner.{Stage, due, finished, Planner, reached, Off, standing}
-use Rattle.rules.proofs.Sets.{set-in}
+use Rattle.rules.proofs.Sets.{set_in}
 use Rattle.table.specs.Sound.{Sound}
 use Rattle.table.specs.Columns.{ByRow}
 use Rattle.lags.specs.Lags.{Steady, NotOff}
-use Rattle.lags.proofs.Intervals.{hyperperiod-positive, rate-le, start-mono, start-last}
+use Rattle.lags.proofs.Intervals.{hyperperiod_positive, rate_le, start_mono, start_last}
 use Rattle.planner.specs.Step.{Bounded, SetsKeep, KeepsStep, SpareClear, Stands}
 
 -- ---- a table, as the code holds it
@@ -47,19 +47,19 @@ pub record Shown (t : Table) (n h : ℕ) (rates : List ℕ) (m : ℕ) (words : L
 -- the slot that a planner has reached lies in the hyperperiod
 pub reached_le : {t : Table} → Sound t → (s : Stage) → ((k : ℕ) → s ≡ due k → k < intervals t) → reached t s ≤ hyperperiod t
 reached_le {t} S (due k) f =
-    omega (arith, start-mono S k (intervals t) (omega (arith, f k refl)) (le_refl (intervals t)), start-last S)
+    omega (arith, start_mono S k (intervals t) (omega (arith, f k refl)) (le_refl (intervals t)), start_last S)
 reached_le {t} S finished f = le_refl (hyperperiod t)
 
 module _ {t : Table} {n h : ℕ} {rates : List ℕ} {m : ℕ} {words : List ℕ} (S : Shown t n h rates m words) where
   pub bounded : Sound t → hyperperiod t ≤ max_slots → (s : ℕ) → s ≤ hyperperiod t → Bounded n h s (at rates)
   bounded T short s l = record {
     few = omega (arith, S.rows, T.rows_high);
-    some = omega (arith, S.hyper, hyperperiod-positive T);
+    some = omega (arith, S.hyper, hyperperiod_positive T);
     short = omega (arith, S.hyper);
     inside = omega (arith, S.hyper);
     light = λ i l.
         let k : i < t.rows = omega (arith, S.rows) in
-        omega (arith, S.hyper, S.by_row.row i k, rate-le T i k);
+        omega (arith, S.hyper, S.by_row.row i k, rate_le T i k);
   }
 
   -- ---- totals that keep step
@@ -85,12 +85,12 @@ module _ {t : Table} {n h : ℕ} {rates : List ℕ} {m : ℕ} {words : List ℕ}
               (λ i l. refl) (λ i l d. ap (λ (k : ℕ). k * s) (S.by_row.row i l)),
         ) (λ r. r, λ r. r)
 
-    pub steady-is : KeepsStep n h s (at rates) m (at words) totals ↔ Steady t s totals
-    steady-is = (
+    pub steady_is : KeepsStep n h s (at rates) m (at words) totals ↔ Steady t s totals
+    steady_is = (
       λ k. record {
         rows = λ i l. (row_at i l).0 (k.rows i (omega (arith, S.rows)));
         sets = λ D o.
-            let w = set-in S.list o in
+            let w = set_in S.list o in
             let l : w.0 < m = omega (arith, w.1, listed) in
             let e : bit (at words w.0) ≡ D = ap bit (sym (get_or-take m words w.0 0 l)) ∙ w.2 in
             (set_at D).0 (subst (λ (E : ℕ → Bool). Rounded (sum_in n E totals) (sum_in n E (λ i. at rates i * s)) h) e (k.sets w.0 l));
@@ -103,20 +103,20 @@ module _ {t : Table} {n h : ℕ} {rates : List ℕ} {m : ℕ} {words : List ℕ}
 
   -- ---- states that are off, and that are not
 
-  pub off-spare : (p : Planner) → ¬ SpareClear n p.totals → Off t p
-  off-spare p f =
+  pub off_spare : (p : Planner) → ¬ SpareClear n p.totals → Off t p
+  off_spare p f =
       ⊎_elim
       (λ a. absurd (f (λ i l u. let e : n + (i - n) ≡ i = omega arith in rw e at (a (i - n) (omega arith)))))
       (λ w. Off.spare (n + w.0) (omega (arith, S.rows)) (omega (arith, w.1)) w.2)
       (all_or_one (λ j. p.totals (n + j) ≡ 0) (max_rows - n) (λ j l. ℕ_discrete (p.totals (n + j)) 0))
 
   module _ (p : Planner) {s : ℕ} (here : s ≡ reached t p.stage) where
-    pub not-off-of : ((k : ℕ) → p.stage ≡ due k → k < intervals t) → SpareClear n p.totals
+    pub not_off_of : ((k : ℕ) → p.stage ≡ due k → k < intervals t) → SpareClear n p.totals
         → KeepsStep n h s (at rates) m (at words) p.totals → NotOff t p
-    not-off-of number spare k = record {
+    not_off_of number spare k = record {
       number = number;
       spare = λ i l. spare i (omega (arith, S.rows));
-      steady = rw (← here) ((steady-is s p.totals).0 k);
+      steady = rw (← here) ((steady_is s p.totals).0 k);
     }
 
     off_set : ¬ SetsKeep n h s (at rates) m (at words) p.totals → Off t p
@@ -127,8 +127,8 @@ module _ {t : Table} {n h : ℕ} {rates : List ℕ} {m : ℕ} {words : List ℕ}
         Off.set D (word_set w.0 w.1) (rw (← here) (λ r. w.2 ((set_at s p.totals D).1 r))))
         (all_or_one _ m (λ k l. rounded_dec _ _ _))
 
-    pub off-step : ¬ KeepsStep n h s (at rates) m (at words) p.totals → Off t p
-    off-step f =
+    pub off_step : ¬ KeepsStep n h s (at rates) m (at words) p.totals → Off t p
+    off_step f =
         ⊎_elim
         (λ a. off_set (λ b. f (record { rows = a; sets = b })))
         (λ w. let l : w.0 < t.rows = omega (arith, w.1, S.rows) in
@@ -137,11 +137,11 @@ module _ {t : Table} {n h : ℕ} {rates : List ℕ} {m : ℕ} {words : List ℕ}
 
     -- ---- standings
 
-    pub standings-are : (xs : List ℤ) → Stands n h s (at rates) p.totals xs
+    pub standings_are : (xs : List ℤ) → Stands n h s (at rates) p.totals xs
         → ((i : ℕ) → i < t.rows → get_or xs i (pos 0) ≡ standing t p i)
         × ((i : ℕ) → t.rows ≤ i → i < max_rows → get_or xs i (pos 0) ≡ pos 0)
     unfolding standing
-    standings-are xs k = (
+    standings_are xs k = (
       λ i l.
           k.row i (omega (arith, S.rows))
           ∙ ap₂ (λ (a b : ℕ). pos (p.totals i * a) -ℤ pos b) S.hyper (ap₂ ◌*◌ (S.by_row.row i l) here),

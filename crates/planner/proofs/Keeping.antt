@@ -15,7 +15,7 @@ use Rattle.numbers.specs.Finite.{sum_in}
 use Rattle.numbers.specs.Word.{bit}
 use Rattle.numbers.specs.Rounding.{Rounded}
 use Rattle.numbers.proofs.Finite.{sum_in_scaled}
-use Rattle.numbers.proofs.Rounding.{rounded-is}
+use Rattle.numbers.proofs.Rounding.{rounded_is}
 use Rattle.rules.specs.Bounds.{max_rows, max_slots}
 use Rattle.planner.specs.Step.{Bounded, RowsKeep, Stands}
 
@@ -24,23 +24,23 @@ use Rattle.planner.specs.Step.{Bounded, RowsKeep, Stands}
 -- no row has had more slots than have passed
 pub rounded_le : {n r s h : ℕ} → 0 < h → r ≤ h → Rounded n (r * s) h → n ≤ s
 rounded_le {n} {r} {s} {h} some le k =
-    let l : n < s + 1 = lt_of_mul-lt-mul_right h (omega (arith, (rounded-is (r * s) h some n k).1, mul-le-mul_right s le)) in
+    let l : n < s + 1 = lt_of_mul-lt-mul_right h (omega (arith, (rounded_is (r * s) h some n k).1, mul-le-mul_right s le)) in
     omega arith
 
 module _ {n h s : ℕ} {rate : ℕ → ℕ} (b : Bounded n h s rate) where
-  pub rate-le : (i : ℕ) → i < n → rate i ≤ max_slots
-  rate-le i l = omega (arith, b.light i l, b.short)
+  pub rate_le : (i : ℕ) → i < n → rate i ≤ max_slots
+  rate_le i l = omega (arith, b.light i l, b.short)
 
-  pub slot-le : s ≤ max_slots
-  slot-le = omega (arith, b.inside, b.short)
+  pub slot_le : s ≤ max_slots
+  slot_le = omega (arith, b.inside, b.short)
 
-  pub total-le : (totals : ℕ → ℕ) → RowsKeep n h s rate totals → (i : ℕ) → i < n → totals i ≤ max_slots
-  total-le totals k i l = omega (arith, rounded_le b.some (b.light i l) (k i l), b.inside, b.short)
+  pub total_le : (totals : ℕ → ℕ) → RowsKeep n h s rate totals → (i : ℕ) → i < n → totals i ≤ max_slots
+  total_le totals k i l = omega (arith, rounded_le b.some (b.light i l) (k i l), b.inside, b.short)
 
   -- the products of a standing
-  pub products-le : (totals : ℕ → ℕ) → RowsKeep n h s rate totals → (i : ℕ) → i < n
+  pub products_le : (totals : ℕ → ℕ) → RowsKeep n h s rate totals → (i : ℕ) → i < n
       → (totals i * h ≤ max_slots * max_slots) × (rate i * s ≤ max_slots * max_slots)
-  products-le totals k i l = (mul-le-mul (total-le totals k i l) b.short, mul-le-mul (rate-le i l) slot-le)
+  products_le totals k i l = (mul-le-mul (total_le totals k i l) b.short, mul-le-mul (rate_le i l) slot_le)
 
 -- ---- a set
 
@@ -58,8 +58,8 @@ module _ (n h s : ℕ) (rate totals : ℕ → ℕ) where
     pub row : (k : ℕ) → k < i → get_or xs k (pos 0) ≡ pos (totals k * h) -ℤ pos (rate k * s)
     pub rest : (k : ℕ) → i ≤ k → get_or xs k (pos 0) ≡ pos 0
 
-  pub standing-start : Standing (replicate max_rows (pos 0)) 0
-  standing-start = record {
+  pub standing_start : Standing (replicate max_rows (pos 0)) 0
+  standing_start = record {
     size = length-replicate max_rows (pos 0);
     inside = omega arith;
     row = λ k l. absurd (omega arith);
@@ -71,9 +71,9 @@ module _ (n h s : ℕ) (rate totals : ℕ → ℕ) where
       zeros (suc m) zero = refl
       zeros (suc m) (suc k) = zeros m k
 
-  pub standing-next : {xs : List ℤ} {i : ℕ} (v : ℤ) → Standing xs i → i < n → n ≤ max_rows → v ≡ pos (totals i * h) -ℤ pos (rate i * s)
+  pub standing_next : {xs : List ℤ} {i : ℕ} (v : ℤ) → Standing xs i → i < n → n ≤ max_rows → v ≡ pos (totals i * h) -ℤ pos (rate i * s)
       → Standing (set xs i v) (i + 1)
-  standing-next {xs} {i} v S l f e = record {
+  standing_next {xs} {i} v S l f e = record {
     size = length-set xs i v ∙ S.size;
     inside = omega arith;
     row = λ k m. go k m (ℕ_discrete k i);
@@ -84,8 +84,8 @@ module _ (n h s : ℕ) (rate totals : ℕ → ℕ) where
       go k m (yes p) = rw p (get_or-set_same xs i v (pos 0) (omega (arith, S.size)) ∙ e)
       go k m (no p) = get_or-set_other xs i k v (pos 0) p ∙ S.row k (omega arith)
 
-  pub standing-end : {xs : List ℤ} {i : ℕ} → Standing xs i → n ≤ i → Stands n h s rate totals xs
-  standing-end S l = record {
+  pub standing_end : {xs : List ℤ} {i : ℕ} → Standing xs i → n ≤ i → Stands n h s rate totals xs
+  standing_end S l = record {
     size = S.size;
     row = λ k m. S.row k (omega (arith, S.inside));
     rest = λ k m o. S.rest k (omega (arith, S.inside));

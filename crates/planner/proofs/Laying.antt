@@ -10,8 +10,8 @@ use Rattle.rules.specs.Bounds.{max_rows}
 use Rattle.rules.specs.Bus.{Table}
 use Rattle.rules.specs.Loads.{end, intervals}
 use Rattle.rules.specs.Planner.{due, Off}
-use Rattle.lags.proofs.Intervals.{start_first, start-last, end-next, end-far}
-use Rattle.lags.proofs.Lags.{steady_eq, steady-fresh}
+use Rattle.lags.proofs.Intervals.{start_first, start_last, end_next, end_far}
+use Rattle.lags.proofs.Lags.{steady_eq, steady_fresh}
 use Rattle.lags.proofs.States.{not_off}
 use Rattle.time.specs.Time.{Begins}
 use Rattle.verdict.specs.declared.Analysis.{Analysis}
@@ -21,39 +21,39 @@ use Rattle.planner.proofs.CourseNumbers.{hyper_is}
 use Rattle.planner.specs.declared.Stage.TheVariants.{Due}
 use Rattle.planner.specs.declared.Planner.{Planner}
 use Rattle.planner.specs.State.{stage_of, planner_of, slot_of}
-use Rattle.planner.proofs.Off.{state-number, state-reached}
+use Rattle.planner.proofs.Off.{state_number, state_reached}
 
 -- ---- what can be planned
 
 module _ {t : Table} {a : Analysis} (A : Accepted t a) where
   -- the interval due, from a state that is not off
   module _ (p : Planner) (k : ℕ) {s : ℕ} (here : s ≡ slot_of t p.stage) (o : ¬ Off t (planner_of p)) (e : p.stage ≡ Due k) where
-    pub due-begins : Begins t k s
-    due-begins = record {
-      in_range = state-number A p here o k (ap stage_of e);
-      here = rw e at (state-reached A p here o);
+    pub due_begins : Begins t k s
+    due_begins = record {
+      in_range = state_number A p here o k (ap stage_of e);
+      here = rw e at (state_reached A p here o);
     }
 
-    pub due-length : (u : ℕ) → u ≡ end t k → s ≤ u
-    due-length u ends = omega (arith, ends, due-begins.here, end-far A.admissible.sound k due-begins.in_range)
+    pub due_length : (u : ℕ) → u ≡ end t k → s ≤ u
+    due_length u ends = omega (arith, ends, due_begins.here, end_far A.admissible.sound k due_begins.in_range)
 
-    pub due-plannable : length p.totals ≡ max_rows → (u room : ℕ) → u ≡ end t k → u - s ≤ room
+    pub due_plannable : length p.totals ≡ max_rows → (u room : ℕ) → u ≡ end t k → u - s ≤ room
         → Plannable t a k (k + 1) s u p.totals room
-    due-plannable size u room ends l = record {
+    due_plannable size u room ends l = record {
       accepted = A;
       totals = size;
       order = omega arith;
-      in_range = omega (arith, due-begins.in_range);
-      from = due-begins.here;
-      until = ends ∙ end-next A.admissible.sound k;
-      steady = rw (state-reached A p here o) (not_off.0 o).steady;
-      roomy = omega (arith, l, due-length u ends);
+      in_range = omega (arith, due_begins.in_range);
+      from = due_begins.here;
+      until = ends ∙ end_next A.admissible.sound k;
+      steady = rw (state_reached A p here o) (not_off.0 o).steady;
+      roomy = omega (arith, l, due_length u ends);
     }
 
   -- all intervals, from the fresh state
-  pub whole-plannable : (room : ℕ) → a.outline.time.hyper ≤ room
+  pub whole_plannable : (room : ℕ) → a.outline.time.hyper ≤ room
       → Plannable t a 0 (intervals t) 0 a.outline.time.hyper (replicate max_rows 0) room
-  whole-plannable room l =
+  whole_plannable room l =
       let S = A.admissible.sound in
       record {
         accepted = A;
@@ -61,8 +61,8 @@ module _ {t : Table} {a : Analysis} (A : Accepted t a) where
         order = omega arith;
         in_range = le_refl (intervals t);
         from = sym (start_first S);
-        until = hyper_is A ∙ sym (start-last S);
+        until = hyper_is A ∙ sym (start_last S);
         steady =
-            steady_eq t 0 (λ i. 0) (at (replicate max_rows 0)) (λ i h. sym (zeros_at max_rows i)) (steady-fresh A.admissible);
+            steady_eq t 0 (λ i. 0) (at (replicate max_rows 0)) (λ i h. sym (zeros_at max_rows i)) (steady_fresh A.admissible);
         roomy = omega arith;
       }

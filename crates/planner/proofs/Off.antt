@@ -12,12 +12,12 @@ use Rattle.numbers.proofs.Truth.{of_true, of_false, le_or_lt, decides_no, decide
 use Rattle.rules.specs.Bus.{Table}
 use Rattle.rules.specs.Loads.{intervals}
 use Rattle.rules.specs.Planner.{due, reached, Off}
-use Rattle.lags.proofs.Intervals.{start-late, late-start}
+use Rattle.lags.proofs.Intervals.{start_late, late_start}
 use Rattle.lags.proofs.States.{not_off}
 use Rattle.verdict.specs.declared.Analysis.{Analysis}
 use Rattle.verdict.specs.Analysed.{Accepted}
 use Rattle.planner.specs.Step.{Bounded, RowsKeep, KeepsStep, SpareClear}
-use Rattle.planner.proofs.InStep.{bounded, reached_le, steady-is, not-off-of, off-spare, off-step}
+use Rattle.planner.proofs.InStep.{bounded, reached_le, steady_is, not_off_of, off_spare, off_step}
 use Rattle.planner.specs.declared.Stage.{Stage}
 use Rattle.planner.specs.declared.Stage.TheVariants.{Due, Finished}
 use Rattle.planner.specs.declared.Planner.{Planner}
@@ -34,12 +34,12 @@ module _ {t : Table} {a : Analysis} (A : Accepted t a) (p : Planner) {s : ℕ} (
 
   -- ---- numbers that are too large
 
-  pub off-late : late_at p.stage s hyper ≡ true → Off t (planner_of p)
-  off-late l = go p.stage refl here l
+  pub off_late : late_at p.stage s hyper ≡ true → Off t (planner_of p)
+  off_late l = go p.stage refl here l
     where
       go : (u : Stage) → u ≡ p.stage → s ≡ slot_of t u → late_at u s hyper ≡ true → Off t (planner_of p)
       go (Due k) e q l =
-          Off.late k (ap stage_of (sym e)) (late-start A.admissible.sound k (sym q ∙ eqb-true s hyper l ∙ hyper_is A))
+          Off.late k (ap stage_of (sym e)) (late_start A.admissible.sound k (sym q ∙ eqb-true s hyper l ∙ hyper_is A))
       go Finished e q l = absurd (of_true l)
 
   module _ (l : late_at p.stage s hyper ≡ false) where
@@ -51,7 +51,7 @@ module _ {t : Table} {a : Analysis} (A : Accepted t a) (p : Planner) {s : ℕ} (
             let z : m ≡ k = cc in
             ⊎_elim
             (λ (g : intervals t ≤ m).
-            let h = eq-eqb s hyper (q ∙ start-late A.admissible.sound m g ∙ sym (hyper_is A)) in
+            let h = eq-eqb s hyper (q ∙ start_late A.admissible.sound m g ∙ sym (hyper_is A)) in
             absurd (of_false l (of_true h)))
             (λ (g : m < intervals t). omega arith)
             (le_or_lt (intervals t) m)
@@ -59,37 +59,37 @@ module _ {t : Table} {a : Analysis} (A : Accepted t a) (p : Planner) {s : ℕ} (
 
     -- ---- the tests of the totals
 
-    reached-is : s ≡ reached t (stage_of p.stage)
-    reached-is = here ∙ slot_is A.admissible.sound p.stage number_in
+    reached_is : s ≡ reached t (stage_of p.stage)
+    reached_is = here ∙ slot_is A.admissible.sound p.stage number_in
 
-    pub state-bounded : Bounded rows hyper s (at a.rate)
-    state-bounded =
+    pub state_bounded : Bounded rows hyper s (at a.rate)
+    state_bounded =
         bounded (shown A) A.admissible.sound A.admissible.short s
-        (rw reached-is (reached_le A.admissible.sound (stage_of p.stage) number_in))
+        (rw reached_is (reached_le A.admissible.sound (stage_of p.stage) number_in))
 
     -- the last test decides
-    pub off-decided : SpareClear rows (at p.totals) → (b : Bool)
+    pub off_decided : SpareClear rows (at p.totals) → (b : Bool)
         → Decides (KeepsStep rows hyper s (at a.rate) a.outline.sets (at a.outline.words) (at p.totals)) b
         → Decides (Off t (planner_of p)) (not b)
-    off-decided c true D = decides_no (not_off.1 (not-off-of (shown A) (planner_of p) reached-is number_in c (D.holds refl)))
-    off-decided c false D = decides_yes (off-step (shown A) (planner_of p) reached-is (D.fails refl))
+    off_decided c true D = decides_no (not_off.1 (not_off_of (shown A) (planner_of p) reached_is number_in c (D.holds refl)))
+    off_decided c false D = decides_yes (off_step (shown A) (planner_of p) reached_is (D.fails refl))
 
-  pub off-spare-total : ¬ SpareClear rows (at p.totals) → Off t (planner_of p)
-  off-spare-total = off-spare (shown A) (planner_of p)
+  pub off_spare_total : ¬ SpareClear rows (at p.totals) → Off t (planner_of p)
+  off_spare_total = off_spare (shown A) (planner_of p)
 
   -- ---- states that are not off
 
   module _ (o : ¬ Off t (planner_of p)) where
-    pub state-number : (k : ℕ) → stage_of p.stage ≡ due k → k < intervals t
-    state-number k e = (not_off.0 o).number k e
+    pub state_number : (k : ℕ) → stage_of p.stage ≡ due k → k < intervals t
+    state_number k e = (not_off.0 o).number k e
 
-    pub state-reached : s ≡ reached t (stage_of p.stage)
-    state-reached = here ∙ slot_is A.admissible.sound p.stage state-number
+    pub state_reached : s ≡ reached t (stage_of p.stage)
+    state_reached = here ∙ slot_is A.admissible.sound p.stage state_number
 
-    pub still-bounded : Bounded rows hyper s (at a.rate)
-    still-bounded =
+    pub still_bounded : Bounded rows hyper s (at a.rate)
+    still_bounded =
         bounded (shown A) A.admissible.sound A.admissible.short s
-        (rw state-reached (reached_le A.admissible.sound (stage_of p.stage) state-number))
+        (rw state_reached (reached_le A.admissible.sound (stage_of p.stage) state_number))
 
-    pub state-keeps : RowsKeep rows hyper s (at a.rate) (at p.totals)
-    state-keeps = ((steady-is (shown A) s (at p.totals)).1 (rw state-reached (not_off.0 o).steady)).rows
+    pub state_keeps : RowsKeep rows hyper s (at a.rate) (at p.totals)
+    state_keeps = ((steady_is (shown A) s (at p.totals)).1 (rw state_reached (not_off.0 o).steady)).rows

@@ -28,19 +28,19 @@ step_only a p r s was now then A B = go (ℕ_discrete r.answer.number 0)
     number : r.answer.number ≡ s.answer.number
     number = ap (λ (w : Answer). w.number) same
 
-    with-planner : r.planner ≡ s.planner → now ≡ then → (r ≡ s) × (now ≡ then)
-    with-planner e n = (λ i. record { planner = e i; answer = same i }, n)
+    with_planner : r.planner ≡ s.planner → now ≡ then → (r ≡ s) × (now ≡ then)
+    with_planner e n = (λ i. record { planner = e i; answer = same i }, n)
 
     go : Dec (r.answer.number ≡ 0) → (r ≡ s) × (now ≡ then)
     go (yes z) =
         let x = A.stepped.done z in
         let y = B.stepped.done (sym number ∙ z) in
         let e = plans.step_only x.1 y.1 in
-        with-planner (state_same r.planner s.planner (A.size ∙ sym B.size) e.0)
+        with_planner (state_same r.planner s.planner (A.size ∙ sym B.size) e.0)
         (x.2 ∙ ap (λ (ws : List ℕ). lent ws was) e.1 ∙ sym y.2)
     go (no z) =
         let y : s.answer.number ≢ 0 = λ e. z (number ∙ e) in
-        with-planner (A.same z ∙ sym (B.same y)) ((A.stepped.refused z).1 ∙ sym (B.stepped.refused y).1)
+        with_planner (A.same z ∙ sym (B.same y)) ((A.stepped.refused z).1 ∙ sym (B.stepped.refused y).1)
 
 pub plan_only : OnePlan
 plan_only a r s was now then A B = (same, go (ℕ_discrete r.number 0))

@@ -11,14 +11,14 @@ use Rattle.sets.specs.Chained.{all_heads, Chained}
 use Rattle.interval.specs.declared.fold.Folded.{Folded}
 use Rattle.interval.specs.Folded.{FoldedSets}
 use Rattle.interval.specs.Ready.{Laid, Ready}
-use Rattle.interval.proofs.RowSets.{folded-few}
+use Rattle.interval.proofs.RowSets.{folded_few}
 use Rattle.interval.proofs.Ready.{line_narrow, ends_on_line}
 use Rattle.loads.specs.NodesOf.{NodesOf}
 use Rattle.planner.proofs.CourseNumbers.{hyper_is}
 
 module _ {t : Table} {a : Analysis} (A : Accepted t a) where
-  pub firsts-low : (i : ℕ) → i < a.outline.rows → at a.outline.first i < all_heads
-  firsts-low i h =
+  pub firsts_low : (i : ℕ) → i < a.outline.rows → at a.outline.first i < all_heads
+  firsts_low i h =
       let e = ends_on_line A.admissible A.outline.first A.outline.second i (omega (arith, A.outline.rows)) in
       omega (arith, e, line_narrow A.admissible.sound)
 
@@ -29,11 +29,11 @@ module _ {t : Table} {a : Analysis} (A : Accepted t a) where
     folds = rw (A.outline.rows, A.outline.elements) at G
 
     -- no more sets than elements
-    pub low-sets : F.sets ≤ max_elements
-    low-sets =
+    pub low_sets : F.sets ≤ max_elements
+    low_sets =
         omega (
           arith,
-          folded-few A.admissible A.outline.list A.outline.first folds,
+          folded_few A.admissible A.outline.list A.outline.first folds,
           A.admissible.sound.elements_high,
         )
 

@@ -18,7 +18,7 @@ use Rattle.rules.specs.Calls.{lent}
 use Rattle.rules.specs.Loads.{start, end, intervals}
 use Rattle.rules.specs.Planner.{Stage, due, finished, Run, none, more}
 use Rattle.lags.specs.Lags.{Admissible, Steady}
-use Rattle.lags.proofs.Intervals.{shortest-positive, end-next, end-far, end-le, start-mono, start-below, start-same, intervals-positive}
+use Rattle.lags.proofs.Intervals.{shortest_positive, end_next, end_far, end_le, start_mono, start_below, start_same, intervals_positive}
 use Rattle.table.specs.Sound.{Sound}
 use Rattle.time.specs.Time.{Begins}
 use Rattle.verdict.specs.declared.Analysis.{Analysis}
@@ -46,8 +46,8 @@ module _ {t : Table} {a : Analysis} {k m s u : ℕ} {had : List ℕ} (was : List
   sound : Sound t
   sound = P.accepted.admissible.sound
 
-  pub planning-start : Planning t k m had was s 0 had was
-  planning-start = record {
+  pub planning_start : Planning t k m had was s 0 had was
+  planning_start = record {
     number = k;
     from = omega arith;
     to = P.order;
@@ -61,43 +61,43 @@ module _ {t : Table} {a : Analysis} {k m s u : ℕ} {had : List ℕ} (was : List
   }
 
   module _ {x n : ℕ} {after out : List ℕ} (L : Planning t k m had was x n after out) where
-    pub planning-begins : x < u → Begins t L.number x
-    planning-begins l =
-        let h = start-below sound L.number m (omega (arith, L.to, P.in_range)) (omega (arith, L.slot, P.until)) in
+    pub planning_begins : x < u → Begins t L.number x
+    planning_begins l =
+        let h = start_below sound L.number m (omega (arith, L.to, P.in_range)) (omega (arith, L.slot, P.until)) in
         record { in_range = omega (arith, P.in_range, h); here = L.slot }
 
     module _ (l : x < u) (e : ℕ) (ends : e ≡ end t L.number) where
       before_last : L.number < m
-      before_last = start-below sound L.number m (omega (arith, L.to, P.in_range)) (omega (arith, L.slot, P.until))
+      before_last = start_below sound L.number m (omega (arith, L.to, P.in_range)) (omega (arith, L.slot, P.until))
 
-      pub planning-due : Due t L.number x e after
-      planning-due = record { in_range = (planning-begins l).in_range; begins = L.slot; ends = ends; steady = L.steady }
+      pub planning_due : Due t L.number x e after
+      planning_due = record { in_range = (planning_begins l).in_range; begins = L.slot; ends = ends; steady = L.steady }
 
-      pub planning-low : e ≤ max_slots
-      planning-low = omega (arith, ends, end-le sound L.number (planning-begins l).in_range, P.accepted.admissible.short)
+      pub planning_low : e ≤ max_slots
+      planning_low = omega (arith, ends, end_le sound L.number (planning_begins l).in_range, P.accepted.admissible.short)
 
       -- there is room for the interval, which ends at slot e
-      pub planning-room : (x < e) × (n + (e - x) ≤ length was) × (length out ≡ length was)
-      planning-room =
-          let far = end-far sound L.number (planning-begins l).in_range in
-          let last = start-mono sound (L.number + 1) m (omega (arith, before_last)) P.in_range in (
-            omega (arith, L.slot, ends, far, shortest-positive sound),
-            omega (arith, L.slot, L.place, ends, far, last, end-next sound L.number, P.from, P.until, P.roomy),
+      pub planning_room : (x < e) × (n + (e - x) ≤ length was) × (length out ≡ length was)
+      planning_room =
+          let far = end_far sound L.number (planning_begins l).in_range in
+          let last = start_mono sound (L.number + 1) m (omega (arith, before_last)) P.in_range in (
+            omega (arith, L.slot, ends, far, shortest_positive sound),
+            omega (arith, L.slot, L.place, ends, far, last, end_next sound L.number, P.from, P.until, P.roomy),
             L.filled.same,
           )
 
       -- one interval more, written through the part that starts at place n
-      pub planning-next : (now ys : List ℕ) → Advanced t L.number after now (take (length out - n) (drop n out)) ys
+      pub planning_next : (now ys : List ℕ) → Advanced t L.number after now (take (length out - n) (drop n out)) ys
           → Planning t k m had was e (n + (e - x)) now (take n out ++ (ys ++ drop (length out - n) (drop n out)))
-      planning-next now ys D =
+      planning_next now ys D =
           let q : end t L.number - start t L.number ≡ e - x = ap₂ ◌-◌ (sym ends) (sym L.slot) in
           let w : List ℕ = take (end t L.number - start t L.number) ys in
-          let r = planning-room in
+          let r = planning_room in
           record {
             number = L.number + 1;
             from = omega (arith, L.from);
             to = omega (arith, before_last);
-            slot = ends ∙ end-next sound L.number;
+            slot = ends ∙ end_next sound L.number;
             place = omega (arith, L.place, r.0);
             size = D.size;
             steady = rw ends (moved_steady D.moved);
@@ -113,10 +113,10 @@ module _ {t : Table} {a : Analysis} {k m s u : ℕ} {had : List ℕ} (was : List
                 ∙ ap (λ (y : ℕ). w ++ drop y (take (length out - n) (drop n out))) q);
           }
 
-    pub planning-end : u ≤ x → Coursed t k m had after was out
+    pub planning_end : u ≤ x → Coursed t k m had after was out
     unfolding lent
-    planning-end l =
-        let e : L.number ≡ m = start-same sound L.number m L.to P.in_range (omega (arith, L.slot, P.until)) in
+    planning_end l =
+        let e : L.number ≡ m = start_same sound L.number m L.to P.in_range (omega (arith, L.slot, P.until)) in
         record {
           size = L.size;
           words = L.words;
@@ -127,19 +127,19 @@ module _ {t : Table} {a : Analysis} {k m s u : ℕ} {had : List ℕ} (was : List
 -- ---- one interval is a step, and those from the first on are a run
 
 module _ {t : Table} where
-  course-start : {k m : ℕ} {had now : ℕ → ℕ} {ws : List ℕ} → Course t k had m now ws → k ≤ m
-  course-start Course.start = omega arith
-  course-start (Course.on c d) = let z = course-start c in omega arith
+  course_start : {k m : ℕ} {had now : ℕ → ℕ} {ws : List ℕ} → Course t k had m now ws → k ≤ m
+  course_start Course.start = omega arith
+  course_start (Course.on c d) = let z = course_start c in omega arith
 
-  course-none : {k m : ℕ} {had now : ℕ → ℕ} {ws : List ℕ} → Course t k had m now ws → k ≡ m → (now ≡ had) × (ws ≡ [])
-  course-none Course.start e = (refl, refl)
-  course-none (Course.on c d) e = absurd (let z = course-start c in omega arith)
+  course_none : {k m : ℕ} {had now : ℕ → ℕ} {ws : List ℕ} → Course t k had m now ws → k ≡ m → (now ≡ had) × (ws ≡ [])
+  course_none Course.start e = (refl, refl)
+  course_none (Course.on c d) e = absurd (let z = course_start c in omega arith)
 
-  pub course-one : {k m : ℕ} {had now : ℕ → ℕ} {ws : List ℕ} → Course t k had m now ws → m ≡ suc k → Moved t k had now ws
-  course-one Course.start e = absurd (omega arith)
-  course-one {k} {had = had} (Course.on {m} {mid} {now} {vs} {ws} c d) e =
+  pub course_one : {k m : ℕ} {had now : ℕ → ℕ} {ws : List ℕ} → Course t k had m now ws → m ≡ suc k → Moved t k had now ws
+  course_one Course.start e = absurd (omega arith)
+  course_one {k} {had = had} (Course.on {m} {mid} {now} {vs} {ws} c d) e =
       let q : k ≡ m = omega arith in
-      let z = course-none c q in
+      let z = course_none c q in
       rw (z.1, q) (rw z.0 at d)
 
 -- the stage when the intervals below m are done
@@ -147,14 +147,14 @@ abbrev pub stage_at : Table → ℕ → Stage
 stage_at t m = cond (eqb m (intervals t)) finished (due m)
 
 module _ {t : Table} (A : Admissible t) where
-  at-due : (m : ℕ) → m < intervals t → stage_at t m ≡ due m
-  at-due m l = rw (is_false (eqb m (intervals t)) (λ h. omega (arith, eqb→eq m (intervals t) h)))
+  at_due : (m : ℕ) → m < intervals t → stage_at t m ≡ due m
+  at_due m l = rw (is_false (eqb m (intervals t)) (λ h. omega (arith, eqb→eq m (intervals t) h)))
 
-  pub course-run : {m : ℕ} {now : ℕ → ℕ} {ws : List ℕ} → Course t 0 (λ i. 0) m now ws → m ≤ intervals t
+  pub course_run : {m : ℕ} {now : ℕ → ℕ} {ws : List ℕ} → Course t 0 (λ i. 0) m now ws → m ≤ intervals t
       → Run t m (record { stage = stage_at t m; totals = now }) ws
-  course-run Course.start l =
+  course_run Course.start l =
       subst (λ (s : Stage). Run t 0 (record { stage = s; totals = λ i. 0 }) [])
-      (sym (at-due 0 (intervals-positive A.sound))) none
-  course-run (Course.on {m} c d) l =
-      more (course-run c (omega arith))
-      (step_of_moved (at-due m (omega arith)) (ap (stage_at t) (sym (add-one m))) d)
+      (sym (at_due 0 (intervals_positive A.sound))) none
+  course_run (Course.on {m} c d) l =
+      more (course_run c (omega arith))
+      (step_of_moved (at_due m (omega arith)) (ap (stage_at t) (sym (add-one m))) d)

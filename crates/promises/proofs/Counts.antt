@@ -15,17 +15,17 @@ use Rattle.rules.specs.Interval.{moves}
 -- ---- joined words
 
 module _ (vs ws : List ℕ) (i : ℕ) where
-  pub moves-left : (s : ℕ) → s < length vs → moves (vs ++ ws) i s ≡ moves vs i s
-  moves-left s l = ap (λ (w : ℕ). bit w i) (get_or-append vs ws 0 s l)
+  pub moves_left : (s : ℕ) → s < length vs → moves (vs ++ ws) i s ≡ moves vs i s
+  moves_left s l = ap (λ (w : ℕ). bit w i) (get_or-append vs ws 0 s l)
 
-  pub moves-right : (s : ℕ) → length vs ≤ s → moves (vs ++ ws) i s ≡ moves ws i (s - length vs)
-  moves-right s l = ap (λ (w : ℕ). bit w i) (at_append_right vs ws s l)
+  pub moves_right : (s : ℕ) → length vs ≤ s → moves (vs ++ ws) i s ≡ moves ws i (s - length vs)
+  moves_right s l = ap (λ (w : ℕ). bit w i) (at_append_right vs ws s l)
 
   pub count_left : (m : ℕ) → m ≤ length vs → count m (moves (vs ++ ws) i) ≡ count m (moves vs i)
-  count_left m l = count_eq m (moves (vs ++ ws) i) (moves vs i) (λ s k. moves-left s (omega arith))
+  count_left m l = count_eq m (moves (vs ++ ws) i) (moves vs i) (λ s k. moves_left s (omega arith))
 
-  pub count-joined : (l : ℕ) → count (length vs + l) (moves (vs ++ ws) i) ≡ count (length vs) (moves vs i) + count l (moves ws i)
-  count-joined l =
+  pub count_joined : (l : ℕ) → count (length vs + l) (moves (vs ++ ws) i) ≡ count (length vs) (moves vs i) + count l (moves ws i)
+  count_joined l =
       omega (
         arith,
         count_split (length vs) l (moves (vs ++ ws) i),

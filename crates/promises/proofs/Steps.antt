@@ -13,29 +13,29 @@ use Rattle.rules.specs.Loads.{hyperperiod, start, end, intervals, share}
 use Rattle.rules.specs.Interval.{moves}
 use Rattle.rules.specs.Planner.{Planner, fresh, reached, Step, Run, none, more}
 use Rattle.lags.specs.Lags.{Admissible, NotOff}
-use Rattle.lags.proofs.Intervals.{end-next, end-far, start-last}
+use Rattle.lags.proofs.Intervals.{end_next, end_far, start_last}
 use Rattle.lags.proofs.Lags.{rounded_share}
-use Rattle.lags.proofs.States.{not_off, next_reached, not-off-next}
+use Rattle.lags.proofs.States.{not_off, next_reached, not_off_next}
 use Rattle.promises.specs.Steps.{Serves, StepServes, Served, RunServes}
-use Rattle.promises.proofs.Words.{words-apart}
+use Rattle.promises.proofs.Words.{words_apart}
 use Rattle.promises.proofs.Plans.{Ran, ran}
 
 module _ {t : Table} (A : Admissible t) where
   -- ---- one step
 
-  serves-interval : {p q : Planner} {ws : List ℕ} → NotOff t p → (s : Step t p q ws)
+  serves_interval : {p q : Planner} {ws : List ℕ} → NotOff t p → (s : Step t p q ws)
       → Serves t (start t s.interval) (end t s.interval) p q ws
-  serves-interval {p} {q} {ws} n s = record {
-    size = omega (arith, s.words.size, end-far A.sound s.interval in_range);
+  serves_interval {p} {q} {ws} n s = record {
+    size = omega (arith, s.words.size, end_far A.sound s.interval in_range);
     rows = s.words.rows;
-    apart = words-apart A s.words;
+    apart = words_apart A s.words;
     totals = λ i l.
         s.moved i l
         ∙ ap (λ (m : ℕ). p.totals i + m) (sym (s.placed i l) ∙ ap (λ (m : ℕ). count m (moves ws i)) (sym s.words.size));
     shares = λ i l.
         (rounded_share A.sound (q.totals i) i (end t s.interval) l).0 (rw (s.moved i l) (s.greatest.qualify.rows i l));
     reaches = ap (reached t) s.after ∙ next_reached A.sound s.interval in_range;
-    not_off = not_off.1 (not-off-next A n s);
+    not_off = not_off.1 (not_off_next A n s);
   }
     where
       in_range : s.interval < intervals t
@@ -44,10 +44,10 @@ module _ {t : Table} (A : Admissible t) where
   -- ---- the first steps of a fresh planner
 
   -- there are no more steps than intervals
-  run-in-range : {k : ℕ} {q : Planner} {ws : List ℕ} → Run t k q ws → k ≤ intervals t
-  run-in-range none = omega arith
-  run-in-range (more {k = k} {p = p} r s) =
-      let le : k ≤ intervals t = run-in-range r in
+  run_in_range : {k : ℕ} {q : Planner} {ws : List ℕ} → Run t k q ws → k ≤ intervals t
+  run_in_range none = omega arith
+  run_in_range (more {k = k} {p = p} r s) =
+      let le : k ≤ intervals t = run_in_range r in
       ⊎_elim
       (λ (e : k ≡ intervals t).
       let f = (ran A le r).done e in
@@ -59,20 +59,20 @@ module _ {t : Table} (A : Admissible t) where
 
   module _ {k : ℕ} {q : Planner} {ws : List ℕ} (in_range : k ≤ intervals t) (R : Ran t k q ws) where
     -- where an interval has ended, each row has had its share
-    pub ran-shares : (i m : ℕ) → i < t.rows → m < k → Rounded (count (end t m) (moves ws i)) (t.cost i * end t m) (t.period i)
-    ran-shares i m l h =
+    pub ran_shares : (i m : ℕ) → i < t.rows → m < k → Rounded (count (end t m) (moves ws i)) (t.cost i * end t m) (t.period i)
+    ran_shares i m l h =
         (rounded_share A.sound (count (end t m) (moves ws i)) i (end t m) l).0
-        (rw (end-next A.sound m) ((R.steady (m + 1) (omega arith)).rows i l))
+        (rw (end_next A.sound m) ((R.steady (m + 1) (omega arith)).rows i l))
 
-    ran-reaches : reached t q.stage ≡ start t k
-    ran-reaches =
+    ran_reaches : reached t q.stage ≡ start t k
+    ran_reaches =
         ⊎_elim
-        (λ (e : k ≡ intervals t). ap (reached t) (R.done e) ∙ sym (start-last A.sound) ∙ ap (start t) (sym e))
+        (λ (e : k ≡ intervals t). ap (reached t) (R.done e) ∙ sym (start_last A.sound) ∙ ap (start t) (sym e))
         (λ (l : k < intervals t). ap (reached t) (R.stage l))
         (eq-or-lt_of_le in_range)
 
-    ran-serves : Serves t 0 (start t k) fresh q ws
-    ran-serves = record {
+    ran_serves : Serves t 0 (start t k) fresh q ws
+    ran_serves = record {
       size = omega (arith, R.size);
       rows = R.rows;
       apart = R.apart;
@@ -81,17 +81,17 @@ module _ {t : Table} (A : Admissible t) where
           omega (arith, n);
       shares = λ i l.
           (rounded_share A.sound (q.totals i) i (start t k) l).0 (rw (← R.totals i l) ((R.steady k (omega arith)).rows i l));
-      reaches = ran-reaches;
+      reaches = ran_reaches;
       not_off = not_off.1 R.not_off;
     }
 
 pub step_serves : StepServes
 step_serves t p q k ws A o d s =
     let e : s.interval ≡ k = let a = s.is_due in cc in
-    subst (λ (m : ℕ). Serves t (start t m) (end t m) p q ws) e (serves-interval A (not_off.0 o) s)
+    subst (λ (m : ℕ). Serves t (start t m) (end t m) p q ws) e (serves_interval A (not_off.0 o) s)
 
 pub run_serves : RunServes
 run_serves t k q ws A r =
-    let le = run-in-range A r in
+    let le = run_in_range A r in
     let R = ran A le r in
-    record { serves = ran-serves A le R; shares = ran-shares A le R }
+    record { serves = ran_serves A le R; shares = ran_shares A le R }

@@ -22,13 +22,13 @@ use Rattle.table.proofs.ByRow.{by_row_only}
 use Rattle.decoding.specs.Decoded.{refusal, Decodes}
 use Rattle.decoding.specs.declared.Decoded.{Decoded}
 use Rattle.decoding.proofs.Decoding.{decodes_only}
-use Rattle.pasted.proofs.AsGiven.{given-passed}
-use Rattle.pasted.proofs.OneRing.{one-ring-numbered, one-ring-none}
+use Rattle.pasted.proofs.AsGiven.{given_passed}
+use Rattle.pasted.proofs.OneRing.{one_ring_numbered, one_ring_none}
 use Rattle.time.specs.Time.{Timed}
 use Rattle.outline.specs.declared.Layout.{Layout}
 use Rattle.outline.specs.Layout.{LaidOut}
-use Rattle.outline.proofs.Outlined.{line-numbered}
-use Rattle.lags.proofs.Intervals.{shortest-positive, shortest-le}
+use Rattle.outline.proofs.Outlined.{line_numbered}
+use Rattle.lags.proofs.Intervals.{shortest_positive, shortest_le}
 use Rattle.verdict.specs.Weights.{Times}
 use Rattle.verdict.proofs.Weighing.{times_of}
 use Rattle.raising.specs.declared.Raising.{Raising}
@@ -48,8 +48,8 @@ module _ (f : List ℕ) (r : Decoded) (D : Decodes (one_given f) (file_labelled 
   t = file_table f
 
   -- 1 to 9 or 18 refuse
-  pub raising-given : r.answer.number ≢ 0 → RaisedBeside f (unraised r.answer)
-  raising-given h =
+  pub raising_given : r.answer.number ≢ 0 → RaisedBeside f (unraised r.answer)
+  raising_given h =
       raising_refused r.answer h
       record {
         answers = stopped (one_given f) (line_checks t) _ _ h D.answers;
@@ -63,30 +63,30 @@ module _ (f : List ℕ) (r : Decoded) (D : Decodes (one_given f) (file_labelled 
     passes = rw z at D.answers
 
     none : None (one_given f)
-    none = none_of (one_given f) r.answer.place (one-ring-numbered f) passes
+    none = none_of (one_given f) r.answer.place (one_ring_numbered f) passes
 
     held : table_of r.columns ≡ t
     held = (D.passed z).table
 
     sound : Sound t
-    sound = (given-passed f (one-ring-none f r.answer.place passes)).sound
+    sound = (given_passed f (one_ring_none f r.answer.place passes)).sound
 
-    pub raising-sound : Sound (table_of r.columns)
-    raising-sound = rw held sound
+    pub raising_sound : Sound (table_of r.columns)
+    raising_sound = rw held sound
 
-    pub raising-times : Times r.columns.rows (at r.columns.cost) (at r.columns.period)
-    raising-times = times_of {t = table_of r.columns} raising-sound
+    pub raising_times : Times r.columns.rows (at r.columns.cost) (at r.columns.period)
+    raising_times = times_of {t = table_of r.columns} raising_sound
 
     module _ (l : Layout) (O : LaidOut (table_of r.columns) l) where
-      of-file : LaidOut t l
-      of-file = subst (λ (u : Table). LaidOut u l) held O
+      of_file : LaidOut t l
+      of_file = subst (λ (u : Table). LaidOut u l) held O
 
       -- 10 or 11 refuses
-      pub raising-line : l.answer.number ≢ 0 → RaisedBeside f (unraised l.answer)
-      raising-line h =
+      pub raising_line : l.answer.number ≢ 0 → RaisedBeside f (unraised l.answer)
+      raising_line h =
           raising_refused l.answer h
           record {
-            answers = joined (one_given f) (line_checks t) _ _ none of-file.answers;
+            answers = joined (one_given f) (line_checks t) _ _ none of_file.answers;
             passed = λ e. absurd (h e);
             labelled = λ e. absurd (h e);
             refused = λ e. (refl, refl);
@@ -94,29 +94,29 @@ module _ (f : List ℕ) (r : Decoded) (D : Decodes (one_given f) (file_labelled 
 
       module _ (y : l.answer.number ≡ 0) where
         interval_is : l.time.interval ≡ shortest t
-        interval_is = (of-file.found y).timed.interval
+        interval_is = (of_file.found y).timed.interval
 
-        pub raising-interval : (1 ≤ l.time.interval) × (l.time.interval ≤ max_slots)
-        raising-interval = (rw interval_is (shortest-positive sound), rw interval_is (shortest-le sound))
+        pub raising_interval : (1 ≤ l.time.interval) × (l.time.interval ≤ max_slots)
+        raising_interval = (rw interval_is (shortest_positive sound), rw interval_is (shortest_le sound))
 
         all_none : None (before_13 f)
         all_none =
             none_join (one_given f) (line_checks t) none
-            (none_of (line_checks t) l.answer.place (line-numbered t) (rw y at of-file.answers))
+            (none_of (line_checks t) l.answer.place (line_numbered t) (rw y at of_file.answers))
 
-        costs-are : (cs : List ℕ) → ByRow t.rows (λ i. max (t.cost i) (up (t.period i) l.time.interval)) cs
+        costs_are : (cs : List ℕ) → ByRow t.rows (λ i. max (t.cost i) (up (t.period i) l.time.interval)) cs
             → ByRow t.rows (raised_cost t) cs
-        costs-are cs B = record {
+        costs_are cs B = record {
           size = B.size;
           row = λ i m. B.row i m ∙ ap (λ (x : ℕ). max (t.cost i) (up (t.period i) x)) interval_is ∙ sym (raised_is t sound i m);
           rest = B.rest;
         }
 
         -- nothing does
-        pub raising-done : (cs : List ℕ)
+        pub raising_done : (cs : List ℕ)
             → ByRow r.columns.rows (λ i. max (at r.columns.cost i) (up (at r.columns.period i) l.time.interval)) cs
             → RaisedBeside f (record { given = r; cost = cs })
-        raising-done cs B = record {
+        raising_done cs B = record {
           given = record {
             answers =
                 let e = answers_only (one_given f) _ 0 _ 0 D.answers (answered (one_given f) none) in
@@ -125,7 +125,7 @@ module _ (f : List ℕ) (r : Decoded) (D : Decodes (one_given f) (file_labelled 
             labelled = D.labelled;
             refused = D.refused;
           };
-          costs = λ e. costs-are cs
+          costs = λ e. costs_are cs
               (subst (λ (u : Table). ByRow u.rows (λ i. max (u.cost i) (up (u.period i) l.time.interval)) cs) held B);
           none = λ e. absurd (e z);
         }

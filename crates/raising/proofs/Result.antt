@@ -29,16 +29,16 @@ use Rattle.rules.specs.Refusals.{
   verdict_checks,
 }
 use Rattle.rules.specs.Raising.{raised, raised_cost, raised_labelled, raised_file, before_13}
-use Rattle.rules.proofs.Answers.{None, unjoined, none_of, none_join, none_left, none_right, single-none}
+use Rattle.rules.proofs.Answers.{None, unjoined, none_of, none_join, none_left, none_right, single_none}
 use Rattle.table.specs.Sound.{Sound}
 use Rattle.table.specs.Columns.{Whole}
 use Rattle.table.proofs.Faults.{passed_none}
 use Rattle.decoding.proofs.Decoding.{Blank, blank_past, label_past}
 use Rattle.outline.specs.Outlined.{outline_checks}
-use Rattle.round_trip.proofs.RoundTrip.{Alike, Fits, last-told, bytes_alike, file_back, written-passes}
+use Rattle.round_trip.proofs.RoundTrip.{Alike, Fits, last_told, bytes_alike, file_back, written_passes}
 use Rattle.raising.specs.Raises.{RaisedVerdict}
 use Rattle.raising.proofs.Costs.{heavy_stays, raise_raises}
-use Rattle.raising.proofs.Writing.{before_numbered, one, outline-none, file-none, raised-told, raised-passes, raised-back}
+use Rattle.raising.proofs.Writing.{before_numbered, one, outline_none, file_none, raised_told, raised_passes, raised_back}
 
 -- ---- past the last row nothing is raised
 
@@ -121,7 +121,7 @@ bounds_answer t s n p a =
     let passes = (raise_raises t s).passes in
     of_answers 14 (each t.rows (λ k. over_bound (raised t) k ∷ [])) n p (of_each 14 t.rows (over_bound (raised t)) (λ k. refl))
     (unjoined (each t.rows (λ i. light_row (raised t) i ∷ [])) (each t.rows (λ k. over_bound (raised t) k ∷ [])) n p
-    (single-none (light_row (raised t)) t.rows passes) a)
+    (single_none (light_row (raised t)) t.rows passes) a)
 
 module _ (f : List ℕ) (none : None (before_13 f)) where
   abbrev given : Labelled
@@ -140,45 +140,45 @@ module _ (f : List ℕ) (none : None (before_13 f)) where
   unfolding read_low
   fits e i l =
       let p : ℕ = header_size + row_size r v * i + 6 in
-      last-told r (read_low (last_size r v) f p) ∙ ap (λ (k : ℕ). read_low k f p) e
+      last_told r (read_low (last_size r v) f p) ∙ ap (λ (k : ℕ). read_low k f p) e
 
-  result-none : None (file_checks (raised_file f))
-  result-none =
-      subst (λ (xs : List ℕ). None (file_checks xs)) (bytes_alike v (raised-back f none))
-      (written-passes 1 v g.table.elements g.table.rows (numbers g) (inl refl) (raised-passes f none))
+  result_none : None (file_checks (raised_file f))
+  result_none =
+      subst (λ (xs : List ℕ). None (file_checks xs)) (bytes_alike v (raised_back f none))
+      (written_passes 1 v g.table.elements g.table.rows (numbers g) (inl refl) (raised_passes f none))
 
   whole : (xs : List ℕ) → None (file_checks xs) → Whole xs
   whole xs a = let p = passed_none xs a in record { size = p.size; few = p.sound.rows_high }
 
-  result-table : file_labelled (raised_file f) ≡ g
-  result-table =
-      let back : Alike (file_labelled (raised_file f)) g = file_back v g (inl (one f none)) fits (raised-told f none) in
-      let mine : Whole f = whole f (file-none f none) in
-      let its : Whole (raised_file f) = whole (raised_file f) result-none in
+  result_table : file_labelled (raised_file f) ≡ g
+  result_table =
+      let back : Alike (file_labelled (raised_file f)) g = file_back v g (inl (one f none)) fits (raised_told f none) in
+      let mine : Whole f = whole f (file_none f none) in
+      let its : Whole (raised_file f) = whole (raised_file f) result_none in
       same_table back (λ i l. blank_past its (rw back.rows l)) (λ i l. blank_row (blank_past mine l))
       (λ i l. label_past its (rw back.rows l) ∙ sym (label_past mine l))
     where
       blank_row : {i : ℕ} → Blank given.table i → Blank g.table i
       blank_row B = record { cost = blank_raised B; period = B.period; first = B.first; second = B.second; way = B.way }
 
-  result-before : None (outline_checks (raised_file f))
+  result_before : None (outline_checks (raised_file f))
   unfolding given_checks
-  result-before =
+  result_before =
       let t : Table = given.table in
-      let e : file_table (raised_file f) ≡ raised t = ap (λ (u : Labelled). u.table) result-table in
+      let e : file_table (raised_file f) ≡ raised t = ap (λ (u : Labelled). u.table) result_table in
       none_join (given_checks (raised_file f)) (line_checks (file_table (raised_file f)))
-      (none_join (file_checks (raised_file f)) (pasted_checks (file_table (raised_file f))) result-none
+      (none_join (file_checks (raised_file f)) (pasted_checks (file_table (raised_file f))) result_none
       (rw e (pasted_stays t (none_right (file_checks f) (pasted_checks t) (none_left (given_checks f) (line_checks t)
-      (outline-none f none))))))
-      (rw e (line_stays t (none_right (given_checks f) (line_checks t) (outline-none f none))))
+      (outline_none f none))))))
+      (rw e (line_stays t (none_right (given_checks f) (line_checks t) (outline_none f none))))
 
   result_answers : (n p : ℕ) → Answers (verdict_checks (raised_file f)) n p → (n ≡ 0) ⊎ (n ≡ 14)
   unfolding verdict_checks
   result_answers n p a =
       let t : Table = given.table in
-      let e : file_table (raised_file f) ≡ raised t = ap (λ (u : Labelled). u.table) result-table in
-      bounds_answer t (passed_none f (file-none f none)).sound n p
-      (rw e at (unjoined (outline_checks (raised_file f)) (bound_checks (file_table (raised_file f))) n p result-before a))
+      let e : file_table (raised_file f) ≡ raised t = ap (λ (u : Labelled). u.table) result_table in
+      bounds_answer t (passed_none f (file_none f none)).sound n p
+      (rw e at (unjoined (outline_checks (raised_file f)) (bound_checks (file_table (raised_file f))) n p result_before a))
 
 pub raised_verdict : RaisedVerdict
-raised_verdict f a = let none = none_of (before_13 f) 0 (before_numbered f) a in (result-table f none, result_answers f none)
+raised_verdict f a = let none = none_of (before_13 f) 0 (before_numbered f) a in (result_table f none, result_answers f none)

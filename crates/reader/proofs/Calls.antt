@@ -14,12 +14,12 @@ use Rattle.rules.specs.Bus.{Labelled}
 use Rattle.rules.specs.Refusals.{Check, Answers, header_checks, file_checks, reader_checks, version_1_checks}
 use Rattle.rules.specs.Calls.{lent, no_mark, ReadBy, Read, ReadVersion1}
 use Rattle.rules.proofs.Answers.{None, applied, passed}
-use Rattle.rules.proofs.Calls.{call-refused, call-short, call-done, call_only}
+use Rattle.rules.proofs.Calls.{call_refused, call_short, call_done, call_only}
 use Rattle.table.specs.declared.Row.{Row}
 use Rattle.table.specs.Rows.{IsRow, in_memory}
 use Rattle.table.specs.Columns.{ByRow, column_labelled, no_labels}
 use Rattle.table.proofs.Faults.{Marked, file_numbered, known, mark_right, mark_again}
-use Rattle.decoding.proofs.OneRing.{OtherMark, other-mark}
+use Rattle.decoding.proofs.OneRing.{OtherMark, other_mark}
 
 -- the places of a row
 pub memory_row_lem : {t : Labelled} {i : ℕ} {r : Row} → IsRow t i r → in_memory t.table.rings r ≡ memory_row t i
@@ -51,17 +51,17 @@ module _ (f was : List ℕ) where
 
   pub read_refused : (m p : ℕ) → Answers (file_checks f) m p → m ≢ 0 → Read f was was m p no_mark 0 0 0
   unfolding reader_checks
-  read_refused m p a h = call-refused (file_checks f) short a h (refl, refl, refl, refl, refl)
+  read_refused m p a h = call_refused (file_checks f) short a h (refl, refl, refl, refl, refl)
 
   pub read_short : None (file_checks f) → short → Read f was was 17 0 no_mark 0 0 0
   unfolding reader_checks
-  read_short a h = call-short (file_checks f) short a h (refl, refl, refl, refl, refl)
+  read_short a h = call_short (file_checks f) short a h (refl, refl, refl, refl, refl)
 
   pub read_done : (now : List ℕ) (m p : ℕ) (k : List ℕ) (v M n : ℕ) → Answers (file_checks f) m p → m ≡ 0 → (short → ⊥) → k ≡ mark f
       → v ≡ version f → M ≡ (file_table f).elements → n ≡ (file_table f).rows → now ≡ lent (numbers (file_labelled f)) was
       → Read f was now m p k v M n
   unfolding reader_checks
-  read_done now m p k v M n a e h x y z w u = call-done (file_checks f) short (file_numbered f) a e h (x, y, z, w, u)
+  read_done now m p k v M n a e h x y z w u = call_done (file_checks f) short (file_numbered f) a e h (x, y, z, w, u)
 
 -- whatever the checks
 pub read_only : {cs : List Check} (f was now now' : List ℕ) (m n p q : ℕ) (k k' : List ℕ) (v v' M M' r r' : ℕ)
@@ -95,18 +95,18 @@ module _ (f : List ℕ) where
   labelled = (header_size ≤ length f) × (mark f ≡ table_mark) × (version f ≡ version_2)
 
   -- a file with another mark gets 2
-  pub other-refused : (was : List ℕ) → OtherMark f → ReadVersion1 f was was 2 0 no_mark 0 0 0
+  pub other_refused : (was : List ℕ) → OtherMark f → ReadVersion1 f was was 2 0 no_mark 0 0 0
   unfolding version_1_checks
-  other-refused was w = record {
-    answers = other-mark f _ w;
+  other_refused was w = record {
+    answers = other_mark f _ w;
     done = λ e. absurd (let z : ⊥ = omega arith in z);
     refused = λ h. (refl, refl, refl, refl, refl);
   }
 
   -- a file of version 2 gets 3
-  pub version-1-refused : (was : List ℕ) → labelled → ReadVersion1 f was was 3 0 no_mark 0 0 0
+  pub version_1_refused : (was : List ℕ) → labelled → ReadVersion1 f was was 3 0 no_mark 0 0 0
   unfolding version_1_checks
-  version-1-refused was w = record {
+  version_1_refused was w = record {
     answers =
         passed _ _ 3 0 (λ (l : length f < header_size). let z : ⊥ = omega (arith, w.0) in z)
         (passed _ _ 3 0 (λ h. h w.1) (applied _ _ 3 0 (λ e. let z : ⊥ = omega (arith, e, w.2) in z) refl refl));
@@ -115,10 +115,10 @@ module _ (f : List ℕ) where
   }
 
   -- any other gets what the reader answers
-  version-1-answers : (room n p : ℕ) → (OtherMark f → ⊥) → (labelled → ⊥) → Answers (reader_checks f room) n p
+  version_1_answers : (room n p : ℕ) → (OtherMark f → ⊥) → (labelled → ⊥) → Answers (reader_checks f room) n p
       → Answers (version_1_checks f room) n p
   unfolding reader_checks version_1_checks file_checks header_checks Answers
-  version-1-answers room n p g h a =
+  version_1_answers room n p g h a =
       ⊎_elim inl
       (λ s.
       let long : header_size ≤ length f = ⊎_elim (λ l. l) (λ l. absurd (s.0 l)) (le_or_lt header_size (length f)) in
@@ -135,8 +135,8 @@ module _ (f : List ℕ) where
       ))
       a
 
-  pub version-1-else : (was now : List ℕ) (n p : ℕ) (k : List ℕ) (v M r : ℕ) → (OtherMark f → ⊥) → (labelled → ⊥)
+  pub version_1_else : (was now : List ℕ) (n p : ℕ) (k : List ℕ) (v M r : ℕ) → (OtherMark f → ⊥) → (labelled → ⊥)
       → Read f was now n p k v M r
       → ReadVersion1 f was now n p k v M r
-  version-1-else was now n p k v M r g h c =
-      record { answers = version-1-answers (length was) n p g h c.answers; done = c.done; refused = c.refused }
+  version_1_else was now n p k v M r g h c =
+      record { answers = version_1_answers (length was) n p g h c.answers; done = c.done; refused = c.refused }

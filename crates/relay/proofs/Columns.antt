@@ -156,8 +156,8 @@ holds_two M d xs {c} r goes x y z e p q H =
 -- ---- a table's own rows
 
 module _ (t : Table) where
-  pub fits-row : Sound t → {i : ℕ} → i < t.rows → {x : code.Row} → numbers_of x ≡ row_of t i → Fits x
-  fits-row S {i} l e =
+  pub fits_row : Sound t → {i : ℕ} → i < t.rows → {x : code.Row} → numbers_of x ≡ row_of t i → Fits x
+  fits_row S {i} l e =
       let R = S.row i l in
       record {
         first = omega (arith, ap (λ (z : Row). z.first) e, R.first_high, S.elements_high);
@@ -178,10 +178,10 @@ module _ (t : Table) where
       )
 
   -- what stands in the columns of one end, or of the directions, is what the row has
-  pub through-is : (i e : ℕ) {w a b : ℕ} {x : Bool} → w ≡ t.way i → a ≡ t.first i → b ≡ t.second i
+  pub through_is : (i e : ℕ) {w a b : ℕ} {x : Bool} → w ≡ t.way i → a ≡ t.first i → b ≡ t.second i
       → x ≡ route_through t.elements (mirror t.elements w a) (mirror t.elements w b) (mirror t.elements w e) → x ≡ through t i e
   unfolding through
-  through-is i e p q s h =
+  through_is i e p q s h =
       h
       ∙ (λ j.
       route_through t.elements (mirror t.elements (p j) (q j)) (mirror t.elements (p j) (s j)) (mirror t.elements (p j) e))

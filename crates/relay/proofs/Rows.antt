@@ -9,7 +9,7 @@ use native.Mathlib.Omega.{arith}
 use lib.ListN.{length, get_or, length-append, get_or-eq_default}
 use Rattle.numbers.specs.Lists.{each}
 use Rattle.numbers.proofs.Truth.{le_or_lt}
-use Rattle.numbers.proofs.Lists.{each_none, each_next, each_eq, each_length, each-grows, each_part, each-find}
+use Rattle.numbers.proofs.Lists.{each_none, each_next, each_eq, each_length, each_grows, each_part, each_find}
 use Rattle.rules.specs.Bus.{Table, through}
 use Rattle.rules.specs.Relay.{Row, row_of, no_row, to_relay, from_relay, becomes, split_row, split_rows, split, stands_at}
 
@@ -21,9 +21,9 @@ module _ (t : Table) (r i : ℕ) where
   unfolding split_row
   row_kept e = rw e
 
-  pub row-split : through t i r ≡ true → split_row t r i ≡ to_relay r (row_of t i) ∷ from_relay r (row_of t i) ∷ []
+  pub row_split : through t i r ≡ true → split_row t r i ≡ to_relay r (row_of t i) ∷ from_relay r (row_of t i) ∷ []
   unfolding split_row
-  row-split e = rw e
+  row_split e = rw e
 
 -- where row i stands, by what it has become
 module _ (t : Table) (r : ℕ) {i : ℕ} (l : i < t.rows) where
@@ -34,18 +34,18 @@ module _ (t : Table) (r : ℕ) {i : ℕ} (l : i < t.rows) where
   here : row_of (split t r) (stands_at t r i + 0) ≡ row_of (split t r) (stands_at t r i)
   here = ap (row_of (split t r)) (let z : stands_at t r i + 0 ≡ stands_at t r i = omega arith in z)
 
-  pub kept-stands : through t i r ≡ false → row_of (split t r) (stands_at t r i) ≡ row_of t i
-  kept-stands e = sym here ∙ stands (row_of t i ∷ []) 0 (row_kept t r i e) (omega arith)
+  pub kept_stands : through t i r ≡ false → row_of (split t r) (stands_at t r i) ≡ row_of t i
+  kept_stands e = sym here ∙ stands (row_of t i ∷ []) 0 (row_kept t r i e) (omega arith)
 
   module _ (e : through t i r ≡ true) where
     abbrev halves : List Row
     halves = to_relay r (row_of t i) ∷ from_relay r (row_of t i) ∷ []
 
-    pub first-stands : row_of (split t r) (stands_at t r i) ≡ to_relay r (row_of t i)
-    first-stands = sym here ∙ stands halves 0 (row-split t r i e) (omega arith)
+    pub first_stands : row_of (split t r) (stands_at t r i) ≡ to_relay r (row_of t i)
+    first_stands = sym here ∙ stands halves 0 (row_split t r i e) (omega arith)
 
-    pub second-stands : row_of (split t r) (stands_at t r i + 1) ≡ from_relay r (row_of t i)
-    second-stands = stands halves 1 (row-split t r i e) (omega arith)
+    pub second_stands : row_of (split t r) (stands_at t r i + 1) ≡ from_relay r (row_of t i)
+    second_stands = stands halves 1 (row_split t r i e) (omega arith)
 
 -- ---- every row of the split table
 
@@ -62,13 +62,13 @@ module _ (t : Table) (r : ℕ) (P : Row → Type 0) (kept : (i : ℕ) → i < t.
     (halves : (i : ℕ) → i < t.rows → through t i r ≡ true → P (to_relay r (row_of t i)) × P (from_relay r (row_of t i))) where
   become : (i : ℕ) → i < t.rows → (b : Bool) → through t i r ≡ b → (j : ℕ) → j < length (split_row t r i)
       → P (get_or (split_row t r i) j no_row)
-  become i l true e j m = rw (row-split t r i e) (two_of P _ _ (halves i l e).0 (halves i l e).1 j (rw (row-split t r i e) at m))
+  become i l true e j m = rw (row_split t r i e) (two_of P _ _ (halves i l e).0 (halves i l e).1 j (rw (row_split t r i e) at m))
   become i l false e j m = rw (row_kept t r i e) (one_of P _ (kept i l e) j (rw (row_kept t r i e) at m))
 
-  pub every-row : (k : ℕ) → k < (split t r).rows → P (row_of (split t r) k)
+  pub every_row : (k : ℕ) → k < (split t r).rows → P (row_of (split t r) k)
   unfolding split_rows
-  every-row k l =
-      let w = each-find (split_row t r) t.rows k l in
+  every_row k l =
+      let w = each_find (split_row t r) t.rows k l in
       let e : row_of (split t r) k ≡ get_or (split_row t r w.0) w.1 no_row =
       ap (row_of (split t r)) w.4 ∙ each_part (split_row t r) no_row t.rows w.0 w.1 w.2 w.3 in
       subst P (sym e) (become w.0 w.2 (through t w.0 r) refl w.1 w.3)
@@ -115,7 +115,7 @@ stands_next t r i = ap length (each_next i (split_row t r)) ∙ length-append (e
 
 pub stands_most : (t : Table) (r i n : ℕ) → i ≤ n → stands_at t r i ≤ stands_at t r n
 unfolding split_rows
-stands_most t r i n l = each-grows (split_row t r) n i l
+stands_most t r i n l = each_grows (split_row t r) n i l
 
 -- ---- a relay that no row goes through
 
@@ -140,8 +140,8 @@ module _ (t : Table) (r : ℕ) (clear : (i : ℕ) → i < t.rows → through t i
       (le_or_lt t.rows k)
 
   -- splits nothing, where the table has nothing past its last row
-  pub split-none : ((k : ℕ) → t.rows ≤ k → row_of t k ≡ no_row) → split t r ≡ t
-  split-none past =
+  pub split_none : ((k : ℕ) → t.rows ≤ k → row_of t k ≡ no_row) → split t r ≡ t
+  split_none past =
       let row : (k : ℕ) → get_or (split_rows t r t.rows) k no_row ≡ row_of t k = λ k. same_row k (past k) in
       λ j. record {
         elements = t.elements;

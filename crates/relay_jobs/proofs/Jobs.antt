@@ -19,7 +19,7 @@ use Rattle.rules.specs.Relay.{Row, row_of, split_row, split_rows, split, stands_
 use Rattle.rules.proofs.Cases.{cases}
 use Rattle.table.specs.Sound.{Sound}
 use Rattle.promises.specs.Demands.{endless, moved, Carries}
-use Rattle.relay.proofs.Rows.{row_kept, row-split, kept-stands, first-stands, second-stands, stands_next, stands_most}
+use Rattle.relay.proofs.Rows.{row_kept, row_split, kept_stands, first_stands, second_stands, stands_next, stands_most}
 use Rattle.relay_jobs.specs.Jobs.{come, gone, holds, SplitRelays, TwoHeld}
 
 -- ---- counting by periods
@@ -75,18 +75,18 @@ module _ (t : Table) (r : ℕ) {ws : List ℕ} (S : Sound t) (C : Carries (split
   room : (n : ℕ) → length (split_row t r i) ≡ n → stands_at t r i + n ≤ (split t r).rows
   room n e = omega (arith, e, stands_next t r i, stands_most t r (i + 1) t.rows (omega arith))
 
-  pub one-period : through t i r ≡ false → (j : ℕ) → moved ws (stands_at t r i) (j * p) ((j + 1) * p) ≡ c
-  one-period e = jobs (stands_at t r i) (row_of t i) (omega (arith, room 1 (ap length (row_kept t r i e)))) (kept-stands t r l e)
+  pub one_period : through t i r ≡ false → (j : ℕ) → moved ws (stands_at t r i) (j * p) ((j + 1) * p) ≡ c
+  one_period e = jobs (stands_at t r i) (row_of t i) (omega (arith, room 1 (ap length (row_kept t r i e)))) (kept_stands t r l e)
 
   module _ (e : through t i r ≡ true) where
     two : stands_at t r i + 2 ≤ (split t r).rows
-    two = room 2 (ap length (row-split t r i e))
+    two = room 2 (ap length (row_split t r i e))
 
-    pub first-jobs : (j : ℕ) → moved ws (stands_at t r i) (j * p) ((j + 1) * p) ≡ c
-    first-jobs = jobs (stands_at t r i) _ (omega (arith, two)) (first-stands t r l e)
+    pub first_jobs : (j : ℕ) → moved ws (stands_at t r i) (j * p) ((j + 1) * p) ≡ c
+    first_jobs = jobs (stands_at t r i) _ (omega (arith, two)) (first_stands t r l e)
 
-    pub second-jobs : (j : ℕ) → moved ws (stands_at t r i + 1) (j * p) ((j + 1) * p) ≡ c
-    second-jobs = jobs (stands_at t r i + 1) _ (omega (arith, two)) (second-stands t r l e)
+    pub second_jobs : (j : ℕ) → moved ws (stands_at t r i + 1) (j * p) ((j + 1) * p) ≡ c
+    second_jobs = jobs (stands_at t r i + 1) _ (omega (arith, two)) (second_stands t r l e)
 
     -- ---- what has come, and what has left
 
@@ -102,37 +102,37 @@ module _ (t : Table) (r : ℕ) {ws : List ℕ} (S : Sound t) (C : Carries (split
 
     in_first : (j : ℕ) → count p (λ s. first (j * p + s)) ≡ c
     in_first j =
-        ap (λ (n : ℕ). count n (λ s. first (j * p + s))) (let z : p ≡ (j + 1) * p - j * p = omega arith in z) ∙ first-jobs j
+        ap (λ (n : ℕ). count n (λ s. first (j * p + s))) (let z : p ≡ (j + 1) * p - j * p = omega arith in z) ∙ first_jobs j
 
-    in-later : (j : ℕ) → count p (λ s. later (j * p + s)) ≡ c
-    in-later j =
+    in_later : (j : ℕ) → count p (λ s. later (j * p + s)) ≡ c
+    in_later j =
         count_eq p (λ s. later (j * p + s)) (λ s. second ((j + 1) * p + s))
         (λ s m. ap second (let z : p + (j * p + s) ≡ (j + 1) * p + s = omega arith in z))
         ∙ ap (λ (n : ℕ). count n (λ s. second ((j + 1) * p + s))) (let z : p ≡ (j + 1 + 1) * p - (j + 1) * p = omega arith in z)
-        ∙ second-jobs (j + 1)
+        ∙ second_jobs (j + 1)
 
     carries : ℕ → Bool
     carries u = leb p u && second u
 
     -- in the first period nothing leaves
-    first-period : (s : ℕ) → s ≤ p → gone t r ws i s ≡ 0
-    first-period s m =
+    first_period : (s : ℕ) → s ≤ p → gone t r ws i s ≡ 0
+    first_period s m =
         count_none s (λ u. leb p u && second u)
         (λ u n h. let z : p ≤ u = leb→le p u (fst (leb p u) (second u) h) in let q : ⊥ = omega (arith, z, n, m) in q)
 
-    gone-later : (s : ℕ) → gone t r ws i (p + s) ≡ count s later
-    gone-later s =
+    gone_later : (s : ℕ) → gone t r ws i (p + s) ≡ count s later
+    gone_later s =
         omega (
           arith,
           count_split p s (λ u. leb p u && second u),
-          first-period p (omega arith),
+          first_period p (omega arith),
           count_eq s (λ u. leb p (p + u) && second (p + u)) later
               (λ u m. ap (λ (b : Bool). b && second (p + u)) (is_true (leb p (p + u)) (le→leb p (p + u) (omega arith)))),
         )
 
     pub left : (j : ℕ) → gone t r ws i ((j + 1) * p) ≡ j * c
     left j =
-        ap (gone t r ws i) (let z : (j + 1) * p ≡ p + j * p = omega arith in z) ∙ gone-later (j * p) ∙ whole p c later in-later j
+        ap (gone t r ws i) (let z : (j + 1) * p ≡ p + j * p = omega arith in z) ∙ gone_later (j * p) ∙ whole p c later in_later j
 
     -- in period j the data of job j comes, and that of the one before leaves
     pub comes : (j s : ℕ) → j * p ≤ s → s ≤ (j + 1) * p → (j * c ≤ come t r ws i s) × (come t r ws i s ≤ (j + 1) * c)
@@ -141,8 +141,8 @@ module _ (t : Table) (r : ℕ) {ws : List ℕ} (S : Sound t) (C : Carries (split
     pub leaves : (j s : ℕ) → (j + 1) * p ≤ s → s ≤ (j + 2) * p → (j * c ≤ gone t r ws i s) × (gone t r ws i s ≤ (j + 1) * c)
     leaves j s a b =
         let z : p + (s - p) ≡ s = omega arith in
-        let e : gone t r ws i s ≡ count (s - p) later = ap (gone t r ws i) (sym z) ∙ gone-later (s - p) in
-        let w = within p c later in-later j (s - p) (omega arith) (omega arith) in
+        let e : gone t r ws i s ≡ count (s - p) later = ap (gone t r ws i) (sym z) ∙ gone_later (s - p) in
+        let w = within p c later in_later j (s - p) (omega arith) (omega arith) in
         (omega (arith, e, w.0), omega (arith, e, w.1))
 
     -- all but one job's data has left that came before this period
@@ -150,8 +150,8 @@ module _ (t : Table) (r : ℕ) {ws : List ℕ} (S : Sound t) (C : Carries (split
     behind zero s a b = omega arith
     behind (suc j) s a b = omega (arith, (leaves j s (omega arith) (omega arith)).0)
 
-    pub two-jobs : (s n : ℕ) → count n (holds t r ws i s) ≤ 2
-    two-jobs s n =
+    pub two_jobs : (s n : ℕ) → count n (holds t r ws i s) ≤ 2
+    two_jobs s n =
         let q = period_of p s (S.row i l).period_low in
         let j = s / p in
         let in-time = (comes j (s + 1) (omega (arith, q.0)) (omega (arith, q.1))).1 in
@@ -168,11 +168,11 @@ module _ (t : Table) (r : ℕ) {ws : List ℕ} (S : Sound t) (C : Carries (split
 pub split_relays : SplitRelays
 split_relays t r ws S C = record {
   carries = C;
-  kept = λ i j l h. one-period t r S C l (is_false (through t i r) h) j;
-  to_relay_jobs = λ i j l h. first-jobs t r S C l (is_true (through t i r) h) j;
+  kept = λ i j l h. one_period t r S C l (is_false (through t i r) h) j;
+  to_relay_jobs = λ i j l h. first_jobs t r S C l (is_true (through t i r) h) j;
   from_relay_jobs = λ i j l h.
       ap (λ (n : ℕ). moved ws (stands_at t r i + 1) ((j + 1) * t.period i) (n * t.period i)) (let z : j + 2 ≡ j + 1 + 1 = omega arith in z)
-      ∙ second-jobs t r S C l (is_true (through t i r) h) (j + 1);
+      ∙ second_jobs t r S C l (is_true (through t i r) h) (j + 1);
   before = λ i j s l h a b.
       let e = is_true (through t i r) h in
       let q = leaves t r S C l e j in (
@@ -183,7 +183,7 @@ split_relays t r ws S C = record {
   arrives = λ i j l h.
       ap (λ (n : ℕ). gone t r ws i (n * t.period i)) (let z : j + 2 ≡ j + 1 + 1 = omega arith in z)
       ∙ left t r S C l (is_true (through t i r) h) (j + 1);
-  held = λ i s n l h. two-jobs t r S C l (is_true (through t i r) h) s n;
+  held = λ i s n l h. two_jobs t r S C l (is_true (through t i r) h) s n;
 }
 
 -- the plan's words are 3 and 4: the first half moves in the first slot of each period, the second half in the second

@@ -15,13 +15,13 @@ use Rattle.rules.specs.Refusals.{verdict_checks, plan_checks}
 use Rattle.rules.specs.Calls.{one_ring_ask, relayed_ask}
 use Rattle.rules.proofs.Answers.{None, Numbered, answered, none_of, stopped, joined, unjoined, none_left, numbered_join}
 use Rattle.rules.proofs.Answers.{answers_split}
-use Rattle.decoding.proofs.OneRing.{own-mark, one-numbered, one-rest}
+use Rattle.decoding.proofs.OneRing.{own_mark, one_numbered, one_rest}
 use Rattle.verdict.specs.Analysed.{table_checks}
 use Rattle.verdict.proofs.Bound.{verdict_numbered, verdict_split}
 use Rattle.rules.specs.Relay.{split}
-use Rattle.relay.proofs.Given.{given-sound}
+use Rattle.relay.proofs.Given.{given_sound}
 use Rattle.relayed.specs.Without.{Unused}
-use Rattle.relayed.proofs.Checked.{relayed-numbered, relayed-admissible, relayed-split}
+use Rattle.relayed.proofs.Checked.{relayed_numbered, relayed_admissible, relayed_split}
 use Rattle.relayed.proofs.Without.{same_table, as_without}
 use Rattle.relay_jobs.proofs.Jobs.{split_relays}
 use Rattle.planner.proofs.Only.{plan_only}
@@ -29,15 +29,15 @@ use Rattle.planner.proofs.Promises.{carried}
 use Rattle.relayed.specs.Promises.{RelayedProper, RelayedCarried, SamePlan}
 
 pub relayed_proper : RelayedProper
-relayed_proper f r = record { numbered = relayed-numbered f r; admissible = relayed-admissible f r }
+relayed_proper f r = record { numbered = relayed_numbered f r; admissible = relayed_admissible f r }
 
 -- ---- what an admitted table's plan does for the rows as they were given
 
 pub relayed_carried : RelayedCarried
 relayed_carried f r a was now A d room =
     let w = carried (relayed_ask f r) a was now (relayed_proper f r) A d room in
-    let n = none_of (relayed_checks f r) 0 (relayed-numbered f r) d in
-    (w.0, w.1, (w.2.0, split_relays (file_table f) r w.2.0 (given-sound f r (relayed-split f r n)) w.2.1, w.2.2))
+    let n = none_of (relayed_checks f r) 0 (relayed_numbered f r) d in
+    (w.0, w.1, (w.2.0, split_relays (file_table f) r w.2.0 (given_sound f r (relayed_split f r n)) w.2.1, w.2.2))
 
 -- ---- a relay that no row goes through
 
@@ -48,13 +48,13 @@ unfolding plan_checks Numbered
 plan_passed f r room p A =
     let short : List Check = short_output (room < hyperperiod (split (file_table f) r)) ∷ [] in
     none_left (relayed_checks f r) short
-    (none_of (relayed_checks f r ++ short) p (numbered_join (relayed_checks f r) short (relayed-numbered f r) (omega arith, tt)) A)
+    (none_of (relayed_checks f r ++ short) p (numbered_join (relayed_checks f r) short (relayed_numbered f r) (omega arith, tt)) A)
 
 -- a table of one ring is answered as where one ring alone is taken
 one_alike : (f : List ℕ) (room : ℕ) → mark f ≡ table_mark → (k p : ℕ) → Answers (plan_checks (verdict_checks f) (file_table f) room) k p
     → Answers (plan_checks (one_ring_checks f (verdict_checks f)) (file_table f) room) k p
 unfolding plan_checks verdict_checks given_checks file_checks header_checks
-one_alike f room m k p A = own-mark f _ (λ w. w.1 m) k p A
+one_alike f room m k p A = own_mark f _ (λ w. w.1 m) k p A
 
 module _ (f : List ℕ) (r : ℕ) (U : Unused f r) (room : ℕ) where
   abbrev t : Table
@@ -71,17 +71,17 @@ module _ (f : List ℕ) (r : ℕ) (U : Unused f r) (room : ℕ) where
   module _ (n : None (relayed_checks f r)) where
     passes : None one
     passes =
-        none_of one 0 (one-numbered f (verdict_checks f) (verdict_numbered f)) (as_without f r U 0 0 (answered (relayed_checks f r) n))
+        none_of one 0 (one_numbered f (verdict_checks f) (verdict_numbered f)) (as_without f r U 0 0 (answered (relayed_checks f r) n))
 
     same : split t r ≡ t
     same =
-        let v : None (given_checks f ++ table_checks t) = rw (verdict_split f) at (one-rest f (verdict_checks f) passes) in
+        let v : None (given_checks f ++ table_checks t) = rw (verdict_split f) at (one_rest f (verdict_checks f) passes) in
         same_table f r U (none_left (given_checks f) (table_checks t) v)
 
   -- what is answered with the relay is what is answered without
-  answers-alike : (k p : ℕ) → Answers (plan_checks (relayed_checks f r) (split t r) room) k p → Answers (plan_checks one t room) k p
+  answers_alike : (k p : ℕ) → Answers (plan_checks (relayed_checks f r) (split t r) room) k p → Answers (plan_checks one t room) k p
   unfolding plan_checks
-  answers-alike k p A = go (ℕ_discrete k 0)
+  answers_alike k p A = go (ℕ_discrete k 0)
     where
       after : None (relayed_checks f r) → Answers (short (split t r)) k p → Answers (one ++ short t) k p
       after n B = joined one (short t) k p (passes n) (subst (λ (u : Table). Answers (short u) k p) (same n) B)
@@ -99,7 +99,7 @@ same_plan f r a b was now then m U A B =
     plan_only (one_ring_ask f) a b was now then
     (record {
       planned = record {
-        answers = answers-alike f r U (length was) a.number a.place A.planned.answers;
+        answers = answers_alike f r U (length was) a.number a.place A.planned.answers;
         done = λ z.
             let n = plan_passed f r (length was) a.place (rw z at A.planned.answers) in
             let w = A.planned.done z in

@@ -15,7 +15,7 @@ use Rattle.decimal.specs.Puts.{Puts, PutsLine, PutsLines}
 use Rattle.decimal.proofs.Puts.{puts_more}
 use Rattle.decimal.proofs.Text.{text_first, text_one}
 use Rattle.table.specs.Sound.{Sound}
-use Rattle.outline.proofs.Cuts.{board-element, board-none}
+use Rattle.outline.proofs.Cuts.{board_element, board_none}
 use Rattle.report.specs.Rendered.{cuts}
 
 one_ring : (c : ℕ) {o : ℕ} → o ≡ 0 → cuts c o ≡ cut c ∷ []
@@ -53,10 +53,10 @@ cuts_are {t} s has {c} {o} e f = ⊎_elim one two (le_or_lt t.rings 1)
     one : t.rings ≤ 1 → cuts c o ≡ cut_lines t
     one l =
         let r : t.rings ≡ 1 = omega (arith, some) in
-        one_ring c (f ∙ board-none s counterclockwise l) ∙ ap (λ (k : ℕ). cut k ∷ []) e ∙ sym (ap (λ (n : ℕ). each n lines) r)
+        one_ring c (f ∙ board_none s counterclockwise l) ∙ ap (λ (k : ℕ). cut k ∷ []) e ∙ sym (ap (λ (n : ℕ). each n lines) r)
 
     two : 1 < t.rings → cuts c o ≡ cut_lines t
     two l =
         let r : t.rings ≡ 2 = omega (arith, s.rings_few) in
-        two_rings c (λ z. omega (arith, f, z, (board-element s has counterclockwise l).low))
+        two_rings c (λ z. omega (arith, f, z, (board_element s has counterclockwise l).low))
         ∙ ap₂ (λ (k j : ℕ). cut k ∷ cut j ∷ []) e f ∙ sym (ap (λ (n : ℕ). each n lines) r)

@@ -7,7 +7,7 @@ use lib.Seq.{sets}
 use Rattle.rules.specs.Text.{Line, text}
 use Rattle.rules.specs.Program.{shared, row_lines, segment_lines, MeetingPrinted, CrowdPrinted}
 use Rattle.meeting.proofs.Only.{met_only}
-use Rattle.meeting.proofs.CrowdOnly.{crowded-only}
+use Rattle.meeting.proofs.CrowdOnly.{crowded_only}
 use Rattle.report.specs.MeetLines.{Rendered}
 
 meeting_only : (f : List ℕ) (i j : ℕ) (ks ls : List Line) → MeetingPrinted f i j ks → MeetingPrinted f i j ls → ks ≡ ls
@@ -17,7 +17,7 @@ meeting_only f i j ks ls A B =
 
 crowd_only : (f : List ℕ) (k : ℕ) (ks ls : List Line) → CrowdPrinted f k ks → CrowdPrinted f k ls → ks ≡ ls
 crowd_only f k ks ls A B =
-    let e = crowded-only f k _ _ _ _ _ _ _ _ A.crowded B.crowded in
+    let e = crowded_only f k _ _ _ _ _ _ _ _ A.crowded B.crowded in
     A.lines
     ∙ ap₂ (λ (x : Line) (xs : List Line). x ∷ xs) (ap₂ shared e.0 e.1)
     (ap₂ (λ (v w : ℕ). row_lines v ++ segment_lines w) e.2 e.3)

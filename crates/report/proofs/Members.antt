@@ -12,9 +12,9 @@ use Rattle.report.specs.MeetLines.{member_lines}
 
 -- `(word >> k) % 2 == 1`, as the loop tests it
 module _ (l : Line) (w k : ℕ) where
-  pub member-line : w / 2 ^ k % 2 ≡ 1 → cond (bit w k) (l ∷ []) [] ≡ l ∷ []
+  pub member_line : w / 2 ^ k % 2 ≡ 1 → cond (bit w k) (l ∷ []) [] ≡ l ∷ []
   unfolding bit
-  member-line e = ap (λ (x : ℕ). cond (eqb x 1) (l ∷ []) []) e
+  member_line e = ap (λ (x : ℕ). cond (eqb x 1) (l ∷ []) []) e
 
   pub no_line : (w / 2 ^ k % 2 ≡ 1 → ⊥) → cond (bit w k) (l ∷ []) [] ≡ []
   unfolding bit

@@ -18,14 +18,14 @@ use Rattle.rules.specs.Calls.{Ask}
 use Rattle.rules.specs.Calls as calls
 use Rattle.rules.proofs.Answers.{None, Numbered, answered, none_of}
 use Rattle.rules.proofs.Calls.{lent_take, call_must}
-use Rattle.rules.proofs.Sets.{sets-only}
+use Rattle.rules.proofs.Sets.{sets_only}
 use Rattle.verdict.specs.declared.Analysis.{Analysis}
 use Rattle.verdict.specs.declared.Verdict.{Verdict}
 use Rattle.verdict.specs.declared.Verdict.TheVariants.{Admitted, Refused}
 use Rattle.verdict.specs.Analysed.{Accepted, Analysed}
 use Rattle.verdict.specs.Verdict.{number_of, place_of, JudgedBy, VerdictOn}
-use Rattle.verdict.proofs.Judging.{refused-number}
-use Rattle.promises.proofs.Demands.{plan-size}
+use Rattle.verdict.proofs.Judging.{refused_number}
+use Rattle.promises.proofs.Demands.{plan_size}
 use Rattle.table.specs.declared.Answer.{Answer}
 use Rattle.outline.proofs.Outlined.{found_few, found_count}
 use Rattle.planner.specs.Answers.{PlanAnswer}
@@ -64,8 +64,8 @@ module _ {t : Table} {a : Analysis} (A : Accepted t a) where
       let h : hyper ≡ hyperperiod t = e ∙ A.outline.timed.hyper in
       let W = (call_must (plan_passed (length was) l) P.planned).2 in
       let w : take hyper now ≡ W.0 =
-      ap (take hyper) W.2 ∙ lent_take W.0 was hyper (plan-size A.admissible W.1 ∙ sym h) in
-      (rw w W.1, ap length w ∙ plan-size A.admissible W.1 ∙ sym h, omega (arith, A.outline.timed.short))
+      ap (take hyper) W.2 ∙ lent_take W.0 was hyper (plan_size A.admissible W.1 ∙ sym h) in
+      (rw w W.1, ap length w ∙ plan_size A.admissible W.1 ∙ sym h, omega (arith, A.outline.timed.short))
 
 -- whatever table the analysis is of
 pub planned_on : {a : Analysis} → Usable a → (z : a.outline.answer.number ≡ 0) → {r : Answer} {was now : List ℕ} {hyper : ℕ}
@@ -82,26 +82,26 @@ module _ {a : Analysis} (U : Usable a) {r : Verdict} (J : VerdictOn a r) where
   abbrev answer : Answer
   answer = a.outline.answer
 
-  pub is-admitted : (c o l h x s : ℕ) → r ≡ Admitted c o l h x s → answer.number ≡ 0
-  is-admitted c o l h x s e = go (ℕ_discrete answer.number 0)
+  pub is_admitted : (c o l h x s : ℕ) → r ≡ Admitted c o l h x s → answer.number ≡ 0
+  is_admitted c o l h x s e = go (ℕ_discrete answer.number 0)
     where
       go : Dec (answer.number ≡ 0) → answer.number ≡ 0
       go (yes z) = z
       go (no n) = let q = J.refused n in let z : ◌≡◌ {A = ℕ} 0 1 = cc in absurd (let y : ⊥ = omega arith in y)
 
-  pub is-refused : (x : Answer) → r ≡ Refused x → answer.number ≢ 0
+  pub is_refused : (x : Answer) → r ≡ Refused x → answer.number ≢ 0
   unfolding Answers
-  is-refused x e z =
+  is_refused x e z =
       let v = J.done z (U z).0 (U z).1 in
       let N : JudgedBy [] (U z).0 r = record { answers = (v.0, v.1); done = λ y. v.2; refused = λ h. absurd (h v.0) } in
-      refused-number x (subst (λ (w : Verdict). JudgedBy [] (U z).0 w) e N) (sym (ap number_of e) ∙ v.0)
+      refused_number x (subst (λ (w : Verdict). JudgedBy [] (U z).0 w) e N) (sym (ap number_of e) ∙ v.0)
 
   -- ---- as it is written
 
   module _ (n p : ℕ) (en : n ≡ number_of r) (ep : p ≡ place_of r) {was one : List ℕ} {b : ℕ} (F : PutsLine (verdict n p) was 0 one b) where
-    pub on-refused : (x : Answer) → r ≡ Refused x → RenderedOn a was one b
-    on-refused x e = record {
-      done = λ z. absurd (is-refused x e z);
+    pub on_refused : (x : Answer) → r ≡ Refused x → RenderedOn a was one b
+    on_refused x e = record {
+      done = λ z. absurd (is_refused x e z);
       refused = λ h.
           let same = J.refused h in
           let z : n ≡ answer.number = en ∙ ap number_of same in
@@ -111,7 +111,7 @@ module _ {a : Analysis} (U : Usable a) {r : Verdict} (J : VerdictOn a r) where
 
     module _ (c o l h x s : ℕ) (e : r ≡ Admitted c o l h x s) where
       zero_is : answer.number ≡ 0
-      zero_is = is-admitted c o l h x s e
+      zero_is = is_admitted c o l h x s e
 
       lines_are : {t : Table} → Accepted t a → (ws vs : List ℕ) → Sets t ws → WholePlan t vs
           → PrintedFor (calls.admitted t) (verdict n p ∷ (cuts c o ++ (values l h x ++ (set_lines ws ++ slot_lines vs))))
@@ -121,19 +121,19 @@ module _ {a : Analysis} (U : Usable a) {r : Verdict} (J : VerdictOn a r) where
           let D : calls.Admitted t c o l h x s = rw e at v.2 in
           let z : n ≡ 0 = en ∙ v.0 in
           let y : p ≡ 0 = ep ∙ v.1 in
-          let same : D.list ≡ ws = sets-only A.outline.timed.sound.rows_low D.listed S in
+          let same : D.list ≡ ws = sets_only A.outline.timed.sound.rows_low D.listed S in
           subst
           (λ (ls : List Line).
           PrintedFor (calls.admitted t) (verdict n p ∷ (ls ++ (values l h x ++ (set_lines ws ++ slot_lines vs)))))
           (sym (cuts_are A.outline.timed.sound A.outline.clear D.cut_is D.second_is))
           (rw (z, y, D.interval_is, D.hyper_is, D.load_is ∙ ap (reported t) same) (admitted ws vs (refl, refl) S W))
 
-      pub on-admitted : {two three four now : List ℕ} {d g k size : ℕ} → PutsLines (cuts c o) 2 one b two d
+      pub on_admitted : {two three four now : List ℕ} {d g k size : ℕ} → PutsLines (cuts c o) 2 one b two d
           → PutsLines (values l h x) 3 two d three g
           → ((t : Table) → Accepted t a → (ws : List ℕ) × Sets t ws × PutsLines (set_lines ws) max_rows three g four k)
           → ((t : Table) → Accepted t a → (vs : List ℕ) × WholePlan t vs × PutsLines (slot_lines vs) max_slots four k now size)
           → RenderedOn a was now size
-      on-admitted {two} {three} {four} {now} {d} {g} {k} {size} C A S P = record {
+      on_admitted {two} {three} {four} {now} {d} {g} {k} {size} C A S P = record {
         done = λ z t T. put t T (S t T) (P t T);
         refused = λ f. absurd (f zero_is);
       }

@@ -43,11 +43,11 @@ use Rattle.verdict.specs.declared.Verdict.{Verdict}
 use Rattle.verdict.specs.Verdict.{number_of, place_of, IsVerdict}
 use Rattle.decimal.specs.Puts.{Puts, PutsLine, PutsLines}
 use Rattle.decimal.proofs.Puts.{puts_more}
-use Rattle.decimal.proofs.Text.{text_join, text_one, lines_next, lines-skip}
+use Rattle.decimal.proofs.Text.{text_join, text_one, lines_next, lines_skip}
 use Rattle.raising.specs.declared.Raising.{Raising}
 use Rattle.raising.specs.Raises.{RaisedBeside, Raises}
 use Rattle.raising.proofs.Costs.{raise_raises}
-use Rattle.raising.proofs.Writing.{raising_none, one, file-none, raised-length}
+use Rattle.raising.proofs.Writing.{raising_none, one, file_none, raised_length}
 use Rattle.report.specs.RaisedLines.{Costs, raised_lines, RaiseRendered}
 
 -- ---- a line more, or none: `was < is`, as the loop tests it
@@ -57,12 +57,12 @@ module _ (old new : ℕ → ℕ) (i : ℕ) {was mid : List ℕ} {next : ℕ} (P 
   line_of : {c : Bool} → ltb a b ≡ c → cond (ltb (old i) (new i)) (raise i (old i) (new i) ∷ []) [] ≡ cond c (raise i a b ∷ []) []
   line_of h = rw (sym e, sym g, h)
 
-  pub lines-grown : {now : List ℕ} {last : ℕ} → a < b → PutsLine (raise i a b) mid next now last
+  pub lines_grown : {now : List ℕ} {last : ℕ} → a < b → PutsLine (raise i a b) mid next now last
       → PutsLines (raised_lines (i + 1) old new) (i + 1) was 0 now last
-  lines-grown h Q = lines_next _ i P (raise i a b) (line_of (is_true (ltb a b) (lt→ltb a b h))) Q
+  lines_grown h Q = lines_next _ i P (raise i a b) (line_of (is_true (ltb a b) (lt→ltb a b h))) Q
 
-  pub lines-kept : b ≤ a → PutsLines (raised_lines (i + 1) old new) (i + 1) was 0 mid next
-  lines-kept h = lines-skip _ i P (line_of (is_false (ltb a b) (λ t. let m = ltb→lt a b t in omega (arith, m, h))))
+  pub lines_kept : b ≤ a → PutsLines (raised_lines (i + 1) old new) (i + 1) was 0 mid next
+  lines_kept h = lines_skip _ i P (line_of (is_false (ltb a b) (λ t. let m = ltb→lt a b t in omega (arith, m, h))))
 
 -- ---- a row's line: its cost grows exactly if it is light
 
@@ -105,9 +105,9 @@ module _ (f : List ℕ) (x : Raising) (R : RaisedBeside f x) where
   abbrev t : Table
   t = file_table f
 
-  pub rendered-refused : x.given.answer.number ≢ 0 → {was now : List ℕ} {size : ℕ}
+  pub rendered_refused : x.given.answer.number ≢ 0 → {was now : List ℕ} {size : ℕ}
       → PutsLine (verdict x.given.answer.number x.given.answer.place) was 0 now size → RaiseRendered f was now size
-  rendered-refused h F = record {
+  rendered_refused h F = record {
     lines = verdict x.given.answer.number x.given.answer.place ∷ [];
     printed = refused x.given.answer.number x.given.answer.place R.given.answers h;
     puts = rw (text_one (verdict x.given.answer.number x.given.answer.place)) F.0;
@@ -119,13 +119,13 @@ module _ (f : List ℕ) (x : Raising) (R : RaisedBeside f x) where
     none = raising_none f x R z
 
     passed : Passed f
-    passed = passed_none f (file-none f none)
+    passed = passed_none f (file_none f none)
 
     held : table_of x.given.columns ≡ t
     held = (R.given.passed z).table
 
-    pub report-costs : Costs x.given.columns.rows (at x.given.columns.cost) (at x.cost)
-    report-costs =
+    pub report_costs : Costs x.given.columns.rows (at x.given.columns.cost) (at x.cost)
+    report_costs =
         let rows : x.given.columns.rows ≡ t.rows = ap (λ (u : Table). u.rows) held in
         let S : Sound t = passed.sound in
         record {
@@ -139,8 +139,8 @@ module _ (f : List ℕ) (x : Raising) (R : RaisedBeside f x) where
               omega (arith, (R.costs z).row i m, (raise_raises t S).within i m, (S.row i m).period_high);
         }
 
-    pub report-long : length f ≤ 519
-    report-long =
+    pub report_long : length f ≤ 519
+    report_long =
         omega (
           arith,
           passed.size,
@@ -150,12 +150,12 @@ module _ (f : List ℕ) (x : Raising) (R : RaisedBeside f x) where
         )
 
     -- the raised file stands in the array
-    pub report-file : {was now : List ℕ} {m p : ℕ} → length was ≡ 519 → Raised f was now m p → take (length f) now ≡ raised_file f
+    pub report_file : {was now : List ℕ} {m p : ℕ} → length was ≡ 519 → Raised f was now m p → take (length f) now ≡ raised_file f
     unfolding raise_checks None
-    report-file {was} e c =
-        let room : (length was < length f → ⊥) = λ h. omega (arith, h, e, report-long) in
+    report_file {was} e c =
+        let room : (length was < length f → ⊥) = λ h. omega (arith, h, e, report_long) in
         let d = call_must (none_join (before_13 f) (short_output (length was < length f) ∷ []) none (room, tt)) c in
-        ap (take (length f)) d.2 ∙ lent_take (raised_file f) was (length f) (raised-length f none)
+        ap (take (length f)) d.2 ∙ lent_take (raised_file f) was (length f) (raised_length f none)
 
     lines_are : raised_lines x.given.columns.rows (at x.given.columns.cost) (at x.cost) ≡ raise_lines t
     lines_are =
@@ -163,35 +163,35 @@ module _ (f : List ℕ) (x : Raising) (R : RaisedBeside f x) where
         ∙ each_eq t.rows _ _
         (λ i l. ap (λ (b : ℕ). line_by (ltb (t.cost i) b) i (t.cost i) b) ((R.costs z).row i l) ∙ row_line t passed.sound i l)
 
-    pub rendered-raised : (r : Verdict) → IsVerdict (raised_file f) r → {was mid now : List ℕ} {next size n p : ℕ}
+    pub rendered_raised : (r : Verdict) → IsVerdict (raised_file f) r → {was mid now : List ℕ} {next size n p : ℕ}
         → PutsLines (raised_lines x.given.columns.rows (at x.given.columns.cost) (at x.cost))
         x.given.columns.rows was 0 mid next
         → n ≡ number_of r → p ≡ place_of r → PutsLine (verdict n p) mid next now size → RaiseRendered f was now size
-    rendered-raised r J {was} {mid} {now} {next} {size} {n} {p} P en ep Q = record {
+    rendered_raised r J {was} {mid} {now} {next} {size} {n} {p} P en ep Q = record {
       lines = raise_lines t ++ (verdict n p ∷ []);
       printed = raises n p (answered (before_13 f) none) (rw (en, ep) J.answers);
       puts = subst (λ (ls : List ℕ). Puts ls was 0 now size) (sym (text_join (raise_lines t) (verdict n p ∷ [])))
           (puts_more (subst (λ (ls : List Line). Puts (text ls) was 0 mid next) lines_are P.0) (rw (text_one (verdict n p)) Q.0));
-      fits = omega (arith, P.1, Q.1, report-costs.few);
+      fits = omega (arith, P.1, Q.1, report_costs.few);
     }
 
 -- ---- only one answer fits
 
 module _ (f : List ℕ) where
-  lines-only : (ks ls : List Line) → RaisePrinted f ks → RaisePrinted f ls → ks ≡ ls
-  lines-only _ _ (refused m p a h) (refused n q b g) =
+  lines_only : (ks ls : List Line) → RaisePrinted f ks → RaisePrinted f ls → ks ≡ ls
+  lines_only _ _ (refused m p a h) (refused n q b g) =
       let e = answers_only (before_13 f) m n p q a b in
       ap₂ (λ (x y : ℕ). verdict x y ∷ []) e.0 e.1
-  lines-only _ _ (refused m p a h) (raises n q b c) = absurd (h (answers_only (before_13 f) m 0 p 0 a b).0)
-  lines-only _ _ (raises n q b c) (refused m p a h) = absurd (h (answers_only (before_13 f) m 0 p 0 a b).0)
-  lines-only _ _ (raises m p a c) (raises n q b d) =
+  lines_only _ _ (refused m p a h) (raises n q b c) = absurd (h (answers_only (before_13 f) m 0 p 0 a b).0)
+  lines_only _ _ (raises n q b c) (refused m p a h) = absurd (h (answers_only (before_13 f) m 0 p 0 a b).0)
+  lines_only _ _ (raises m p a c) (raises n q b d) =
       let e = answers_only (verdict_checks (raised_file f)) m n p q c d in
       ap₂ (λ (x y : ℕ). raise_lines (file_table f) ++ (verdict x y ∷ [])) e.0 e.1
 
-  pub raise-rendered-only : (was now then : List ℕ) (m n : ℕ) → RaiseRendered f was now m → RaiseRendered f was then n
+  pub raise_rendered_only : (was now then : List ℕ) (m n : ℕ) → RaiseRendered f was now m → RaiseRendered f was then n
       → (now ≡ then) × (m ≡ n)
-  raise-rendered-only was now then m n A B =
-      let e = lines-only A.lines B.lines A.printed B.printed in (
+  raise_rendered_only was now then m n A B =
+      let e = lines_only A.lines B.lines A.printed B.printed in (
         A.puts.holds ∙ ap (λ (ls : List Line). sets was 0 (text ls)) e ∙ sym B.puts.holds,
         A.puts.after ∙ ap (λ (ls : List Line). 0 + length (text ls)) e ∙ sym B.puts.after,
       )

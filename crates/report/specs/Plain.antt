@@ -5,7 +5,7 @@
 --   PlainRendered         what `render_plain` writes and returns
 --
 -- `was` and `now` are what the lent slice holds before and after. Only one answer of `render_plain` fits
--- (proofs/Plain, `plain-rendered-only`).
+-- (proofs/Plain, `plain_rendered_only`).
 use Rattle.std.specs.Prelude.{◌≢◌, List, [], ◌∷◌, ◌++◌, ℕ, ◌*◌, ◌≤◌}
 use Rattle.rules.specs.Bounds.{max_slots}
 use Rattle.rules.specs.TableFile.{file_table}

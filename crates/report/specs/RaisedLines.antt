@@ -6,7 +6,7 @@
 --   RaiseRendered       what `render` writes and returns
 --
 -- `was` and `now` are what the lent slice holds before and after. Only one answer of `render` fits (proofs/RaisedLines,
--- `raise-rendered-only`).
+-- `raise_rendered_only`).
 use Rattle.std.specs.Prelude.{cond, List, [], ◌∷◌, ℕ, ◌+◌, ◌*◌, ◌≤◌, ◌<◌, ltb}
 use Rattle.numbers.specs.Lists.{each}
 use Rattle.rules.specs.Bounds.{max_rows, max_slots}

@@ -20,7 +20,7 @@ use Rattle.rules.specs.Line.{clear, cut}
 use Rattle.rules.specs.Refusals.{no_cut}
 use Rattle.ring.specs.Route.{Element, Shows}
 use Rattle.ring.proofs.Clockwise.{steps_cases, steps_less}
-use Rattle.ring.proofs.Mirror.{mirror-element, mirror-back}
+use Rattle.ring.proofs.Mirror.{mirror_element, mirror_back}
 
 -- ---- clear elements
 
@@ -29,16 +29,16 @@ module _ (t : Table) (d : ℕ) where
   M = t.elements
 
   -- row i runs on ring d, and goes through element e of that ring's numbers
-  abbrev pub ringThrough : ℕ → ℕ → Bool
-  ringThrough i e = eqb (t.way i) d && route_through M (mirror M d (t.first i)) (mirror M d (t.second i)) e
+  abbrev pub ring_through : ℕ → ℕ → Bool
+  ring_through i e = eqb (t.way i) d && route_through M (mirror M d (t.first i)) (mirror M d (t.second i)) e
 
-  ring-through : {e : ℕ} (i : ℕ) → Element M e → (eqb (t.way i) d && through t i (mirror M d e)) ≡ ringThrough i e
+  ring_through_lem : {e : ℕ} (i : ℕ) → Element M e → (eqb (t.way i) d && through t i (mirror M d e)) ≡ ring_through i e
   unfolding through
-  ring-through i x = and_under (eqb (t.way i) d) _ _ (λ h. rw (eqb→eq (t.way i) d h, mirror-back d x))
+  ring_through_lem i x = and_under (eqb (t.way i) d) _ _ (λ h. rw (eqb→eq (t.way i) d h, mirror_back d x))
 
-  pub clear-ring : {e : ℕ} → Element M e → clear t d (mirror M d e) ≡ not (any t.rows (λ i. ringThrough i e))
+  pub clear_ring : {e : ℕ} → Element M e → clear t d (mirror M d e) ≡ not (any t.rows (λ i. ring_through i e))
   unfolding clear
-  clear-ring x = ap not (any_eq t.rows _ _ (λ i l. ring-through i x))
+  clear_ring x = ap not (any_eq t.rows _ _ (λ i l. ring_through_lem i x))
 
   -- no row of the ring goes through a clear element
   clear_none : (e i : ℕ) → T (clear t d e) → i < t.rows → t.way i ≡ d → T (through t i e) → ⊥
@@ -48,9 +48,9 @@ module _ (t : Table) (d : ℕ) where
       (any_of t.rows (λ j. eqb (t.way j) d && through t j e) i l (both (eqb (t.way i) d) (through t i e) (eqb_of _ _ w) p))
 
   -- some row of the ring goes through an element that is not clear
-  not-clear : (e : ℕ) → (T (clear t d e) → ⊥) → (i : ℕ) × (i < t.rows) × ((t.way i ≡ d) × T (through t i e))
+  not_clear : (e : ℕ) → (T (clear t d e) → ⊥) → (i : ℕ) × (i < t.rows) × ((t.way i ≡ d) × T (through t i e))
   unfolding clear
-  not-clear e h =
+  not_clear e h =
       let test : ℕ → Bool = λ j. eqb (t.way j) d && through t j e in
       let some = any t.rows test in
       let w = least t.rows test (⊎_elim (λ a. a) (λ b. absurd (h (refuted some b))) (decide some)) in (
@@ -73,39 +73,39 @@ module _ (t : Table) (d : ℕ) where
   cut_high = omega (arith, lowest_le M (λ e. clear t d (mirror M d (suc e))))
 
   -- no row of the ring goes through it
-  pub cut-clear : cut t d ≤ M → (i : ℕ) → i < t.rows → t.way i ≡ d → T (through t i (mirror M d (cut t d))) → ⊥
+  pub cut_clear : cut t d ≤ M → (i : ℕ) → i < t.rows → t.way i ≡ d → T (through t i (mirror M d (cut t d))) → ⊥
   unfolding cut
-  cut-clear h i = clear_none (mirror M d (cut t d)) i (lowest_has M (λ e. clear t d (mirror M d (suc e))) h)
+  cut_clear h i = clear_none (mirror M d (cut t d)) i (lowest_has M (λ e. clear t d (mirror M d (suc e))) h)
 
   -- every element before the cut has some row of the ring through it
-  pub cut-lowest : (e : ℕ) → 1 ≤ e → e < cut t d → (i : ℕ) × (i < t.rows) × ((t.way i ≡ d) × T (through t i (mirror M d e)))
+  pub cut_lowest : (e : ℕ) → 1 ≤ e → e < cut t d → (i : ℕ) × (i < t.rows) × ((t.way i ≡ d) × T (through t i (mirror M d e)))
   unfolding cut
-  cut-lowest e l h =
+  cut_lowest e l h =
       let z : suc (e - 1) ≡ e = omega arith in
-      rw z at (not-clear (mirror M d (suc (e - 1))) (lowest_below M (λ k. clear t d (mirror M d (suc k))) (e - 1) (omega arith)))
+      rw z at (not_clear (mirror M d (suc (e - 1))) (lowest_below M (λ k. clear t d (mirror M d (suc k))) (e - 1) (omega arith)))
 
   -- refusal 10 is given exactly if the cut is M + 1
-  pub cut-none : (no_cut t d).applies ↔ (cut t d ≡ M + 1)
-  cut-none = (
+  pub cut_none : (no_cut t d).applies ↔ (cut t d ≡ M + 1)
+  cut_none = (
     λ h.
         ⊎_elim
         (λ (l : cut t d ≤ M).
-        let x = mirror-element d (record { low = cut_low; high = l }) in
+        let x = mirror_element d (record { low = cut_low; high = l }) in
         let w = h (mirror M d (cut t d)) (x.low, x.high) in
-        absurd (cut-clear l w.0 w.1 w.2.0 w.2.1))
+        absurd (cut_clear l w.0 w.1 w.2.0 w.2.1))
         (λ (l : M < cut t d). omega (arith, cut_high))
         (le_or_lt (cut t d) M),
     λ z e w.
         let x : Element M e = record { low = w.0; high = w.1 } in
-        let y = mirror-element d x in
-        rw (mirror-back d x) at (cut-lowest (mirror M d e) y.low (omega (arith, z, y.high))),
+        let y = mirror_element d x in
+        rw (mirror_back d x) at (cut_lowest (mirror M d e) y.low (omega (arith, z, y.high))),
   )
 
   -- a ring with no rows has cut 1
-  pub cut-idle : 1 ≤ M → ((i : ℕ) → i < t.rows → t.way i ≢ d) → cut t d ≡ 1
-  cut-idle m h =
+  pub cut_idle : 1 ≤ M → ((i : ℕ) → i < t.rows → t.way i ≢ d) → cut t d ≡ 1
+  cut_idle m h =
       ⊎_elim (λ (l : cut t d ≤ 1). omega (arith, cut_low))
-      (λ (l : 1 < cut t d). let w = cut-lowest 1 (omega arith) l in absurd (h w.0 w.1 w.2.0))
+      (λ (l : 1 < cut t d). let w = cut_lowest 1 (omega arith) l in absurd (h w.0 w.1 w.2.0))
       (le_or_lt (cut t d) 1)
 
 -- ---- the elements that rows go through, as a word
@@ -137,13 +137,13 @@ shows_next {M} {v} {w} i p before row = record {
 }
 
 -- bit M + e brought to bit e
-pub shows_clear : {w : ℕ} (t : Table) (d : ℕ) → Shows t.elements w (λ e. any t.rows (λ i. ringThrough t d i e)) → (e : ℕ)
+pub shows_clear : {w : ℕ} (t : Table) (d : ℕ) → Shows t.elements w (λ e. any t.rows (λ i. ring_through t d i e)) → (e : ℕ)
     → Element t.elements e → not (bit (bit_or w (w / 2 ^ t.elements)) e) ≡ clear t d (mirror t.elements d e)
 unfolding bit
 shows_clear {w} t d S e h =
     let M = t.elements in
     ap not (bit_or_lem w (w / 2 ^ M) e ∙ ap (λ (b : Bool). bit w e || b) (ap (λ (k : ℕ). eqb (k % 2) 1) (shr-shr w M e)) ∙ S.element e h)
-    ∙ sym (clear-ring t d h)
+    ∙ sym (clear_ring t d h)
 
 -- ---- a route's stretch, as a word
 
@@ -158,8 +158,8 @@ module _ (x : ℕ) {M a b e : ℕ} (ea : Element M a) (eb : Element M b) (ee : E
   stands : (k : ℕ) → a + x ≤ k → k < a + steps M a b → T (here k)
   stands k l m = both (leb (a + x) k) (ltb k (a + steps M a b)) (le→leb (a + x) k l) (lt→ltb k (a + steps M a b) m)
 
-  goes-here : T (here e || here (M + e)) → T goes
-  goes-here h =
+  goes_here : T (here e || here (M + e)) → T goes
+  goes_here h =
       let less : steps M a b < M = steps_less ea eb in
       let go : x ≤ steps M a e → steps M a e < steps M a b → T goes =
       λ l m. both (leb x (steps M a e)) _ (le→leb _ _ l) (lt→ltb _ _ m) in
@@ -172,8 +172,8 @@ module _ (x : ℕ) {M a b e : ℕ} (ea : Element M a) (eb : Element M b) (ee : E
       ⊎_elim (λ u. absurd (let z : ⊥ = omega arith in z)) (λ u. go (omega arith) (omega arith)) (steps_cases ea ee))
       (or_cases (here e) (here (M + e)) h)
 
-  here-goes : T goes → T (here e || here (M + e))
-  here-goes h =
+  here_goes : T goes → T (here e || here (M + e))
+  here_goes h =
       let l : x ≤ steps M a e = leb→le _ _ (fst (leb x (steps M a e)) _ h) in
       let m : steps M a e < steps M a b = ltb→lt _ _ (snd (leb x (steps M a e)) _ h) in
       ⊎_elim
@@ -184,7 +184,7 @@ module _ (x : ℕ) {M a b e : ℕ} (ea : Element M a) (eb : Element M b) (ee : E
 pub stretch_shows : (x : ℕ) {M a b w : ℕ} → Element M a → Element M b → Stretch (a + x) (a + steps M a b) w
     → Shows M w (λ e. leb x (steps M a e) && ltb (steps M a e) (steps M a b))
 stretch_shows x {M} ea eb S = record {
-  element = λ e ee. ap₂ ◌||◌ (S.bits e) (S.bits (M + e)) ∙ same _ _ (goes-here x ea eb ee) (here-goes x ea eb ee);
+  element = λ e ee. ap₂ ◌||◌ (S.bits e) (S.bits (M + e)) ∙ same _ _ (goes_here x ea eb ee) (here_goes x ea eb ee);
 }
 
 pub uses_shows : {M a b w : ℕ} → Element M a → Element M b → Stretch a (a + steps M a b) w → Shows M w (route_uses M a b)

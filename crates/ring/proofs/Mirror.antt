@@ -1,7 +1,7 @@
 -- Mirrored numbers (#112): each ring's own numbers are the board's, or those mirrored, and mirrored again they are the board's.
 --
---   mirror-element, mirror-differ, mirror-back       elements
---   segment-element, segment-back, any_mirrored      segments
+--   mirror_element, mirror_differ, mirror_back       elements
+--   segment_element, segment_back, any_mirrored      segments
 --   clockwise_uses, counterclockwise_uses            a row uses the board's segments from one of its ends clockwise to the other
 use mathlib.Core.Path.{◌≡◌, refl, ap, ap₂, ◌∙◌}
 use mathlib.Core.Logic.{◌⊎◌, inl, inr, ⊎_elim, ◌≢◌}
@@ -29,29 +29,29 @@ unfolding mirror
 mirror_turned {d} M e n = rw (ne_eqb d clockwise n)
 
 module _ {M : ℕ} where
-  element-if : {e : ℕ} → Element M e → (b : Bool) → Element M (cond b e (M + 1 - e))
-  element-if x true = x
-  element-if x false = record { low = omega (arith, x.high); high = omega (arith, x.low) }
+  element_if : {e : ℕ} → Element M e → (b : Bool) → Element M (cond b e (M + 1 - e))
+  element_if x true = x
+  element_if x false = record { low = omega (arith, x.high); high = omega (arith, x.low) }
 
-  differ-if : {a b : ℕ} → Element M a → Element M b → a ≢ b → (c : Bool) → cond c a (M + 1 - a) ≢ cond c b (M + 1 - b)
-  differ-if x y n true = n
-  differ-if x y n false = λ e. n (omega (arith, x.high, y.high))
+  differ_if : {a b : ℕ} → Element M a → Element M b → a ≢ b → (c : Bool) → cond c a (M + 1 - a) ≢ cond c b (M + 1 - b)
+  differ_if x y n true = n
+  differ_if x y n false = λ e. n (omega (arith, x.high, y.high))
 
-  back-if : {e : ℕ} → Element M e → (b : Bool) → cond b (cond b e (M + 1 - e)) (M + 1 - cond b e (M + 1 - e)) ≡ e
-  back-if x true = refl
-  back-if x false = omega (arith, x.high)
+  back_if : {e : ℕ} → Element M e → (b : Bool) → cond b (cond b e (M + 1 - e)) (M + 1 - cond b e (M + 1 - e)) ≡ e
+  back_if x true = refl
+  back_if x false = omega (arith, x.high)
 
-  pub mirror-element : (d : ℕ) {e : ℕ} → Element M e → Element M (mirror M d e)
+  pub mirror_element : (d : ℕ) {e : ℕ} → Element M e → Element M (mirror M d e)
   unfolding mirror
-  mirror-element d x = element-if x (eqb d clockwise)
+  mirror_element d x = element_if x (eqb d clockwise)
 
-  pub mirror-differ : (d : ℕ) {a b : ℕ} → Element M a → Element M b → a ≢ b → mirror M d a ≢ mirror M d b
+  pub mirror_differ : (d : ℕ) {a b : ℕ} → Element M a → Element M b → a ≢ b → mirror M d a ≢ mirror M d b
   unfolding mirror
-  mirror-differ d x y n = differ-if x y n (eqb d clockwise)
+  mirror_differ d x y n = differ_if x y n (eqb d clockwise)
 
-  pub mirror-back : (d : ℕ) {e : ℕ} → Element M e → mirror M d (mirror M d e) ≡ e
+  pub mirror_back : (d : ℕ) {e : ℕ} → Element M e → mirror M d (mirror M d e) ≡ e
   unfolding mirror
-  mirror-back d x = back-if x (eqb d clockwise)
+  mirror_back d x = back_if x (eqb d clockwise)
 
 -- ---- segments
 
@@ -86,41 +86,41 @@ turned_back {M} {s} x =
     (turned_cases x)
 
 module _ {M : ℕ} where
-  segment-if : {s : ℕ} → Element M s → (b : Bool) → Element M (cond b s (M - s % M))
-  segment-if x true = x
-  segment-if x false = turned_element x
+  segment_if : {s : ℕ} → Element M s → (b : Bool) → Element M (cond b s (M - s % M))
+  segment_if x true = x
+  segment_if x false = turned_element x
 
-  segment-back-if : {s : ℕ} → Element M s → (b : Bool) → cond b (cond b s (M - s % M)) (M - cond b s (M - s % M) % M) ≡ s
-  segment-back-if x true = refl
-  segment-back-if x false = turned_back x
+  segment_back_if : {s : ℕ} → Element M s → (b : Bool) → cond b (cond b s (M - s % M)) (M - cond b s (M - s % M) % M) ≡ s
+  segment_back_if x true = refl
+  segment_back_if x false = turned_back x
 
-  pub segment-element : (d : ℕ) {s : ℕ} → Element M s → Element M (mirror_segment M d s)
+  pub segment_element : (d : ℕ) {s : ℕ} → Element M s → Element M (mirror_segment M d s)
   unfolding mirror_segment
-  segment-element d x = segment-if x (eqb d clockwise)
+  segment_element d x = segment_if x (eqb d clockwise)
 
-  pub segment-back : (d : ℕ) {s : ℕ} → Element M s → mirror_segment M d (mirror_segment M d s) ≡ s
+  pub segment_back : (d : ℕ) {s : ℕ} → Element M s → mirror_segment M d (mirror_segment M d s) ≡ s
   unfolding mirror_segment
-  segment-back d x = segment-back-if x (eqb d clockwise)
+  segment_back d x = segment_back_if x (eqb d clockwise)
 
 -- some segment of a ring has p, whatever the numbers
 pub any_mirrored : (M d : ℕ) (p : ℕ → Bool) → any M (λ s. p (mirror_segment M d (suc s))) ≡ any M (λ s. p (suc s))
 any_mirrored M d p = same _ _ to back
   where
-    at-segment : (q : ℕ → Bool) {s : ℕ} → Element M s → T (q s) → T (any M (λ s. q (suc s)))
-    at-segment q {s} x h =
+    at_segment : (q : ℕ → Bool) {s : ℕ} → Element M s → T (q s) → T (any M (λ s. q (suc s)))
+    at_segment q {s} x h =
         let z : suc (s - 1) ≡ s = omega (arith, x.low) in
         any_of M (λ s. q (suc s)) (s - 1) (omega (arith, x.low, x.high)) (rw z h)
 
     to : T (any M (λ s. p (mirror_segment M d (suc s)))) → T (any M (λ s. p (suc s)))
     to h =
         let w = least M (λ s. p (mirror_segment M d (suc s))) h in
-        at-segment p (segment-element d (record { low = omega arith; high = w.1 })) w.2
+        at_segment p (segment_element d (record { low = omega arith; high = w.1 })) w.2
 
     back : T (any M (λ s. p (suc s))) → T (any M (λ s. p (mirror_segment M d (suc s))))
     back h =
         let w = least M (λ s. p (suc s)) h in
         let x : Element M (suc w.0) = record { low = omega arith; high = w.1 } in
-        at-segment (λ s. p (mirror_segment M d s)) (segment-element d x) (rw (segment-back d x) w.2)
+        at_segment (λ s. p (mirror_segment M d s)) (segment_element d x) (rw (segment_back d x) w.2)
 
 -- ---- routes
 
@@ -130,7 +130,7 @@ turned_steps {M} {a} {b} x y =
     ⊎_elim
     (λ u. ⊎_elim (λ v. omega (arith, x.high, y.high)) (λ v. omega (arith, x.high, y.high)) (steps_cases y x))
     (λ u. ⊎_elim (λ v. omega (arith, x.high, y.high)) (λ v. omega (arith, x.high, y.high)) (steps_cases y x))
-    (steps_cases (element-if x false) (element-if y false))
+    (steps_cases (element_if x false) (element_if y false))
 
 -- the element that segment s leads to
 abbrev next : (M s : ℕ) → ℕ
@@ -150,19 +150,19 @@ next_steps {M} {b} {s} y z =
     ⊎_elim
     (λ w.
     ⊎_elim
-    (λ u. ⊎_elim (λ v. inl (omega (arith, w, u, v))) (λ v. absurd (let q : ⊥ = omega (arith, w, u, v) in q)) to-next)
-    (λ u. ⊎_elim (λ v. inr (omega (arith, w, u, v), omega (arith, w, u, v))) (λ v. inl (omega (arith, w, u, v))) to-next)
+    (λ u. ⊎_elim (λ v. inl (omega (arith, w, u, v))) (λ v. absurd (let q : ⊥ = omega (arith, w, u, v) in q)) to_next)
+    (λ u. ⊎_elim (λ v. inr (omega (arith, w, u, v), omega (arith, w, u, v))) (λ v. inl (omega (arith, w, u, v))) to_next)
     (steps_cases y z))
     (λ w.
     ⊎_elim
     (λ u.
-    ⊎_elim (λ v. inr (omega (arith, w, u, v, y.low), omega (arith, w, u, v, y.low))) (λ v. inl (omega (arith, w, u, v))) to-next)
+    ⊎_elim (λ v. inr (omega (arith, w, u, v, y.low), omega (arith, w, u, v, y.low))) (λ v. inl (omega (arith, w, u, v))) to_next)
     (λ u. absurd (let q : ⊥ = omega (arith, w, u, y.high) in q))
     (steps_cases y z))
     (rest_cases z)
   where
-    to-next : ((b ≤ next M s) × (b + steps M b (next M s) ≡ next M s)) ⊎ ((next M s < b) × (b + steps M b (next M s) ≡ next M s + M))
-    to-next = steps_cases y (next_element z)
+    to_next : ((b ≤ next M s) × (b + steps M b (next M s) ≡ next M s)) ⊎ ((next M s < b) × (b + steps M b (next M s) ≡ next M s + M))
+    to_next = steps_cases y (next_element z)
 
 -- The mirrored route from a to b uses, mirrored, the segments that the route from b to a uses.
 turned_uses : {M a b s : ℕ} → Element M a → Element M b → Element M s

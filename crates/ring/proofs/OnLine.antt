@@ -1,7 +1,7 @@
 -- A table's rows on the line, where each ring has a clear element: first ends stand before second ends, each ring's rows on its own part of
 -- the line, and two rows overlap on the board exactly if they overlap on the line.
 --
---   ways-share         the theorem over the direction: routes of either ring share a segment of one ring exactly if their stretches overlap
+--   ways_share         the theorem over the direction: routes of either ring share a segment of one ring exactly if their stretches overlap
 use mathlib.Core.Path.{◌≡◌, refl, sym, ap, ap₂, ◌∙◌, subst}
 use mathlib.Core.Logic.{⊎_elim, ◌≢◌}
 use mathlib.Core.Bool.{Bool, true, false, ◌&&◌}
@@ -18,8 +18,8 @@ use Rattle.rules.specs.Line.{cut, HasCuts, on_line, ring_start, line_top, line_f
 use Rattle.table.specs.Sound.{Sound}
 use Rattle.ring.specs.Route.{Element, line_element, line_end}
 use Rattle.ring.proofs.Routes.{Route, route_low, route_ordered, route_high, route_uses_lem, routes_share}
-use Rattle.ring.proofs.Mirror.{mirror-element, mirror-differ, mirror-back, segment-element, any_mirrored}
-use Rattle.ring.proofs.Cut.{cut_low, cut-clear}
+use Rattle.ring.proofs.Mirror.{mirror_element, mirror_differ, mirror_back, segment_element, any_mirrored}
+use Rattle.ring.proofs.Cut.{cut_low, cut_clear}
 
 -- ---- two stretches, each on its own ring's line
 
@@ -60,8 +60,8 @@ module _ (M : ℕ) (c : ℕ → ℕ) where
       ≡ (ltb (d * (M + 1) + line_element M (c d) a) (e * (M + 1) + line_end M (c e) q)
       && ltb (e * (M + 1) + line_element M (c e) p) (d * (M + 1) + line_end M (c d) b))
 
-  pub ways-share : {d e a b p q : ℕ} → Route M (c d) a b → Route M (c e) p q → Shared d e a b p q
-  ways-share {d} {e} {a} {b} {p} {q} r u = ⊎_elim (λ h. alike (eqb→eq d e h) u) other (decide (eqb d e))
+  pub ways_share : {d e a b p q : ℕ} → Route M (c d) a b → Route M (c e) p q → Shared d e a b p q
+  ways_share {d} {e} {a} {b} {p} {q} r u = ⊎_elim (λ h. alike (eqb→eq d e h) u) other (decide (eqb d e))
     where
       one : Bool
       one = ltb (d * (M + 1) + line_element M (c d) a) (e * (M + 1) + line_end M (c e) q)
@@ -111,9 +111,9 @@ overlap_ring t i j =
 
 module _ (t : Table) (sound : Sound t) (some : HasCuts t) where
   -- a row is a route that does not go through its ring's cut
-  pub row-route : (i : ℕ) → i < t.rows → Route t.elements (cut t (t.way i)) (ring_first t i) (ring_second t i)
+  pub row_route : (i : ℕ) → i < t.rows → Route t.elements (cut t (t.way i)) (ring_first t i) (ring_second t i)
   unfolding through
-  row-route i l =
+  row_route i l =
       let row = sound.row i l in
       let d = t.way i in
       let first : Element t.elements (t.first i) = record { low = row.first_low; high = row.first_high } in
@@ -121,26 +121,26 @@ module _ (t : Table) (sound : Sound t) (some : HasCuts t) where
       let at_cut : Element t.elements (cut t d) = record { low = cut_low t d; high = some d row.way_known } in
       record {
         cut = at_cut;
-        first = mirror-element d first;
-        second = mirror-element d second;
-        differ = mirror-differ d first second row.ends_differ;
-        clear = rw (mirror-back d at_cut) at (cut-clear t d (some d row.way_known) i l refl);
+        first = mirror_element d first;
+        second = mirror_element d second;
+        differ = mirror_differ d first second row.ends_differ;
+        clear = rw (mirror_back d at_cut) at (cut_clear t d (some d row.way_known) i l refl);
       }
 
   pub line_low : (i : ℕ) → 1 ≤ line_first t i
   unfolding line_first on_line
   line_low i = omega arith
 
-  pub line-ordered : (i : ℕ) → i < t.rows → line_first t i < line_second t i
+  pub line_ordered : (i : ℕ) → i < t.rows → line_first t i < line_second t i
   unfolding line_first line_second on_line line_element line_end
-  line-ordered i l = omega (arith, route_ordered (row-route i l))
+  line_ordered i l = omega (arith, route_ordered (row_route i l))
 
-  pub line-high : (i : ℕ) → i < t.rows → line_second t i ≤ line_top t
+  pub line_high : (i : ℕ) → i < t.rows → line_second t i ≤ line_top t
   unfolding line_second on_line line_element line_end
-  line-high i l =
+  line_high i l =
       let n : t.way i + 1 ≤ t.rings = omega (arith, (sound.row i l).way_known) in
       let m : (t.way i + 1) * (t.elements + 1) ≤ t.rings * (t.elements + 1) = mul-le-mul_right (t.elements + 1) n in
-      omega (arith, m, route_high (row-route i l))
+      omega (arith, m, route_high (row_route i l))
 
   -- so a byte holds each of the line's elements
   pub line_short : line_top t ≤ max_rings * (max_elements + 1)
@@ -149,13 +149,13 @@ module _ (t : Table) (sound : Sound t) (some : HasCuts t) where
       omega (arith, m, sound.elements_high)
 
   -- row i uses exactly the segments that begin on its stretch of the line
-  pub line-uses : (i s : ℕ) → i < t.rows → Element t.elements s
+  pub line_uses : (i s : ℕ) → i < t.rows → Element t.elements s
       → let e = ring_start t (t.way i) + on_line t (t.way i) (mirror_segment t.elements (t.way i) s) in
       uses t i s ≡ (leb (line_first t i) e && ltb e (line_second t i))
   unfolding uses line_first line_second on_line line_element line_end
-  line-uses i s l es = route_uses_lem (row-route i l) (segment-element (t.way i) es) ∙ moved (ring_start t (t.way i)) _ _ _
+  line_uses i s l es = route_uses_lem (row_route i l) (segment_element (t.way i) es) ∙ moved (ring_start t (t.way i)) _ _ _
 
   -- overlap on the board is overlap on the line
-  pub overlap-meet : (i j : ℕ) → i < t.rows → j < t.rows → overlap t i j ≡ meet (line_first t) (line_second t) i j
+  pub overlap_meet : (i j : ℕ) → i < t.rows → j < t.rows → overlap t i j ≡ meet (line_first t) (line_second t) i j
   unfolding meet line_first line_second on_line line_element line_end
-  overlap-meet i j l m = overlap_ring t i j ∙ ways-share t.elements (cut t) (row-route i l) (row-route j m)
+  overlap_meet i j l m = overlap_ring t i j ∙ ways_share t.elements (cut t) (row_route i l) (row_route j m)

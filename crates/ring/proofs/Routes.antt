@@ -137,9 +137,9 @@ routes_share {M} {c} {a} {b} {d} {e} r q = same _ _ meet share
         let l : line_element M c d < line_end M c b = omega (arith, i.1, j.0) in
         both (ltb (line_element M c a) (line_end M c e)) (ltb (line_element M c d) (line_end M c b)) (lt→ltb _ _ k) (lt→ltb _ _ l)
 
-    at-segment : {s : ℕ} → Element M s → T (route_uses M a b s) → T (route_uses M d e s)
+    at_segment : {s : ℕ} → Element M s → T (route_uses M a b s) → T (route_uses M d e s)
         → T (any M (λ s. route_uses M a b (suc s) && route_uses M d e (suc s)))
-    at-segment {s} es h k =
+    at_segment {s} es h k =
         let z : suc (s - 1) ≡ s = omega arith in
         any_of M (λ s. route_uses M a b (suc s) && route_uses M d e (suc s)) (s - 1) (omega arith)
         (rw z (both (route_uses M a b s) (route_uses M d e s) h k))
@@ -151,7 +151,7 @@ routes_share {M} {c} {a} {b} {d} {e} r q = same _ _ meet share
         let l : line_element M c d < line_end M c b = ltb→lt _ _ (snd (ltb (line_element M c a) (line_end M c e)) _ h) in
         ⊎_elim
         (λ (m : line_element M c a ≤ line_element M c d).
-        at-segment q.first (route_used r q.first m l) (route_used q q.first (omega arith) (route_ordered q)))
+        at_segment q.first (route_used r q.first m l) (route_used q q.first (omega arith) (route_ordered q)))
         (λ (m : line_element M c d < line_element M c a).
-        at-segment r.first (route_used r r.first (omega arith) (route_ordered r)) (route_used q r.first (omega arith) k))
+        at_segment r.first (route_used r r.first (omega arith) (route_ordered r)) (route_used q r.first (omega arith) k))
         (le_or_lt (line_element M c a) (line_element M c d))

@@ -52,14 +52,14 @@ module _ (t : Table) where
 
   module _ {c q : ℕ} {r : Line} (few : (i : ℕ) → i < t.rows → t.way i < max_rings) (e : c ≡ cut t clockwise)
       (f : q ≡ cut t counterclockwise) (L : Renumbered t.elements c q t.rows t.first t.second t.way r) where
-    pub laid-first : ByRow t.rows (line_first t) r.first
+    pub laid_first : ByRow t.rows (line_first t) r.first
     unfolding row_element line_first on_line line_element
-    laid-first =
+    laid_first =
         by_row_eq L.starts
         (λ i l. ap (λ (k : ℕ). row_element t.elements (t.way i) k (t.first i)) (cut_of_lem (cut t) e f (few i l)))
 
-    pub laid-second : ByRow t.rows (line_second t) r.second
+    pub laid_second : ByRow t.rows (line_second t) r.second
     unfolding row_end line_second on_line line_end line_element
-    laid-second =
+    laid_second =
         by_row_eq L.ends
         (λ i l. ap (λ (k : ℕ). row_end t.elements (t.way i) k (t.second i)) (cut_of_lem (cut t) e f (few i l)))

@@ -48,9 +48,9 @@ module _ (M a b : ℕ) {w v : ℕ} (S : Shows M w (route_uses M a b)) (mask : St
       mask.bits k ∙ ap₂ ◌&&◌ (is_true (leb 0 k) (le→leb 0 k (omega arith))) low in
       bit_and_lem folded v k ∙ ap₂ ◌&&◌ (shown k l) kept ∙ and-true (used k) ∙ sym (bit_word M used k ∙ ap (λ (c : Bool). c && used k) low)
 
-  pub segments-word : bit_and folded v ≡ segments M a b
+  pub segments_word : bit_and folded v ≡ segments M a b
   unfolding segments
-  segments-word = bit_ext _ _ (λ k. ⊎_elim (past k) (within k) (le_or_lt M k))
+  segments_word = bit_ext _ _ (λ k. ⊎_elim (past k) (within k) (le_or_lt M k))
 
 pub segments_fit : (M a b : ℕ) → segments M a b < 2 ^ M
 unfolding segments
@@ -79,11 +79,11 @@ both_segments t i j e =
     bit_ext _ _
     (λ k.
     bit_and_lem _ _ k ∙ ap₂ ◌&&◌ (bit_word t.elements _ k) (bit_word t.elements _ k)
-    ∙ shared-bit (ltb k t.elements) (eqb (t.way i) (t.way j)) _ _ (is_true _ (eqb_of _ _ e)) ∙ sym (bit_word t.elements _ k))
+    ∙ shared_bit (ltb k t.elements) (eqb (t.way i) (t.way j)) _ _ (is_true _ (eqb_of _ _ e)) ∙ sym (bit_word t.elements _ k))
   where
-    shared-bit : (l same p q : Bool) → same ≡ true → ((l && p) && (l && q)) ≡ (l && (same && (p && q)))
-    shared-bit true same p q z = rw z
-    shared-bit false same p q z = refl
+    shared_bit : (l same p q : Bool) → same ≡ true → ((l && p) && (l && q)) ≡ (l && (same && (p && q)))
+    shared_bit true same p q z = rw z
+    shared_bit false same p q z = refl
 
 -- rows of different rings share none
 pub no_segments : (t : Table) (i j : ℕ) → t.way i ≢ t.way j → 0 ≡ shared t i j

@@ -62,11 +62,11 @@ use Rattle.rules.proofs.Rings.{rings_few}
 use Rattle.rules.specs.Refusals.{unknown_mark, wrong_version, lost_label, header_checks, file_checks, reader_checks}
 use Rattle.rules.specs.Refusals.{label_checks, version_checks, writer_checks}
 use Rattle.rules.specs.Calls.{lent, Read, Written}
-use Rattle.rules.proofs.Answers.{None, Numbered, none_join, none_left, numbered_join, single-none, none-single}
+use Rattle.rules.proofs.Answers.{None, Numbered, none_join, none_left, numbered_join, single_none, none_single}
 use Rattle.table.specs.Sound.{Sound}
 use Rattle.table.proofs.Faults.{Marked, marked, marked_right, mark_whole, mark_again, Known, known_right, mark_at}
 use Rattle.table.proofs.Faults.{header_split, passed_none, none_passed, file_numbered}
-use Rattle.table.proofs.Faults.{memory-sound, memory-none, version-numbered, version-none, version_known}
+use Rattle.table.proofs.Faults.{memory_sound, memory_none, version_numbered, version_none, version_known}
 use Rattle.table.proofs.RowSizes.{label_none, last_way, last_label, row_length}
 use Rattle.rules.proofs.Calls.{lent_take, call_none, call_must}
 
@@ -104,25 +104,25 @@ pub record Heads (h : List ℕ) (M n : ℕ) : Type 0 where
 -- ---- a row's last number
 
 module _ (r x : ℕ) where
-  told-if : (b : Bool) → cond b (cond b x 0) (cond b 0 x) ≡ x
-  told-if true = refl
-  told-if false = refl
+  told_if : (b : Bool) → cond b (cond b x 0) (cond b 0 x) ≡ x
+  told_if true = refl
+  told_if false = refl
 
   -- it tells direction and label, and these tell it
-  pub last-told : last_of r (way_in r x) (label_in r x) ≡ x
+  pub last_told : last_of r (way_in r x) (label_in r x) ≡ x
   unfolding last_of way_in label_in
-  last-told = told-if (eqb r max_rings)
+  last_told = told_if (eqb r max_rings)
 
 pub memory_told : (r M n : ℕ) (xs : List ℕ) → Told (memory_labelled_with r M n xs)
 memory_told r M n xs i l =
     let x : ℕ = at xs (row_numbers * i + 4) in
-    (ap (way_in r) (last-told r x), ap (label_in r) (last-told r x))
+    (ap (way_in r) (last_told r x), ap (label_in r) (last_told r x))
 
 pub file_told : (f : List ℕ) → Told (file_labelled f)
 file_told f i l =
     let k : ℕ = last_size (file_rings f) (version f) in
     let x : ℕ = read_low k f (header_size + row_with k * i + 6) in
-    (ap (way_in (file_rings f)) (last-told (file_rings f) x), ap (label_in (file_rings f)) (last-told (file_rings f) x))
+    (ap (way_in (file_rings f)) (last_told (file_rings f) x), ap (label_in (file_rings f)) (last_told (file_rings f) x))
 
 -- a mark tells the number of rings, and this tells it
 pub rings_marked : {r : ℕ} → OneOrTwo r → (xs : List ℕ) → rings_of (mark_of r ++ xs) ≡ r
@@ -188,14 +188,14 @@ abbrev front : Labelled → ℕ → List ℕ
 front t i = write16 (t.table.cost i) ++ write16 (t.table.period i) ++ (t.table.first i ∷ t.table.second i ∷ [])
 
 module _ (t : Labelled) (i : ℕ) (l : i < t.table.rows) where
-  file-at : (k : ℕ) (h : List ℕ) → length h ≡ header_size
+  file_at : (k : ℕ) (h : List ℕ) → length h ≡ header_size
       → (j : ℕ) → j < row_with k → at (h ++ row_bytes k t) (header_size + row_with k * i + j) ≡ at (file_row k t i) j
   unfolding row_bytes
-  file-at k h e j m = row_place header_size (row_with k) t.table.rows h (file_row k t) e (λ n p. row_length k t n) i j l m
+  file_at k h e j m = row_place header_size (row_with k) t.table.rows h (file_row k t) e (λ n p. row_length k t n) i j l m
 
-  memory-at : (j : ℕ) → j < row_numbers → at (numbers t) (row_numbers * i + j) ≡ at (memory_row t i) j
+  memory_at : (j : ℕ) → j < row_numbers → at (numbers t) (row_numbers * i + j) ≡ at (memory_row t i) j
   unfolding numbers
-  memory-at j m = rw zero-add at (row_place 0 row_numbers t.table.rows [] (memory_row t) refl (λ k h. refl) i j l m)
+  memory_at j m = rw zero-add at (row_place 0 row_numbers t.table.rows [] (memory_row t) refl (λ k h. refl) i j l m)
 
 -- ---- there and back, once over k and the header
 
@@ -221,7 +221,7 @@ rows_back k h t H F W = record {
   where
     byte : (i : ℕ) → i < t.table.rows → (j : ℕ) → j < row_with k
         → at (h ++ row_bytes k t) (header_size + row_with k * i + j) ≡ at (file_row k t i) j
-    byte i l j m = file-at t i l k h H.size j m
+    byte i l j m = file_at t i l k h H.size j m
 
     last : (i : ℕ) → i < t.table.rows → read_low k (h ++ row_bytes k t) (header_size + row_with k * i + 6) ≡ last_number_of t i
     last i l =
@@ -249,7 +249,7 @@ row_whole r k f i b =
     ) in
     let rest : write_low k (read_low k f (p + 6)) ≡ each k (λ j. at f (p + (6 + j)) ∷ []) =
     low_again k (p + 6) f b ∙ each_eq k (λ j. at f (p + 6 + j) ∷ []) (λ j. at f (p + (6 + j)) ∷ []) (λ j l. rw (add_assoc p 6 j)) in
-    ap₂ (λ (x y : List ℕ). x ++ y) six (ap (write_low k) (last-told r (read_low k f (p + 6))) ∙ rest)
+    ap₂ (λ (x y : List ℕ). x ++ y) six (ap (write_low k) (last_told r (read_low k f (p + 6))) ∙ rest)
     ∙ sym (each_join 6 k (λ j. at f (p + j) ∷ []))
 
 -- a file's rows, written again after the header that they had
@@ -273,36 +273,36 @@ module _ (v : ℕ) (t : Labelled) (o : OneOrTwo t.table.rings) where
   header = file_header (mark_of t.table.rings) v t.table.elements t.table.rows
 
   -- what a header says, whatever follows
-  header-says : (xs : List ℕ) → (length header ≡ header_size) × (version (header ++ xs) ≡ v) × (at (header ++ xs) 5 ≡ t.table.elements)
+  header_says : (xs : List ℕ) → (length header ≡ header_size) × (version (header ++ xs) ≡ v) × (at (header ++ xs) 5 ≡ t.table.elements)
       × (at (header ++ xs) 6 ≡ t.table.rows) × (rings_of (header ++ xs) ≡ t.table.rings)
       × (mark (header ++ xs) ≡ mark_of t.table.rings)
   unfolding rings_of mark_of
-  header-says xs =
+  header_says xs =
       ⊎_elim (λ e. rw e (refl, low_high v, refl, refl, refl, refl)) (λ e. rw e (refl, low_high v, refl, refl, refl, refl)) o
 
-  pub version-back : version (bytes v t) ≡ v
+  pub version_back : version (bytes v t) ≡ v
   unfolding bytes
-  version-back = (header-says (row_bytes (last_size t.table.rings v) t)).1
+  version_back = (header_says (row_bytes (last_size t.table.rings v) t)).1
 
-  pub rings-back : file_rings (bytes v t) ≡ t.table.rings
+  pub rings_back : file_rings (bytes v t) ≡ t.table.rings
   unfolding bytes
-  rings-back = (header-says (row_bytes (last_size t.table.rings v) t)).4
+  rings_back = (header_says (row_bytes (last_size t.table.rings v) t)).4
 
-  pub mark-back : mark (bytes v t) ≡ mark_of t.table.rings
+  pub mark_back : mark (bytes v t) ≡ mark_of t.table.rings
   unfolding bytes
-  mark-back = (header-says (row_bytes (last_size t.table.rings v) t)).5
+  mark_back = (header_says (row_bytes (last_size t.table.rings v) t)).5
 
   -- the table of a file is the table that it was made of
   pub file_back : Fits (last_size t.table.rings v) t → Told t → Alike (file_labelled (bytes v t)) t
   unfolding bytes
   file_back F W =
       subst (λ (q : ℕ × ℕ). Alike (labelled_with q.0 (last_size q.0 q.1) (bytes v t)) t)
-      (sym {A = ℕ × ℕ} (λ k. (rings-back k, version-back k)))
+      (sym {A = ℕ × ℕ} (λ k. (rings_back k, version_back k)))
       (rows_back (last_size t.table.rings v) header t
       (record {
-        size = (header-says []).0;
-        elements = λ xs. (header-says xs).2;
-        rows = λ xs. (header-says xs).3;
+        size = (header_says []).0;
+        elements = λ xs. (header_says xs).2;
+        rows = λ xs. (header_says xs).3;
       }) F W)
 
 -- and that of a slice
@@ -310,13 +310,13 @@ pub memory_back : (t : Labelled) → Told t → Alike (memory_labelled_with t.ta
 memory_back t W = record {
   elements = refl;
   rows = refl;
-  cost = λ i l. rw add-zero at (memory-at t i l 0 (omega arith));
-  period = λ i l. memory-at t i l 1 (omega arith);
-  first = λ i l. memory-at t i l 2 (omega arith);
-  second = λ i l. memory-at t i l 3 (omega arith);
+  cost = λ i l. rw add-zero at (memory_at t i l 0 (omega arith));
+  period = λ i l. memory_at t i l 1 (omega arith);
+  first = λ i l. memory_at t i l 2 (omega arith);
+  second = λ i l. memory_at t i l 3 (omega arith);
   rings = refl;
-  way = λ i l. ap (way_in t.table.rings) (memory-at t i l 4 (omega arith)) ∙ (W i l).0;
-  label = λ i l. ap (label_in t.table.rings) (memory-at t i l 4 (omega arith)) ∙ (W i l).1;
+  way = λ i l. ap (way_in t.table.rings) (memory_at t i l 4 (omega arith)) ∙ (W i l).0;
+  label = λ i l. ap (label_in t.table.rings) (memory_at t i l 4 (omega arith)) ∙ (W i l).1;
 }
 
 -- the file or slice of a table is what the table was read from
@@ -324,7 +324,7 @@ pub numbers_whole : (r M n : ℕ) (xs : List ℕ) → length xs ≡ row_numbers 
 unfolding numbers each
 numbers_whole r M n xs e =
     rows_whole 0 row_numbers n (memory_row (memory_labelled_with r M n xs)) xs (omega arith)
-    (λ i l. rw (last-told r (at xs (row_numbers * i + 4)), zero-add (row_numbers * i), add-zero (row_numbers * i)))
+    (λ i l. rw (last_told r (at xs (row_numbers * i + 4)), zero-add (row_numbers * i), add-zero (row_numbers * i)))
 
 header_whole : (f : List ℕ) → header_size ≤ length f → Marked (mark f) → Bytes f
     → file_header (mark_of (file_rings f)) (version f) (file_table f).elements (file_table f).rows ≡ take header_size f
@@ -353,7 +353,7 @@ pub bytes_length : (v : ℕ) (t : Labelled) → OneOrTwo t.table.rings
 unfolding bytes
 bytes_length v t o =
     rows_length (last_size t.table.rings v) (file_header (mark_of t.table.rings) v t.table.elements t.table.rows) t
-    (header-says v t o []).0
+    (header_says v t o []).0
 
 -- version 1 has no bytes for labels, and refuses to write any but 0
 pub labels_fit : (v : ℕ) (t : Labelled) → Known t.table.rings v → None (label_checks v t) → Fits (last_size t.table.rings v) t
@@ -365,12 +365,12 @@ labels_fit v t k a e i l = go (ℕ_discrete t.table.rings max_rings)
     go (no n) =
         rw (ne_eqb t.table.rings max_rings n)
         (equals (t.label i) 0
-        (λ h. ⊎_elim (λ one. none-single (lost_label v t) t.table.rows a i l (one, h))
+        (λ h. ⊎_elim (λ one. none_single (lost_label v t) t.table.rows a i l (one, h))
         (λ two. let z : 2 ≡ 0 = rw two.0 at (sym (last_label v n) ∙ e) in omega (arith, z)) k))
 
 fits_labels : (v : ℕ) (t : Labelled) → ((i : ℕ) → i < t.table.rows → v ≡ version_1 → t.label i ≡ 0) → None (label_checks v t)
 unfolding label_checks
-fits_labels v t h = single-none (lost_label v t) t.table.rows (λ i l w. w.1 (h i l w.0))
+fits_labels v t h = single_none (lost_label v t) t.table.rows (λ i l w. w.1 (h i l w.0))
 
 -- the numbers of a table that has no fault pass in every version that can hold its labels
 pub table_passes : (v : ℕ) (t : Labelled) → ((wrong_version t.table.rings v).applies → ⊥) → Told t → Sound t.table
@@ -381,7 +381,7 @@ table_passes v t k told s h =
     let M : ℕ = t.table.elements in
     let n : ℕ = t.table.rows in
     let back = memory_back t told in
-    version-none r M n (numbers t) v k (memory-none r M n (numbers t) (sound_alike back s) (numbers_length t))
+    version_none r M n (numbers t) v k (memory_none r M n (numbers t) (sound_alike back s) (numbers_length t))
     (fits_labels v (memory_labelled_with r M n (numbers t)) (λ i l e. back.label i l ∙ h i l e))
 
 -- a file is read and written
@@ -398,12 +398,12 @@ module _ (f : List ℕ) (a : None (file_checks f)) where
   abbrev n : ℕ
   n = t.table.rows
 
-  pub read-marked : Marked (mark f)
+  pub read_marked : Marked (mark f)
   unfolding file_checks
-  read-marked = (header_split f (none_left (header_checks f) _ a)).1
+  read_marked = (header_split f (none_left (header_checks f) _ a)).1
 
-  pub read-written : Bytes f → bytes (version f) (memory_labelled_with r M n (numbers t)) ≡ f
-  read-written b = bytes_alike (version f) (memory_back t (file_told f)) ∙ bytes_whole f b a
+  pub read_written : Bytes f → bytes (version f) (memory_labelled_with r M n (numbers t)) ≡ f
+  read_written b = bytes_alike (version f) (memory_back t (file_told f)) ∙ bytes_whole f b a
 
   -- in version 1 all labels are 0
   pub bare : (i : ℕ) → version f ≡ version_1 → t.label i ≡ 0
@@ -429,28 +429,28 @@ module _ (r v M n : ℕ) (xs : List ℕ) (o : OneOrTwo r) where
   s = memory_labelled_with r M n xs
 
   module _ (a : None (version_checks r v M n xs)) where
-    written-fits : Fits (last_size r v) s
-    written-fits = let k = version_known r M n xs v a in labels_fit v s k.0 k.2
+    written_fits : Fits (last_size r v) s
+    written_fits = let k = version_known r M n xs v a in labels_fit v s k.0 k.2
 
-    pub written-sound : Sound s.table × (length xs ≡ row_numbers * n)
-    written-sound = memory-sound r M n xs (⊎_elim (λ e. omega (arith, e)) (λ e. omega (arith, e)) o) (version_known r M n xs v a).1
+    pub written_sound : Sound s.table × (length xs ≡ row_numbers * n)
+    written_sound = memory_sound r M n xs (⊎_elim (λ e. omega (arith, e)) (λ e. omega (arith, e)) o) (version_known r M n xs v a).1
 
     pub written_back : Alike (file_labelled (bytes v s)) s
-    written_back = file_back v s o written-fits (memory_told r M n xs)
+    written_back = file_back v s o written_fits (memory_told r M n xs)
 
     pub written_read : numbers (file_labelled (bytes v s)) ≡ xs
-    written_read = numbers_alike written_back ∙ numbers_whole r M n xs written-sound.1
+    written_read = numbers_alike written_back ∙ numbers_whole r M n xs written_sound.1
 
-    pub written-passes : None (file_checks (bytes v s))
-    written-passes =
-        none_passed (bytes v s) (rw (mark-back v s o) (mark_marked o))
-        (rw (rings-back v s o, version-back v s o) (version_known r M n xs v a).0)
+    pub written_passes : None (file_checks (bytes v s))
+    written_passes =
+        none_passed (bytes v s) (rw (mark_back v s o) (mark_marked o))
+        (rw (rings_back v s o, version_back v s o) (version_known r M n xs v a).0)
         record {
           size =
               bytes_length v s o
               ∙ ap₂ (λ (w k : ℕ). header_size + w * k)
-              (ap₂ (λ (g u : ℕ). row_size g u) (sym (rings-back v s o)) (sym (version-back v s o))) (sym written_back.rows);
-          sound = sound_alike written_back written-sound.0;
+              (ap₂ (λ (g u : ℕ). row_size g u) (sym (rings_back v s o)) (sym (version_back v s o))) (sym written_back.rows);
+          sound = sound_alike written_back written_sound.0;
         }
 
 -- ---- the two calls
@@ -479,7 +479,7 @@ module _ (m : List ℕ) (v M n : ℕ) (xs : List ℕ) (room : ℕ) where
   pub writer_numbered : Numbered (writer_checks m v M n xs room)
   unfolding writer_checks Numbered
   writer_numbered =
-      (omega arith, numbered_join (version_checks (rings_of m) v M n xs) _ (version-numbered (rings_of m) M n xs v) (omega arith))
+      (omega arith, numbered_join (version_checks (rings_of m) v M n xs) _ (version_numbered (rings_of m) M n xs v) (omega arith))
 
   writer_none : Marked m → None (version_checks (rings_of m) v M n xs) → header_size + row_size (rings_of m) v * n ≤ room
       → None (writer_checks m v M n xs room)
@@ -519,11 +519,11 @@ read_then_written f was now p k v M n was' now' number place b c l w =
     ap₂ (λ (k : ℕ) (o : List ℕ). take (row_numbers * k) o) d.3 d.4
     ∙ lent_take (numbers t) was (row_numbers * t.table.rows) (numbers_length t) in
     let rings : r ≡ file_rings f = ap rings_of d.0 ∙ rings_front f in
-    let marked : Marked k = rw d.0 (read-marked f a) in
+    let marked : Marked k = rw d.0 (read_marked f a) in
     let none : None (writer_checks k v M n xs (length was')) =
     writer_none k v M n xs (length was') marked (rw (same, rings, d.1, d.2, d.3) (read_passes f a)) l in
     let z = call_must none w in
-    let file : bytes v t' ≡ f = rw (same, rings, d.1, d.2, d.3) (read-written f a b) in
+    let file : bytes v t' ≡ f = rw (same, rings, d.1, d.2, d.3) (read_written f a b) in
     let size : ℕ = header_size + row_size r v * n in
     (z.0, z.1, ap (take size) z.2 ∙ lent_take (bytes v t') was' size (bytes_length v t' (marked_own marked).0) ∙ file)
 
@@ -539,19 +539,19 @@ written_then_read m v M n xs was now p was' now' number place m' v' M' n' c l r 
     let a = k.1 in
     let own = marked_own k.0 in
     let o = own.0 in
-    let long : length xs ≡ row_numbers * n = (written-sound g v M n xs o a).1 in
+    let long : length xs ≡ row_numbers * n = (written_sound g v M n xs o a).1 in
     let file : take (header_size + row_size g v * n) now ≡ bytes v t =
     ap (take (header_size + row_size g v * n)) (c.done refl)
     ∙ lent_take (bytes v t) was (header_size + row_size g v * n) (bytes_length v t o) in
     let back = written_back g v M n xs o a in
     let none : None (reader_checks (bytes v t) (length was')) =
-    reader_none (bytes v t) (length was') (written-passes g v M n xs o a) (rw back.rows l) in
+    reader_none (bytes v t) (length was') (written_passes g v M n xs o a) (rw back.rows l) in
     let again : Read (bytes v t) was' now' number place m' v' M' n' = rw file at r in
     let z = call_must none again in (
       z.0,
       z.1,
-      z.2.0 ∙ mark-back v t o ∙ own.1,
-      z.2.1 ∙ version-back v t o,
+      z.2.0 ∙ mark_back v t o ∙ own.1,
+      z.2.1 ∙ version_back v t o,
       z.2.2 ∙ back.elements,
       z.2.3 ∙ back.rows,
       ap (take (row_numbers * n)) (z.2.4 ∙ ap (λ (ys : List ℕ). lent ys was') (written_read g v M n xs o a))

@@ -97,29 +97,29 @@ module _ (f : ℕ → List Check) where
   none_each zero h = tt
   none_each (suc n) h = none_join (each n f) (f n) (none_each n (λ i l. h i (omega arith))) (h n (le_refl (suc n)))
 
-  pub none-at : (n i : ℕ) → i < n → None (each n f) → None (f i)
+  pub none_at : (n i : ℕ) → i < n → None (each n f) → None (f i)
   unfolding each
-  none-at zero i l a = absurd (not-suc-le-zero l)
-  none-at (suc n) i l a =
-      ⊎_elim (λ (e : i ≡ n). rw e (none_right (each n f) (f n) a)) (λ k. none-at n i k (none_left (each n f) (f n) a)) (below l)
+  none_at zero i l a = absurd (not-suc-le-zero l)
+  none_at (suc n) i l a =
+      ⊎_elim (λ (e : i ≡ n). rw e (none_right (each n f) (f n) a)) (λ k. none_at n i k (none_left (each n f) (f n) a)) (below l)
 
   -- one more passes
-  pub none-next : (n : ℕ) → None (each n f) → None (f n) → None (each (n + 1) f)
+  pub none_next : (n : ℕ) → None (each n f) → None (f n) → None (each (n + 1) f)
   unfolding each
-  none-next n a b = rw add-one (none_join (each n f) (f n) a b)
+  none_next n a b = rw add-one (none_join (each n f) (f n) a b)
 
-  pub numbered-each : (n : ℕ) → ((i : ℕ) → Numbered (f i)) → Numbered (each n f)
+  pub numbered_each : (n : ℕ) → ((i : ℕ) → Numbered (f i)) → Numbered (each n f)
   unfolding each Numbered
-  numbered-each zero h = tt
-  numbered-each (suc n) h = numbered_join (each n f) (f n) (numbered-each n h) (h n)
+  numbered_each zero h = tt
+  numbered_each (suc n) h = numbered_join (each n f) (f n) (numbered_each n h) (h n)
 
   -- the first of several that refuses
-  pub stopped-at : (n i m p : ℕ) → i < n → m ≢ 0 → None (each i f) → Answers (f i) m p → Answers (each n f) m p
+  pub stopped_at : (n i m p : ℕ) → i < n → m ≢ 0 → None (each i f) → Answers (f i) m p → Answers (each n f) m p
   unfolding each
-  stopped-at zero i m p l h a r = absurd (not-suc-le-zero l)
-  stopped-at (suc n) i m p l h a r =
+  stopped_at zero i m p l h a r = absurd (not-suc-le-zero l)
+  stopped_at (suc n) i m p l h a r =
       ⊎_elim (λ (e : i ≡ n). joined (each n f) (f n) m p (rw e at a) (rw e at r))
-      (λ k. stopped (each n f) (f n) m p h (stopped-at n i m p k h a r)) (below l)
+      (λ k. stopped (each n f) (f n) m p h (stopped_at n i m p k h a r)) (below l)
 
 -- ---- only one answer fits
 
@@ -167,23 +167,23 @@ fit_each b d f (suc n) h = fit_join b d (each n f) (f n) (fit_each b d f n (λ i
 -- ---- one check for each of several
 
 module _ (c : ℕ → Check) where
-  pub single-none : (n : ℕ) → ((i : ℕ) → i < n → (c i).applies → ⊥) → None (each n (λ i. c i ∷ []))
+  pub single_none : (n : ℕ) → ((i : ℕ) → i < n → (c i).applies → ⊥) → None (each n (λ i. c i ∷ []))
   unfolding None
-  single-none n h = none_each (λ i. c i ∷ []) n (λ i l. (h i l, tt))
+  single_none n h = none_each (λ i. c i ∷ []) n (λ i l. (h i l, tt))
 
-  pub none-single : (n : ℕ) → None (each n (λ i. c i ∷ [])) → (i : ℕ) → i < n → (c i).applies → ⊥
+  pub none_single : (n : ℕ) → None (each n (λ i. c i ∷ [])) → (i : ℕ) → i < n → (c i).applies → ⊥
   unfolding None
-  none-single n a i l = (none-at (λ i. c i ∷ []) n i l a).0
+  none_single n a i l = (none_at (λ i. c i ∷ []) n i l a).0
 
-  pub single-numbered : (n : ℕ) → ((i : ℕ) → (c i).number ≢ 0) → Numbered (each n (λ i. c i ∷ []))
+  pub single_numbered : (n : ℕ) → ((i : ℕ) → (c i).number ≢ 0) → Numbered (each n (λ i. c i ∷ []))
   unfolding Numbered
-  single-numbered n h = numbered-each (λ i. c i ∷ []) n (λ i. (h i, tt))
+  single_numbered n h = numbered_each (λ i. c i ∷ []) n (λ i. (h i, tt))
 
   -- the lowest that applies
-  pub single-stopped : (n i : ℕ) → i < n → (c i).number ≢ 0 → ((j : ℕ) → j < i → (c j).applies → ⊥) → (c i).applies
+  pub single_stopped : (n i : ℕ) → i < n → (c i).number ≢ 0 → ((j : ℕ) → j < i → (c j).applies → ⊥) → (c i).applies
       → Answers (each n (λ i. c i ∷ [])) (c i).number (c i).place
-  single-stopped n i l h u a =
-      stopped-at (λ i. c i ∷ []) n i (c i).number (c i).place l h (single-none i u)
+  single_stopped n i l h u a =
+      stopped_at (λ i. c i ∷ []) n i (c i).number (c i).place l h (single_none i u)
       (applied (c i) [] (c i).number (c i).place a refl refl)
 
 -- ---- the checks of a list, by position

@@ -39,24 +39,24 @@ lent_headed was mid out h rest k e l q r =
 
 module _ (cs : List Check) (A : Type 0) {Done Refused : Type 0} where
   -- a check before refuses
-  pub call-refused : {n p : ℕ} → Answers cs n p → n ≢ 0 → Refused → Call (cs ++ (short_output A ∷ [])) n p Done Refused
-  call-refused {n} {p} a h r = record {
+  pub call_refused : {n p : ℕ} → Answers cs n p → n ≢ 0 → Refused → Call (cs ++ (short_output A ∷ [])) n p Done Refused
+  call_refused {n} {p} a h r = record {
     answers = stopped cs (short_output A ∷ []) n p h a;
     done = λ e. absurd (h e);
     refused = λ g. r;
   }
 
   -- the output is too short
-  pub call-short : None cs → A → Refused → Call (cs ++ (short_output A ∷ [])) 17 0 Done Refused
-  call-short a h r = record {
+  pub call_short : None cs → A → Refused → Call (cs ++ (short_output A ∷ [])) 17 0 Done Refused
+  call_short a h r = record {
     answers = joined cs (short_output A ∷ []) 17 0 a (applied (short_output A) [] 17 0 h refl refl);
     done = λ e. absurd (let z : ⊥ = omega arith in z);
     refused = λ g. r;
   }
 
   -- no check refuses
-  pub call-done : {n p : ℕ} → Numbered cs → Answers cs n p → n ≡ 0 → (A → ⊥) → Done → Call (cs ++ (short_output A ∷ [])) n p Done Refused
-  call-done {n} {p} m a e h d =
+  pub call_done : {n p : ℕ} → Numbered cs → Answers cs n p → n ≡ 0 → (A → ⊥) → Done → Call (cs ++ (short_output A ∷ [])) n p Done Refused
+  call_done {n} {p} m a e h d =
       let s = none_of cs p m (rw e at a) in
       let z = answers_only cs n 0 p 0 a (answered cs s) in
       rw (z.0, z.1) (record {

@@ -18,8 +18,8 @@ use Rattle.numbers.specs.Codec.{read_low, write_low}
 use Rattle.numbers.proofs.Truth.{fst, snd, refutes}
 use Rattle.numbers.proofs.Finite.{every_at, lowest_is}
 use Rattle.numbers.proofs.Pairs.{pair_gcd_step, pair_gcd_zero, pair_lcm_by}
-use Rattle.numbers.proofs.Divisors.{dvd_of, lcm-of-least}
-use Rattle.numbers.proofs.Tests.{Test, and-test, every-test}
+use Rattle.numbers.proofs.Divisors.{dvd_of, lcm_of_least}
+use Rattle.numbers.proofs.Tests.{Test, and_test, every_test}
 use Rattle.rules.specs.Bus.{Table, unlabelled, mirror, mirror_segment, steps, uses, through, overlap, pasted}
 use Rattle.rules.specs.TableFile.{version_1, version_2, rings_of, mark_of, label_size, last_size, way_in, label_in, last_of}
 use Rattle.rules.specs.TableFile.{row_bytes, bytes}
@@ -37,9 +37,9 @@ use Rattle.rules.specs.Cases.{none_had, b_at, Cases}
 use Rattle.rules.specs.Cases.{uneven, uneven_with}
 use Rattle.rules.specs.Cases.{board, turned_with, round_turned, twice_with}
 use Rattle.rules.specs.Cases.{through_1, halved_equal, light_behind, over_behind}
-use Rattle.rules.proofs.Sets.{set-in, sets-only, sets-by}
-use Rattle.rules.proofs.Verdict.{verdict_by, relayed-by, relayed-stops}
-use Rattle.rules.proofs.Steps.{Outcome, Outcomes, Best, rounded_test, qualify-test, moved_on, outcomes-by, best_test}
+use Rattle.rules.proofs.Sets.{set_in, sets_only, sets_by}
+use Rattle.rules.proofs.Verdict.{verdict_by, relayed_by, relayed_stops}
+use Rattle.rules.proofs.Steps.{Outcome, Outcomes, Best, rounded_test, qualify_test, moved_on, outcomes_by, best_test}
 use Rattle.rules.proofs.Steps.{step_is, step_of, run_first, standing_at}
 use Rattle.rules.proofs.Plans.{run_more}
 
@@ -60,40 +60,40 @@ file t = bytes version_1 (unlabelled t)
 
 sets_A : Sets case_A (3 ∷ 6 ∷ [])
 unfolding computing
-sets_A = sets-by case_A (3 ∷ 6 ∷ []) tt
+sets_A = sets_by case_A (3 ∷ 6 ∷ []) tt
 
 -- whatever the second cost
 sets_B : (cost : ℕ) → Sets (case_B_with cost) (3 ∷ [])
 unfolding computing
-sets_B cost = sets-by (case_B_with cost) (3 ∷ []) tt
+sets_B cost = sets_by (case_B_with cost) (3 ∷ []) tt
 
 sets_thirds : Sets thirds (1 ∷ [])
 unfolding computing
-sets_thirds = sets-by thirds (1 ∷ []) tt
+sets_thirds = sets_by thirds (1 ∷ []) tt
 
 sets_halves : Sets halves (3 ∷ 6 ∷ [])
 unfolding computing
-sets_halves = sets-by halves (3 ∷ 6 ∷ []) tt
+sets_halves = sets_by halves (3 ∷ 6 ∷ []) tt
 
 sets_board : Sets board (3 ∷ 12 ∷ [])
 unfolding computing
-sets_board = sets-by board (3 ∷ 12 ∷ []) tt
+sets_board = sets_by board (3 ∷ 12 ∷ []) tt
 
 sets_turned : Sets (turned_with 1 1) (3 ∷ [])
 unfolding computing
-sets_turned = sets-by (turned_with 1 1) (3 ∷ []) tt
+sets_turned = sets_by (turned_with 1 1) (3 ∷ []) tt
 
 sets_apart : Sets (turned_with 1 0) (2 ∷ 1 ∷ [])
 unfolding computing
-sets_apart = sets-by (turned_with 1 0) (2 ∷ 1 ∷ []) tt
+sets_apart = sets_by (turned_with 1 0) (2 ∷ 1 ∷ []) tt
 
 sets_through : Sets (split through_1 1) (5 ∷ 2 ∷ [])
 unfolding computing
-sets_through = sets-by (split through_1 1) (5 ∷ 2 ∷ []) tt
+sets_through = sets_by (split through_1 1) (5 ∷ 2 ∷ []) tt
 
 -- a list of sets that is there is the only one
 listed : (t : Table) (ws vs : List ℕ) → 0 < t.rows → Sets t vs → Sets t ws ↔ (ws ≡ vs)
-listed t ws vs some S = ((λ A. sets-only some A S), (λ e. subst (Sets t) (sym e) S))
+listed t ws vs some S = ((λ A. sets_only some A S), (λ e. subst (Sets t) (sym e) S))
 
 -- ---- the outcomes of each step: loads, and words
 
@@ -103,7 +103,7 @@ whole = (2 ∷ 1 ∷ 2 ∷ [], 5 ∷ 5 ∷ 2 ∷ 0 ∷ [])
 
 step_A : Outcomes case_A 0 none_had (whole ∷ [])
 unfolding computing
-step_A = outcomes-by case_A (3 ∷ 6 ∷ []) sets_A 0 none_had (whole ∷ []) tt
+step_A = outcomes_by case_A (3 ∷ 6 ∷ []) sets_A 0 none_had (whole ∷ []) tt
 
 -- Case B has two. In the first, row 1 has one slot or two, and in the second the other number.
 abbrev one : Outcome
@@ -114,11 +114,11 @@ two = (1 ∷ 2 ∷ [], 1 ∷ 2 ∷ 2 ∷ 0 ∷ [])
 
 step_B : Outcomes case_B 0 none_had (one ∷ two ∷ [])
 unfolding computing
-step_B = outcomes-by case_B (3 ∷ []) (sets_B 3) 0 none_had (one ∷ two ∷ []) tt
+step_B = outcomes_by case_B (3 ∷ []) (sets_B 3) 0 none_had (one ∷ two ∷ []) tt
 
 after_two : Outcomes case_B 1 (moved_on none_had two.0) (one ∷ [])
 unfolding computing
-after_two = outcomes-by case_B (3 ∷ []) (sets_B 3) 1 (moved_on none_had two.0) (one ∷ []) tt
+after_two = outcomes_by case_B (3 ∷ []) (sets_B 3) 1 (moved_on none_had two.0) (one ∷ []) tt
 
 -- the split table has one
 abbrev halves_moved : Outcome
@@ -126,7 +126,7 @@ halves_moved = (1 ∷ 1 ∷ 1 ∷ [], 3 ∷ 4 ∷ [])
 
 step_through : Outcomes (split through_1 1) 0 none_had (halves_moved ∷ [])
 unfolding computing
-step_through = outcomes-by (split through_1 1) (5 ∷ 2 ∷ []) sets_through 0 none_had (halves_moved ∷ []) tt
+step_through = outcomes_by (split through_1 1) (5 ∷ 2 ∷ []) sets_through 0 none_had (halves_moved ∷ []) tt
 
 best_through : Best (split through_1 1) 0 none_had (halves_moved ∷ []) halves_moved
 unfolding computing
@@ -154,7 +154,7 @@ abbrev kept_test : (s : ℕ) (totals : List ℕ) → Test (
     × Rounded (sum_in 2 (bit 3) (at totals)) (sum_in 2 (bit 3) (λ i. share case_B i s)) (hyperperiod case_B)
     )
 kept_test s totals =
-    and-test (every-test 2 (λ i. rounded_test (at totals i) (share case_B i s) (hyperperiod case_B)))
+    and_test (every_test 2 (λ i. rounded_test (at totals i) (share case_B i s) (hyperperiod case_B)))
     (rounded_test (sum_in 2 (bit 3) (at totals)) (sum_in 2 (bit 3) (λ i. share case_B i s)) (hyperperiod case_B))
 
 b_not_off : (s : Stage) (totals : List ℕ) → ((k : ℕ) → s ≡ due k → k < 2) → length totals ≤ 2
@@ -167,7 +167,7 @@ b_not_off s totals number few h = go
     go (Off.spare i l m ne) = ne (get_or-eq_default totals 0 (omega arith))
     go (Off.row i l ne) = ne (((kept_test (reached case_B s) totals).is h).0 i l)
     go (Off.set D o ne) =
-        let r = set-in (sets_B 3) o in
+        let r = set_in (sets_B 3) o in
         let first : r.0 ≡ 0 = omega (arith, r.1) in
         let e : bit 3 ≡ D = ap (λ (k : ℕ). bit (at (3 ∷ []) k)) (sym first) ∙ r.2 in
         ne (subst
@@ -212,7 +212,7 @@ hyper_uneven : (cost : ℕ) → hyperperiod (uneven_with cost) ≡ 60
 unfolding every hyperperiod
 hyper_uneven cost =
     let p : ℕ → ℕ = (uneven_with cost).period in
-    lcm-of-least 3 p (λ i l. ltb→lt 0 (p i) (every_at 3 (λ i. ltb 0 (p i)) tt i l)) 60
+    lcm_of_least 3 p (λ i l. ltb→lt 0 (p i) (every_at 3 (λ i. ltb 0 (p i)) tt i l)) 60
     (record {
       multiple = λ i l. dvd_of (p i) 60 (every_at 3 (λ i. divides (p i) 60) tt i l);
       least = λ k M. (pair_lcm_by 12 20 4 (lit< tt) four).least k (M 0 (lit< tt)) (M 1 (lit< tt));
@@ -289,8 +289,8 @@ cases = record {
   two_thirds_sets = λ ws. listed thirds ws (1 ∷ []) (lit< tt) sets_thirds;
   two_thirds = refl;
   light_lag = (refl, refl, refl);
-  sum_met = (qualify-test halves 0 (3 ∷ 6 ∷ []) sets_halves none_had (at (2 ∷ 1 ∷ 1 ∷ []))).is tt;
-  sum_over = (qualify-test halves 0 (3 ∷ 6 ∷ []) sets_halves none_had (at (2 ∷ 2 ∷ 1 ∷ []))).of;
+  sum_met = (qualify_test halves 0 (3 ∷ 6 ∷ []) sets_halves none_had (at (2 ∷ 1 ∷ 1 ∷ []))).is tt;
+  sum_over = (qualify_test halves 0 (3 ∷ 6 ∷ []) sets_halves none_had (at (2 ∷ 2 ∷ 1 ∷ []))).of;
   late = Off.late 2 refl (lit≤ tt);
   all_done = b_not_off finished (2 ∷ 3 ∷ []) (λ k e. let z : ◌≡◌ {A = ℕ} 0 1 = cc in omega arith) (lit≤ tt) tt;
   on_time = b_not_off (due 1) (1 ∷ 2 ∷ []) (λ k e. let z : 1 ≡ k = cc in omega arith) (lit≤ tt) tt;
@@ -323,25 +323,25 @@ cases = record {
   cost_first = verdict_by (file (twice_with 0 0 2)) (1 ∷ 2 ∷ []) 9 1 tt tt refl;
   row_first = verdict_by (file (twice_with 2 0 0)) (2 ∷ 1 ∷ []) 26 0 tt tt refl;
   round_relays = (
-    relayed-by (file round) 1 (9 ∷ 3 ∷ 6 ∷ []) 0 0 tt tt refl,
-    relayed-by (file round) 2 (6 ∷ 12 ∷ 9 ∷ []) 0 0 tt tt refl,
-    relayed-by (file round) 3 (12 ∷ 9 ∷ 3 ∷ []) 0 0 tt tt refl,
+    relayed_by (file round) 1 (9 ∷ 3 ∷ 6 ∷ []) 0 0 tt tt refl,
+    relayed_by (file round) 2 (6 ∷ 12 ∷ 9 ∷ []) 0 0 tt tt refl,
+    relayed_by (file round) 3 (12 ∷ 9 ∷ 3 ∷ []) 0 0 tt tt refl,
   );
   round_cuts = (refl, refl, refl);
-  round_wrong = (relayed-stops (file round) 0 27 0 tt refl, relayed-stops (file round) 4 27 0 tt refl);
+  round_wrong = (relayed_stops (file round) 0 27 0 tt refl, relayed_stops (file round) 4 27 0 tt refl);
   round_halves = (refl, refl, refl, refl, refl, refl, refl);
-  no_halves = (refl, relayed-by (file case_A) 1 (3 ∷ 6 ∷ []) 0 0 tt tt refl);
-  equal_halves = relayed-by (file halved_equal) 2 (5 ∷ 2 ∷ []) 0 0 tt tt refl;
-  given_first = relayed-stops (file (pasted_with 1)) 0 18 1 tt refl;
+  no_halves = (refl, relayed_by (file case_A) 1 (3 ∷ 6 ∷ []) 0 0 tt tt refl);
+  equal_halves = relayed_by (file halved_equal) 2 (5 ∷ 2 ∷ []) 0 0 tt tt refl;
+  given_first = relayed_stops (file (pasted_with 1)) 0 18 1 tt refl;
   lower_cut = refl;
   light_place = (
-    relayed-by (file light_behind) 2 (1 ∷ 2 ∷ 4 ∷ []) 13 2 tt tt refl,
+    relayed_by (file light_behind) 2 (1 ∷ 2 ∷ 4 ∷ []) 13 2 tt tt refl,
     verdict_by (file light_behind) (1 ∷ 2 ∷ []) 13 1 tt tt refl,
   );
   over_place = (
-    relayed-by (file over_behind) 2 (1 ∷ 6 ∷ []) 14 1 tt tt refl,
+    relayed_by (file over_behind) 2 (1 ∷ 6 ∷ []) 14 1 tt tt refl,
     verdict_by (file over_behind) (3 ∷ []) 14 0 tt tt refl,
   );
-  board_relay = relayed-stops (file board) 1 2 0 tt refl;
+  board_relay = relayed_stops (file board) 1 2 0 tt refl;
   through_1_words = plan_through;
 }

@@ -1,11 +1,11 @@
 -- Laws of document 01, "Loads of one interval, and its slots": the order in which rows are taken, and that an interval has one list of
 -- words at most.
 --
---   before-is, before_of    the order of two rows in plain numbers
---   free-eq, chosen_eq      what is free for a row, and what it takes of that, hang on the rows taken before it alone
---   earliest-only           rows that each have the earliest slots have the same slots
---   words-only              only one list of words fits
---   words-as                tests, ends and loads that agree on the rows give the same words
+--   before_is, before_of    the order of two rows in plain numbers
+--   free_eq, chosen_eq      what is free for a row, and what it takes of that, hang on the rows taken before it alone
+--   earliest_only           rows that each have the earliest slots have the same slots
+--   words_only              only one list of words fits
+--   words_as                tests, ends and loads that agree on the rows give the same words
 use mathlib.Core.Path.{◌≡◌, sym, ap, ap₂, ◌∙◌}
 use mathlib.Core.Logic.{◌⊎◌, inl, inr, ⊎_elim}
 use mathlib.Core.List.{List}
@@ -28,9 +28,9 @@ use Rattle.rules.specs.Interval.{before, hinders, free, Earliest, moves, SlotWor
 -- ---- the order in which rows are taken
 
 module _ (f : ℕ → ℕ) (j i : ℕ) where
-  pub before-is : T (before f j i) → (f j < f i) ⊎ ((f j ≡ f i) × (j < i))
+  pub before_is : T (before f j i) → (f j < f i) ⊎ ((f j ≡ f i) × (j < i))
   unfolding before
-  before-is h =
+  before_is h =
       ⊎_elim (λ a. inl (ltb→lt (f j) (f i) a))
       (λ a. inr (eqb→eq (f j) (f i) (fst (eqb (f j) (f i)) (ltb j i) a), ltb→lt j i (snd (eqb (f j) (f i)) (ltb j i) a)))
       (or_cases (ltb (f j) (f i)) (eqb (f j) (f i) && ltb j i) h)
@@ -42,21 +42,21 @@ module _ (f : ℕ → ℕ) (j i : ℕ) where
       (λ a. orr (ltb (f j) (f i)) (eqb (f j) (f i) && ltb j i)
       (both (eqb (f j) (f i)) (ltb j i) (eqb_of (f j) (f i) a.0) (lt→ltb j i a.1))) h
 
-  pub before-le : T (before f j i) → f j ≤ f i
-  before-le h = ⊎_elim (λ a. omega arith) (λ a. omega arith) (before-is h)
+  pub before_le : T (before f j i) → f j ≤ f i
+  before_le h = ⊎_elim (λ a. omega arith) (λ a. omega arith) (before_is h)
 
   -- among n rows it is the order of one number a row
-  pub before-rank : (n : ℕ) → j < n → T (before f j i) → f j * n + j < f i * n + i
-  before-rank n l h = ⊎_elim (λ a. omega (arith, mul-le-mul_right n a)) (λ a. omega (arith, ap (λ (k : ℕ). k * n) a.0)) (before-is h)
+  pub before_rank : (n : ℕ) → j < n → T (before f j i) → f j * n + j < f i * n + i
+  before_rank n l h = ⊎_elim (λ a. omega (arith, mul-le-mul_right n a)) (λ a. omega (arith, ap (λ (k : ℕ). k * n) a.0)) (before_is h)
 
 pub before_asym : (f : ℕ → ℕ) (i j : ℕ) → T (before f i j) → T (before f j i) → ⊥
 before_asym f i j h k =
-    ⊎_elim (λ a. ⊎_elim (λ b. omega arith) (λ b. omega arith) (before-is f j i k))
-    (λ a. ⊎_elim (λ b. omega arith) (λ b. omega arith) (before-is f j i k))
-    (before-is f i j h)
+    ⊎_elim (λ a. ⊎_elim (λ b. omega arith) (λ b. omega arith) (before_is f j i k))
+    (λ a. ⊎_elim (λ b. omega arith) (λ b. omega arith) (before_is f j i k))
+    (before_is f i j h)
 
 pub before_self : (f : ℕ → ℕ) (i : ℕ) → T (before f i i) → ⊥
-before_self f i h = ⊎_elim (λ a. omega arith) (λ a. omega arith) (before-is f i i h)
+before_self f i h = ⊎_elim (λ a. omega arith) (λ a. omega arith) (before_is f i i h)
 
 -- of two different rows one is taken before the other
 pub before_total : (f : ℕ → ℕ) (i j : ℕ) → (T (before f i j) → ⊥) → (T (before f j i) → ⊥) → i ≡ j
@@ -79,9 +79,9 @@ moves_lt ws i s t =
 
 module _ (n : ℕ) (o : ℕ → ℕ → Bool) (f : ℕ → ℕ) where
   -- what is free for row i hangs on the rows taken before it alone
-  pub free-eq : (P Q : ℕ → ℕ → Bool) (i s : ℕ) → ((j : ℕ) → j < n → T (before f j i) → P j s ≡ Q j s) → free n o f P i s ≡ free n o f Q i s
+  pub free_eq : (P Q : ℕ → ℕ → Bool) (i s : ℕ) → ((j : ℕ) → j < n → T (before f j i) → P j s ≡ Q j s) → free n o f P i s ≡ free n o f Q i s
   unfolding free hinders
-  free-eq P Q i s h =
+  free_eq P Q i s h =
       ap not (any_eq n (λ j. hinders o f j i && P j s) (λ j. hinders o f j i && Q j s)
       (λ j l. and_under (hinders o f j i) (P j s) (Q j s) (λ u. h j l (fst (before f j i) (o j i) u))))
 
@@ -97,19 +97,19 @@ module _ (n : ℕ) (o : ℕ → ℕ → Bool) (f x y : ℕ → ℕ) (l : ℕ) (a
   one P Q G H (suc r) i s b h m =
       G i s h m
       ∙ chosen_eq (free n o f P i) (free n o f Q i) (x i) l s m
-      (λ u k. free-eq n o f P Q i u (λ j d w. one P Q G H r j u (omega (arith, before-rank f j i n d w)) d k))
+      (λ u k. free_eq n o f P Q i u (λ j d w. one P Q G H r j u (omega (arith, before_rank f j i n d w)) d k))
       ∙ ap (λ (k : ℕ). free n o f Q i s && ltb (count s (free n o f Q i)) k) (agree i h)
       ∙ sym (H i s h m)
 
-  pub earliest-only : (P Q : ℕ → ℕ → Bool) → Earliest n o f x l P → Earliest n o f y l Q → (i s : ℕ) → i < n → s < l → P i s ≡ Q i s
-  earliest-only P Q G H i s h m = one P Q G H (suc (f i * n + i)) i s (le_refl (suc (f i * n + i))) h m
+  pub earliest_only : (P Q : ℕ → ℕ → Bool) → Earliest n o f x l P → Earliest n o f y l Q → (i s : ℕ) → i < n → s < l → P i s ≡ Q i s
+  earliest_only P Q G H i s h m = one P Q G H (suc (f i * n + i)) i s (le_refl (suc (f i * n + i))) h m
 
   -- loads that agree on the n rows have one list of words at most
-  pub words-only : (ws vs : List ℕ) → SlotWords n o f x l ws → SlotWords n o f y l vs → ws ≡ vs
-  words-only ws vs A B =
+  pub words_only : (ws vs : List ℕ) → SlotWords n o f x l ws → SlotWords n o f y l vs → ws ≡ vs
+  words_only ws vs A B =
       ext_get_or 0 ws vs (A.size ∙ sym B.size) (λ s m. bit_ext (at ws s) (at vs s) (λ i.
       ⊎_elim
-      (λ a. earliest-only (moves ws) (moves vs) A.earliest B.earliest i s (ltb→lt i n a) (omega (arith, A.size)))
+      (λ a. earliest_only (moves ws) (moves vs) A.earliest B.earliest i s (ltb→lt i n a) (omega (arith, A.size)))
       (λ a. is_false (moves ws i s) (λ w. a (lt→ltb i n (A.rows i s w)))
       ∙ sym (is_false (moves vs i s) (λ w. a (lt→ltb i n (B.rows i s w)))))
       (decide (ltb i n))))
@@ -122,18 +122,18 @@ hinders_eq o p f g j i a b c = ap₂ (λ (m k : ℕ). (ltb m k || (eqb m k && lt
 
 module _ (n : ℕ) (o p : ℕ → ℕ → Bool) (f g x y : ℕ → ℕ) (tests : (i j : ℕ) → i < n → j < n → o i j ≡ p i j)
     (ends : (i : ℕ) → i < n → f i ≡ g i) (loads : (i : ℕ) → i < n → x i ≡ y i) where
-  free-as : (P : ℕ → ℕ → Bool) (i s : ℕ) → i < n → free n o f P i s ≡ free n p g P i s
+  free_as : (P : ℕ → ℕ → Bool) (i s : ℕ) → i < n → free n o f P i s ≡ free n p g P i s
   unfolding free
-  free-as P i s h =
+  free_as P i s h =
       ap not (any_eq n (λ j. hinders o f j i && P j s) (λ j. hinders p g j i && P j s)
       (λ j d. ap (λ (b : Bool). b && P j s) (hinders_eq o p f g j i (tests j i d h) (ends j d) (ends i h))))
 
-  pub words-as : (l : ℕ) (ws : List ℕ) → SlotWords n o f x l ws → SlotWords n p g y l ws
-  words-as l ws W = record {
+  pub words_as : (l : ℕ) (ws : List ℕ) → SlotWords n o f x l ws → SlotWords n p g y l ws
+  words_as l ws W = record {
     size = W.size;
     rows = W.rows;
     earliest = λ i s h m.
         W.earliest i s h m
-        ∙ chosen_eq (free n o f (moves ws) i) (free n p g (moves ws) i) (x i) l s m (λ u k. free-as (moves ws) i u h)
+        ∙ chosen_eq (free n o f (moves ws) i) (free n p g (moves ws) i) (x i) l s m (λ u k. free_as (moves ws) i u h)
         ∙ ap (λ (k : ℕ). free n p g (moves ws) i s && ltb (count s (free n p g (moves ws) i)) k) (loads i h);
   }

@@ -17,7 +17,7 @@ use Rattle.rules.specs.Line.{line_first}
 use Rattle.rules.specs.Loads.{start, end, intervals}
 use Rattle.rules.specs.Interval.{Greatest}
 use Rattle.rules.specs.Planner.{Stage, Planner, fresh, next, Step, Run, none, more, WholePlan}
-use Rattle.rules.proofs.Interval.{words-only}
+use Rattle.rules.proofs.Interval.{words_only}
 
 -- ---- the loads
 
@@ -38,25 +38,25 @@ planner_same s h = ap₂ (λ (s : Stage) (f : ℕ → ℕ). record { stage = s; 
 
 -- two steps in the same interval
 module _ {t : Table} {p q r : Planner} {ws vs : List ℕ} (a : Step t p q ws) (b : Step t p r vs) (e : b.interval ≡ a.interval) where
-  loads-same : (i : ℕ) → i < t.rows → a.loads i ≡ b.loads i
-  loads-same = greatest_only a.greatest (rw e at b.greatest)
+  loads_same : (i : ℕ) → i < t.rows → a.loads i ≡ b.loads i
+  loads_same = greatest_only a.greatest (rw e at b.greatest)
 
   words_same : ws ≡ vs
   words_same =
-      words-only t.rows (overlap t) (line_first t) a.loads b.loads (end t a.interval - start t a.interval) loads-same ws vs
+      words_only t.rows (overlap t) (line_first t) a.loads b.loads (end t a.interval - start t a.interval) loads_same ws vs
       a.words (rw e at b.words)
 
-  totals-same : (i : ℕ) → q.totals i ≡ r.totals i
-  totals-same i =
+  totals_same : (i : ℕ) → q.totals i ≡ r.totals i
+  totals_same i =
       ⊎_elim (λ h. a.spare i h ∙ sym (b.spare i h))
-      (λ h. omega (arith, a.moved i h, b.moved i h, loads-same i h))
+      (λ h. omega (arith, a.moved i h, b.moved i h, loads_same i h))
       (le_or_lt t.rows i)
 
 module _ {t : Table} where
   pub step_only : {p q r : Planner} {ws vs : List ℕ} → Step t p q ws → Step t p r vs → (q ≡ r) × (ws ≡ vs)
   step_only a b =
       let e : b.interval ≡ a.interval = let x = a.is_due in let y = b.is_due in cc in
-      (planner_same (a.after ∙ ap (next t) (sym e) ∙ sym b.after) (totals-same a b e), words_same a b e)
+      (planner_same (a.after ∙ ap (next t) (sym e) ∙ sym b.after) (totals_same a b e), words_same a b e)
 
   -- ---- the whole plan
 

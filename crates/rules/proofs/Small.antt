@@ -145,13 +145,13 @@ module _ (f : List ℕ) (r : ℕ) where
   abbrev given : Table
   given = file_table f
 
-  relay-fit : Fit last_number last_place (relay_checks given r)
+  relay_fit : Fit last_number last_place (relay_checks given r)
   unfolding relay_checks Fit
-  relay-fit = (lit≤ tt, lit≤ tt, (lit≤ tt, lit≤ tt, tt))
+  relay_fit = (lit≤ tt, lit≤ tt, (lit≤ tt, lit≤ tt, tt))
 
-  split-small : (n p : ℕ) → Answers (split_checks f r) n p → (n ≤ last_number) × (p ≤ last_place)
+  split_small : (n p : ℕ) → Answers (split_checks f r) n p → (n ≤ last_number) × (p ≤ last_place)
   unfolding split_checks given_checks file_checks Fit
-  split-small n p a =
+  split_small n p a =
       let front = short_file f ∷ wrong_mark f ∷ [] in
       let past = pasted_checks given ++ relay_checks given r in
       ⊎_elim
@@ -160,24 +160,24 @@ module _ (f : List ℕ) (r : ℕ) where
       small_by f (row_checks given ++ past) n p
       (λ low few.
       fit_join last_number last_place (row_checks given) past (rows_fit given few)
-      (fit_join last_number last_place (pasted_checks given) (relay_checks given r) (pasted_fit given few) relay-fit))
+      (fit_join last_number last_place (pasted_checks given) (relay_checks given r) (pasted_fit given few) relay_fit))
       (rw (append_assoc, append_assoc) at b.1))
       (answers_split front (given_checks f ++ relay_checks given r) n p a)
 
   -- past 28 the split table has no more rows than a table may have
-  few-split : None (split_checks f r) → (split given r).rows ≤ max_rows
+  few_split : None (split_checks f r) → (split given r).rows ≤ max_rows
   unfolding split_checks relay_checks None
-  few-split none =
+  few_split none =
       let few = (none_right (short_file f ∷ wrong_mark f ∷ given_checks f) (relay_checks given r) none).1.0 in
       omega (arith, few)
 
-  pub relayed-small : (n p : ℕ) → Answers (relayed_checks f r) n p → (n ≤ last_number) × (p ≤ last_place)
+  pub relayed_small : (n p : ℕ) → Answers (relayed_checks f r) n p → (n ≤ last_number) × (p ≤ last_place)
   unfolding relayed_checks relayed_line_checks Fit
-  relayed-small n p a =
+  relayed_small n p a =
       let t = split given r in
       let past = long_hyperperiod t ∷ bound_checks t in
-      ⊎_elim (split-small n p)
-      (λ b. answers_fit last_number last_place past n p (lit≤ tt, lit≤ tt, bound_fit t (few-split b.0)) b.1)
+      ⊎_elim (split_small n p)
+      (λ b. answers_fit last_number last_place past n p (lit≤ tt, lit≤ tt, bound_fit t (few_split b.0)) b.1)
       (answers_split (split_checks f r) past n p (rw append_assoc at a))
 
 -- ---- of two rows, and of plans

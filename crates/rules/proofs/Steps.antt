@@ -35,21 +35,21 @@ use Rattle.numbers.proofs.Tests.{
   le_test,
   eq_test,
   same_test,
-  as-test,
-  and-test,
+  as_test,
+  and_test,
   three_test,
-  or-test,
-  if-test,
-  every-test,
-  one-test,
-  each-test,
+  or_test,
+  if_test,
+  every_test,
+  one_test,
+  each_test,
   OneOf,
   EachOf,
   one_out,
   one_map,
 }
-use Rattle.rules.proofs.Sets.{set-in}
-use Rattle.rules.proofs.Interval.{moves_lt, words-only}
+use Rattle.rules.proofs.Sets.{set_in}
+use Rattle.rules.proofs.Interval.{moves_lt, words_only}
 use Rattle.rules.proofs.Plans.{greatest_only, run_none, run_more}
 
 abbrev pub Same : ℕ → (ℕ → ℕ) → (ℕ → ℕ) → Type 0
@@ -58,33 +58,33 @@ Same n x y = (i : ℕ) → i < n → x i ≡ y i
 -- ---- the words of an interval
 
 module _ (n : ℕ) (o : ℕ → ℕ → Bool) (f x : ℕ → ℕ) (l : ℕ) (ws : List ℕ) where
-  pub words-below : SlotWords n o f x l ws → (s : ℕ) → at ws s < 2 ^ n
-  words-below W s = lt_of_bits n (at ws s) (λ i a m. omega (arith, W.rows i s m))
+  pub words_below : SlotWords n o f x l ws → (s : ℕ) → at ws s < 2 ^ n
+  words_below W s = lt_of_bits n (at ws s) (λ i a m. omega (arith, W.rows i s m))
 
-  abbrev pub words-test : Test (SlotWords n o f x l ws)
-  words-test =
-      as-test (three_test
+  abbrev pub words_test : Test (SlotWords n o f x l ws)
+  words_test =
+      as_test (three_test
       (eq_test (length ws) l)
-      (every-test (length ws) (λ s. lt_test (at ws s) (2 ^ n)))
-      (every-test n (λ i. every-test l (λ s.
+      (every_test (length ws) (λ s. lt_test (at ws s) (2 ^ n)))
+      (every_test n (λ i. every_test l (λ s.
       same_test (moves ws i s) (free n o f (moves ws) i s && ltb (count s (free n o f (moves ws) i)) (x i))))))
       (λ h. record {
         size = h.0;
         rows = λ i s m. bit_lt n (at ws s) i (h.1 s (moves_lt ws i s m)) m;
         earliest = λ i s a b. h.2 i a s b;
       })
-      (λ W. (W.size, (λ s a. words-below W s), (λ i a s b. W.earliest i s a b)))
+      (λ W. (W.size, (λ s a. words_below W s), (λ i a s b. W.earliest i s a b)))
 
 -- ---- the loads that qualify
 
 abbrev pub rounded_test : (n a b : ℕ) → Test (Rounded n a b)
 unfolding Rounded
-rounded_test n a b = or-test (eq_test n (down a b)) (eq_test n (up a b))
+rounded_test n a b = or_test (eq_test n (down a b)) (eq_test n (up a b))
 
 module _ (t : Table) (k : ℕ) where
   -- only what the rows of the table have had and take counts
-  pub qualify-same : (had had' x y : ℕ → ℕ) → Same t.rows had had' → Same t.rows x y → Qualify t k had x → Qualify t k had' y
-  qualify-same had had' x y d e Q = record {
+  pub qualify_same : (had had' x y : ℕ → ℕ) → Same t.rows had had' → Same t.rows x y → Qualify t k had x → Qualify t k had' y
+  qualify_same had had' x y d e Q = record {
     rows = λ i l. subst (λ (z : ℕ). Rounded z (share t i (end t k)) (hyperperiod t)) (ap₂ ◌+◌ (d i l) (e i l)) (Q.rows i l);
     sets = λ D S. subst (λ (z : ℕ). Rounded z (sum_in t.rows D (λ i. share t i (end t k))) (hyperperiod t))
         (ap₂ ◌+◌ (sum_same D had had' d) (sum_same D x y e)) (Q.sets D S);
@@ -100,24 +100,24 @@ module _ (t : Table) (k : ℕ) where
       Rounded (sum_in t.rows D had + sum_in t.rows D x) (sum_in t.rows D (λ i. share t i (end t k))) (hyperperiod t)
       × (sum_in t.rows D x ≤ end t k - start t k)
 
-  abbrev pub summed-test : (had x : ℕ → ℕ) (D : ℕ → Bool) → Test (Summed had x D)
-  summed-test had x D =
-      and-test
+  abbrev pub summed_test : (had x : ℕ → ℕ) (D : ℕ → Bool) → Test (Summed had x D)
+  summed_test had x D =
+      and_test
       (rounded_test (sum_in t.rows D had + sum_in t.rows D x) (sum_in t.rows D (λ i. share t i (end t k))) (hyperperiod t))
       (le_test (sum_in t.rows D x) (end t k - start t k))
 
   module _ (ws : List ℕ) (A : Sets t ws) (had x : ℕ → ℕ) where
     -- what each set of the list has, every overlap set has
-    pub all-summed : ((m : ℕ) → m < length ws → Summed had x (bit (at ws m))) → (D : ℕ → Bool) → OverlapSet t.rows (overlap t) D
+    pub all_summed : ((m : ℕ) → m < length ws → Summed had x (bit (at ws m))) → (D : ℕ → Bool) → OverlapSet t.rows (overlap t) D
         → Summed had x D
-    all-summed h D S = let r = set-in A S in subst (Summed had x) r.2 (h r.0 r.1)
+    all_summed h D S = let r = set_in A S in subst (Summed had x) r.2 (h r.0 r.1)
 
-    abbrev pub qualify-test : Test (Qualify t k had x)
-    qualify-test =
-        as-test (and-test
-        (every-test t.rows (λ i. rounded_test (had i + x i) (share t i (end t k)) (hyperperiod t)))
-        (every-test (length ws) (λ m. summed-test had x (bit (at ws m)))))
-        (λ h. record { rows = h.0; sets = λ D S. (all-summed h.1 D S).0; fits = λ D S. (all-summed h.1 D S).1 })
+    abbrev pub qualify_test : Test (Qualify t k had x)
+    qualify_test =
+        as_test (and_test
+        (every_test t.rows (λ i. rounded_test (had i + x i) (share t i (end t k)) (hyperperiod t)))
+        (every_test (length ws) (λ m. summed_test had x (bit (at ws m)))))
+        (λ h. record { rows = h.0; sets = λ D S. (all_summed h.1 D S).0; fits = λ D S. (all_summed h.1 D S).1 })
         (λ Q. (Q.rows, λ m l. (Q.sets (bit (at ws m)) (A.each m l), Q.fits (bit (at ws m)) (A.each m l))))
 
 -- ---- there are finitely many loads to try
@@ -137,9 +137,9 @@ module _ (t : Table) (k : ℕ) (had x : ℕ → ℕ) where
   abbrev ups : ℕ → Bool
   ups i = eqb (had i + x i) (most_had t k i)
 
-  pub loads-chosen : Qualify t k had x → (c : ℕ) × (c < 2 ^ t.rows) × Same t.rows x (chosen t k had c)
+  pub loads_chosen : Qualify t k had x → (c : ℕ) × (c < 2 ^ t.rows) × Same t.rows x (chosen t k had c)
   unfolding Rounded
-  loads-chosen Q =
+  loads_chosen Q =
       (word t.rows ups, word_lt t.rows ups, λ i l. go i l (bit (word t.rows ups) i) (bit_word t.rows ups i) (Q.rows i l))
     where
       go : (i : ℕ) → i < t.rows → (b : Bool) → b ≡ (ltb i t.rows && ups i)
@@ -166,35 +166,35 @@ pub record Outcomes (t : Table) (k : ℕ) (had : ℕ → ℕ) (outs : List Outco
   pub each : EachOf outs (Fits t k had)
 
 module _ (t : Table) (ws : List ℕ) (A : Sets t ws) (k : ℕ) (had : ℕ → ℕ) (outs : List Outcome) where
-  abbrev pub fits-test : (o : Outcome) → Test (Fits t k had o)
-  fits-test o =
-      as-test (three_test
+  abbrev pub fits_test : (o : Outcome) → Test (Fits t k had o)
+  fits_test o =
+      as_test (three_test
       (le_test (length o.0) t.rows)
-      (qualify-test t k ws A had (at o.0))
-      (and-test
-      (words-test t.rows (overlap t) (line_first t) (at o.0) (end t k - start t k) o.1)
-      (every-test t.rows (λ i. eq_test (count (end t k - start t k) (moves o.1 i)) (at o.0 i)))))
+      (qualify_test t k ws A had (at o.0))
+      (and_test
+      (words_test t.rows (overlap t) (line_first t) (at o.0) (end t k - start t k) o.1)
+      (every_test t.rows (λ i. eq_test (count (end t k - start t k) (moves o.1 i)) (at o.0 i)))))
       (λ h. record { rows = h.0; qualify = h.1; words = h.2.0; placed = h.2.1 })
       (λ F. (F.rows, F.qualify, (F.words, F.placed)))
 
   -- the loads to try are among the outcomes if they qualify, and each outcome is one
-  abbrev pub outcomes-test : Test (
+  abbrev pub outcomes_test : Test (
       ((c : ℕ) → c < 2 ^ t.rows → Qualify t k had (chosen t k had c) → OneOf outs (λ o. Same t.rows (chosen t k had c) (at o.0)))
       × EachOf outs (Fits t k had)
       )
-  outcomes-test =
-      and-test
-      (every-test (2 ^ t.rows) (λ c. if-test (qualify-test t k ws A had (chosen t k had c))
-      (one-test outs _ (λ o. every-test t.rows (λ i. eq_test (chosen t k had c i) (at o.0 i))))))
-      (each-test outs _ fits-test)
+  outcomes_test =
+      and_test
+      (every_test (2 ^ t.rows) (λ c. if_test (qualify_test t k ws A had (chosen t k had c))
+      (one_test outs _ (λ o. every_test t.rows (λ i. eq_test (chosen t k had c i) (at o.0 i))))))
+      (each_test outs _ fits_test)
 
-  pub outcomes-by : T outcomes-test.test → Outcomes t k had outs
-  outcomes-by h =
-      let r = outcomes-test.is h in
+  pub outcomes_by : T outcomes_test.test → Outcomes t k had outs
+  outcomes_by h =
+      let r = outcomes_test.is h in
       record {
-        only = λ x Q. let c = loads-chosen t k had x Q in
+        only = λ x Q. let c = loads_chosen t k had x Q in
             one_map outs (λ o s i l. c.2 i l ∙ s i l)
-            (r.0 c.0 c.1 (qualify-same t k had had x (chosen t k had c.0) (λ i l. refl) c.2 Q));
+            (r.0 c.0 c.1 (qualify_same t k had had x (chosen t k had c.0) (λ i l. refl) c.2 Q));
         each = r.1;
       }
 
@@ -208,15 +208,15 @@ pub record Best (t : Table) (k : ℕ) (had : ℕ → ℕ) (outs : List Outcome) 
 abbrev pub best_test : (t : Table) (ws : List ℕ) → Sets t ws → (k : ℕ) (had : ℕ → ℕ) (outs : List Outcome) (b : Outcome)
     → Test (Best t k had outs b)
 best_test t ws A k had outs b =
-    as-test (and-test (fits-test t ws A k had outs b)
-    (each-test outs _ (λ o. every-test t.rows (λ i.
-    if-test (every-test i (λ j. eq_test (at o.0 j) (at b.0 j))) (le_test (at o.0 i) (at b.0 i))))))
+    as_test (and_test (fits_test t ws A k had outs b)
+    (each_test outs _ (λ o. every_test t.rows (λ i.
+    if_test (every_test i (λ j. eq_test (at o.0 j) (at b.0 j))) (le_test (at o.0 i) (at b.0 i))))))
     (λ h. record { fits = h.0; beats = h.1 })
     (λ B. (B.fits, B.beats))
 
 module _ {t : Table} {k : ℕ} {had : ℕ → ℕ} {outs : List Outcome} {b : Outcome} (O : Outcomes t k had outs) (B : Best t k had outs b) where
-  pub best-greatest : Greatest t.rows (Qualify t k had) (at b.0)
-  best-greatest = record {
+  pub best_greatest : Greatest t.rows (Qualify t k had) (at b.0)
+  best_greatest = record {
     qualify = B.fits.qualify;
     most = λ z Q i l same.
         one_out outs (λ o f e. omega (arith, e i l, f i l (λ j m. sym (e j (omega arith)) ∙ same j m))) B.beats (O.only z Q);
@@ -242,8 +242,8 @@ due_same j k e = cc
 greatest_as : {t : Table} {k : ℕ} {had had' x : ℕ → ℕ} → Same t.rows had had' → Greatest t.rows (Qualify t k had) x
     → Greatest t.rows (Qualify t k had') x
 greatest_as {t} {k} {had} {had'} {x} d G = record {
-  qualify = qualify-same t k had had' x x d (λ i l. refl) G.qualify;
-  most = λ z Q. G.most z (qualify-same t k had' had z z (λ i l. sym (d i l)) (λ i l. refl) Q);
+  qualify = qualify_same t k had had' x x d (λ i l. refl) G.qualify;
+  most = λ z Q. G.most z (qualify_same t k had' had z z (λ i l. sym (d i l)) (λ i l. refl) Q);
 }
 
 module _ {t : Table} {k : ℕ} {had : ℕ → ℕ} {outs : List Outcome} {o : Outcome} (O : Outcomes t k had outs) (B : Best t k had outs o) where
@@ -252,8 +252,8 @@ module _ {t : Table} {k : ℕ} {had : ℕ → ℕ} {outs : List Outcome} {o : Ou
       let e : s.interval ≡ k = due_same s.interval k (sym s.is_due ∙ a.0) in
       let G : Greatest t.rows (Qualify t k p.totals) s.loads =
       subst (λ (j : ℕ). Greatest t.rows (Qualify t j p.totals) s.loads) e s.greatest in
-      let x = greatest_only (greatest_as a.1 G) (best-greatest O B) in (
-        words-only t.rows (overlap t) (line_first t) s.loads (at o.0) (end t k - start t k) x ws o.1
+      let x = greatest_only (greatest_as a.1 G) (best_greatest O B) in (
+        words_only t.rows (overlap t) (line_first t) s.loads (at o.0) (end t k - start t k) x ws o.1
             (subst (λ (j : ℕ). SlotWords t.rows (overlap t) (line_first t) s.loads (end t j - start t j) ws) e s.words)
             B.fits.words,
         (s.after ∙ ap (next t) e, λ i l. s.moved i l ∙ ap₂ ◌+◌ (a.1 i l) (x i l)),
@@ -264,7 +264,7 @@ module _ {t : Table} {k : ℕ} {had : ℕ → ℕ} {outs : List Outcome} {o : Ou
     interval = k;
     is_due = refl;
     loads = at o.0;
-    greatest = best-greatest O B;
+    greatest = best_greatest O B;
     words = B.fits.words;
     placed = B.fits.placed;
     moved = λ i l. refl;

@@ -47,7 +47,7 @@ unfoldable pub intervals : Table → ℕ
 intervals t = count (hyperperiod t) (job_end t)
 
 -- That none is shorter than L, that one is as short, and that L is the least greatest common divisor of any two periods, are theorems
--- (`lags`, proofs/Intervals: `end-far`, `shortest-some`, `shortest-gcd`).
+-- (`lags`, proofs/Intervals: `end_far`, `shortest_some`, `shortest_gcd`).
 unfoldable pub some_interval : Table → ℕ → Bool
 some_interval t l = any (hyperperiod t) (λ s. job_end t s && eqb (next_end t s) (s + l))
 

@@ -40,23 +40,23 @@ one_length true x = refl
 one_length false x = refl
 
 module _ (p : ℕ → Bool) where
-  pub keep-each : (e k : ℕ) → k < length (keep p e) → T (p (at (keep p e) k)) × (at (keep p e) k < e)
+  pub keep_each : (e k : ℕ) → k < length (keep p e) → T (p (at (keep p e) k)) × (at (keep p e) k < e)
   unfolding keep
-  keep-each zero k h = absurd (not-suc-le-zero h)
-  keep-each (suc e) k h =
+  keep_each zero k h = absurd (not-suc-le-zero h)
+  keep_each (suc e) k h =
       ⊎_elim
-      (λ a. let ih = keep-each e k a.0 in (subst (λ (x : ℕ). T (p x)) (sym a.1) ih.0, omega (arith, a.1, ih.1)))
+      (λ a. let ih = keep_each e k a.0 in (subst (λ (x : ℕ). T (p x)) (sym a.1) ih.0, omega (arith, a.1, ih.1)))
       (λ a. (subst (λ (x : ℕ). T (p x)) (sym a.2) a.0, omega (arith, a.2)))
       (one_cases (p e) (keep p e) e k h)
 
-  pub keep-order : (e k l : ℕ) → k < l → l < length (keep p e) → at (keep p e) k < at (keep p e) l
+  pub keep_order : (e k l : ℕ) → k < l → l < length (keep p e) → at (keep p e) k < at (keep p e) l
   unfolding keep
-  keep-order zero k l h m = absurd (not-suc-le-zero m)
-  keep-order (suc e) k l h m =
+  keep_order zero k l h m = absurd (not-suc-le-zero m)
+  keep_order (suc e) k l h m =
       ⊎_elim
-      (λ a. omega (arith, keep-order e k l h a.0, get_or-append (keep p e) (one (p e) e) 0 k (omega (arith, a.0)), a.1))
+      (λ a. omega (arith, keep_order e k l h a.0, get_or-append (keep p e) (one (p e) e) 0 k (omega (arith, a.0)), a.1))
       (λ a. let i : k < length (keep p e) = omega (arith, a.1) in
-      omega (arith, (keep-each e k i).1, get_or-append (keep p e) (one (p e) e) 0 k i, a.2))
+      omega (arith, (keep_each e k i).1, get_or-append (keep p e) (one (p e) e) 0 k i, a.2))
       (one_cases (p e) (keep p e) e l m)
 
   pub keep_all : (e x : ℕ) → x < e → T (p x) → (k : ℕ) × (k < length (keep p e)) × (at (keep p e) k ≡ x)
@@ -73,10 +73,10 @@ module _ (p : ℕ → Bool) where
       last true u q = (length (keep p e), omega (arith, length-append (keep p e) (e ∷ [])), get_or-append_seam (keep p e) e [] 0 ∙ sym q)
       last false u q = absurd u
 
-  pub keep-length : (e : ℕ) → length (keep p e) ≡ count e p
+  pub keep_length : (e : ℕ) → length (keep p e) ≡ count e p
   unfolding keep sum
-  keep-length zero = refl
-  keep-length (suc e) = omega (arith, keep-length e, length-append (keep p e) (one (p e) e), one_length (p e) e)
+  keep_length zero = refl
+  keep_length (suc e) = omega (arith, keep_length e, length-append (keep p e) (one (p e) e), one_length (p e) e)
 
 pub map_one : (g : ℕ → ℕ) (xs : List ℕ) (b : Bool) (x : ℕ) → map g (xs ++ one b x) ≡ map g xs ++ one b (g x)
 map_one g [] true x = refl

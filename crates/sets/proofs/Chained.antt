@@ -4,7 +4,7 @@
 --   rest r                    how many rows may be left on the chain from r on
 --   chain_start, chain_more, chain_end
 --                             no row is chained; one more is, the one before those that are; all are
---   head-only, next-only      only one head and one next fit
+--   head_only, next_only      only one head and one next fit
 use mathlib.Core.Path.{◌≡◌, refl, sym, ap, ◌∙◌, subst, subst₂}
 use mathlib.Core.Logic.{⊎_elim}
 use mathlib.Core.List.{List}
@@ -107,13 +107,13 @@ chain_end {n} {f} {head = head} {next = next} C q = subst (λ (k : ℕ). Chained
 -- ---- only one answer fits
 
 module _ {n : ℕ} {f : ℕ → ℕ} {head head' next next' : List ℕ} (C : Chained n f head next) (D : Chained n f head' next') where
-  pub head-only : head ≡ head'
-  head-only =
+  pub head_only : head ≡ head'
+  head_only =
       ext_get_or 0 head head' (C.head_size ∙ sym D.head_size)
       (λ e h. let m : e < all_heads = omega (arith, C.head_size) in link_only (C.heads e m) (D.heads e m))
 
-  pub next-only : next ≡ next'
-  next-only =
+  pub next_only : next ≡ next'
+  next_only =
       ext_get_or 0 next next' (C.next_size ∙ sym D.next_size)
       (λ j h. ⊎_elim (λ m. C.spare j m ∙ sym (D.spare j m))
       (λ m. link_only (C.nexts j (omega arith) m) (D.nexts j (omega arith) m)) (le_or_lt n j))

@@ -26,8 +26,8 @@ use Rattle.numbers.proofs.Lists.{Filled, filled_start, filled_put, filled_take, 
 use Rattle.rules.specs.Bounds.{max_rows}
 use Rattle.sets.specs.Walk.{line_size, across, ends_at, RowsAt}
 use Rattle.sets.specs.Sets.{OnLine, SetWords}
-use Rattle.sets.proofs.Overlap.{started, closes, across-is, across-of}
-use Rattle.sets.proofs.List.{across_word, sets_to, bit-across, setsTo-none, setsTo-put, setsTo-skip, setsTo-few, sets-are}
+use Rattle.sets.proofs.Overlap.{started, closes, across_is, across_of}
+use Rattle.sets.proofs.List.{across_word, sets_to, bit_across, sets_to_none, sets_to_put, sets_to_skip, sets_to_few, sets_are}
 
 -- ---- rows by their ends
 
@@ -64,14 +64,14 @@ filling_end {n} {ends = ends} {words = words} q F = record {
 
 module _ {n : ℕ} {ends : ℕ → ℕ} {words : List ℕ} (R : RowsAt n ends words) (e : ℕ) (l : e < line_size) where
   -- a word that is 0 has no row
-  pub none-there : at words e ≡ 0 → ends_at n ends e ≡ false
-  none-there z =
+  pub none_there : at words e ≡ 0 → ends_at n ends e ≡ false
+  none_there z =
       any_none n (λ j. eqb (ends j) e)
       (λ j h t.
       of_false (sym (R.row e j l) ∙ ap (λ (v : ℕ). bit v j) z ∙ bit_zero j) (both (ltb j n) (eqb (ends j) e) (lt→ltb j n h) t))
 
-  pub some-there : at words e ≢ 0 → ends_at n ends e ≡ true
-  some-there d =
+  pub some_there : at words e ≢ 0 → ends_at n ends e ≡ true
+  some_there d =
       is_true (ends_at n ends e)
       (⊎_elim (λ t. t)
       (λ f. absurd (d (bit_ext (at words e) 0
@@ -88,8 +88,8 @@ pub across_start : (n : ℕ) (first second : ℕ → ℕ) → 0 ≡ across_word 
 across_start n first second =
     bit_ext 0 (across_word n first second 0)
     (λ i. bit_zero i
-    ∙ sym (bit-across n first second 0 i
-    ∙ is_false (across n first second 0 i) (λ t. let z : ⊥ = omega (arith, (across-is n first second 0 i t).1) in z)))
+    ∙ sym (bit_across n first second 0 i
+    ∙ is_false (across n first second 0 i) (λ t. let z : ⊥ = omega (arith, (across_is n first second 0 i t).1) in z)))
 
 grown : (A B C D : Bool) → (T D → (T A × (T B → ⊥)) ⊎ T C) → (T A → (T B → ⊥) → T D) → (T B → T A) → (T C → T D)
     → (cond A (not B) B || C) ≡ D
@@ -101,17 +101,17 @@ grown false false C D f g h k = same C D k (λ t. ⊎_elim (λ w. absurd w.0) (�
 module _ {n : ℕ} {first second : ℕ → ℕ} (line : (i : ℕ) → i < n → first i < second i) {starts ends : List ℕ}
     (S : RowsAt n first starts) (E : RowsAt n second ends) where
   -- those that end at e leave, those that start there join
-  pub across-next : (e w : ℕ) → e < line_size → w ≡ across_word n first second e
+  pub across_next : (e w : ℕ) → e < line_size → w ≡ across_word n first second e
       → bit_or (bit_xor w (at ends e)) (at starts e) ≡ across_word n first second (e + 1)
-  across-next e w l q =
+  across_next e w l q =
       bit_ext (bit_or (bit_xor w (at ends e)) (at starts e)) (across_word n first second (e + 1))
       (λ i.
       bit_or_lem (bit_xor w (at ends e)) (at starts e) i
       ∙ ap₂ ◌||◌
       (bit_xor_lem w (at ends e) i
-      ∙ ap₂ (λ (a b : Bool). cond a (not b) b) (ap (λ (v : ℕ). bit v i) q ∙ bit-across n first second e i) (E.row e i l))
+      ∙ ap₂ (λ (a b : Bool). cond a (not b) b) (ap (λ (v : ℕ). bit v i) q ∙ bit_across n first second e i) (E.row e i l))
       (S.row e i l)
-      ∙ moved e i ∙ sym (bit-across n first second (e + 1) i))
+      ∙ moved e i ∙ sym (bit_across n first second (e + 1) i))
     where
       there : (g : ℕ → ℕ) (e i : ℕ) → T (ltb i n && eqb (g i) e) → (i < n) × (g i ≡ e)
       there g e i t = (ltb→lt i n (fst (ltb i n) (eqb (g i) e) t), eqb→eq (g i) e (snd (ltb i n) (eqb (g i) e) t))
@@ -122,18 +122,18 @@ module _ {n : ℕ} {first second : ℕ → ℕ} (line : (i : ℕ) → i < n → 
       moved e i =
           grown (across n first second e i) (ltb i n && eqb (second i) e) (ltb i n && eqb (first i) e) (across n first second (e + 1) i)
           (λ t.
-          let a = across-is n first second (e + 1) i t in
+          let a = across_is n first second (e + 1) i t in
           ⊎_elim
           (λ (m : e ≤ first i). inr (both (ltb i n) (eqb (first i) e) (lt→ltb i n a.0) (eqb_of (first i) e (omega arith))))
           (λ (m : first i < e).
-          inl (across-of n first second e i a.0 m (omega arith), λ b. let q = there second e i b in omega arith))
+          inl (across_of n first second e i a.0 m (omega arith), λ b. let q = there second e i b in omega arith))
           (le_or_lt e (first i)))
           (λ t b.
-          let a = across-is n first second e i t in
+          let a = across_is n first second e i t in
           let d : second i ≢ e = λ q. b (both (ltb i n) (eqb (second i) e) (lt→ltb i n a.0) (eqb_of (second i) e q)) in
-          across-of n first second (e + 1) i a.0 (omega arith) (omega arith))
-          (λ t. let b = there second e i t in across-of n first second e i b.0 (omega (arith, line i b.0)) (omega arith))
-          (λ t. let c = there first e i t in across-of n first second (e + 1) i c.0 (omega arith) (omega (arith, line i c.0)))
+          across_of n first second (e + 1) i a.0 (omega arith) (omega arith))
+          (λ t. let b = there second e i t in across_of n first second e i b.0 (omega (arith, line i b.0)) (omega arith))
+          (λ t. let c = there first e i t in across_of n first second (e + 1) i c.0 (omega arith) (omega (arith, line i c.0)))
 
 -- what stands at e, as the walk sees it
 
@@ -147,7 +147,7 @@ pub here : (n : ℕ) (first second : ℕ → ℕ) (e w : ℕ) → w ≡ across_w
 here n first second e w q = record {
   starts_is = refl;
   ends_is = refl;
-  word_is = λ i. ap (λ (v : ℕ). bit v i) q ∙ bit-across n first second e i;
+  word_is = λ i. ap (λ (v : ℕ). bit v i) q ∙ bit_across n first second e i;
 }
 
 -- ---- the walk
@@ -162,7 +162,7 @@ pub record Ended (n : ℕ) (first second : ℕ → ℕ) (e : ℕ) (was : List �
 
 pub walked_start : (n : ℕ) (first second : ℕ → ℕ) (was : List ℕ) → Walked n first second 0 was false 0 was
 unfolding started
-walked_start n first second was = record { begun_is = refl; filled = rw (setsTo-none n first second) (filled_start was) }
+walked_start n first second was = record { begun_is = refl; filled = rw (sets_to_none n first second) (filled_start was) }
 
 started_next : (n : ℕ) (first second : ℕ → ℕ) (e : ℕ) (starts : Bool) → starts ≡ ends_at n first e
     → started n first second (e + 1) ≡ (starts || (started n first second e && not (ends_at n second e)))
@@ -177,52 +177,52 @@ ended_as p q r E = record { begun_is = r ∙ E.begun_is; filled = rw (p, q) E.fi
 
 module _ {n : ℕ} {first second : ℕ → ℕ} {e : ℕ} {was : List ℕ} {begun : Bool} {k : ℕ} {words : List ℕ} {starts ends : Bool} {w : ℕ} where
   -- whether a set closes at e
-  closes-is : Walked n first second e was begun k words → Here n first second e starts ends w → closes n first second e ≡ (ends && begun)
-  closes-is W P = sym (ap₂ ◌&&◌ P.ends_is W.begun_is)
+  closes_is : Walked n first second e was begun k words → Here n first second e starts ends w → closes n first second e ≡ (ends && begun)
+  closes_is W P = sym (ap₂ ◌&&◌ P.ends_is W.begun_is)
 
   -- a set closes: there is room for it, and its word is put
-  pub walked-room : Walked n first second e was begun k words → Here n first second e starts ends w → ends ≡ true → begun ≡ true → k < n
-  walked-room W P h o =
+  pub walked_room : Walked n first second e was begun k words → Here n first second e starts ends w → ends ≡ true → begun ≡ true → k < n
+  walked_room W P h o =
       omega (
         arith,
         W.filled.count,
-        ap length (setsTo-put n first second e (closes-is W P ∙ ap₂ ◌&&◌ h o)),
+        ap length (sets_to_put n first second e (closes_is W P ∙ ap₂ ◌&&◌ h o)),
         length-append (sets_to n first second e) (across_word n first second e ∷ []),
-        setsTo-few n first second (e + 1),
+        sets_to_few n first second (e + 1),
       )
 
-  pub ended-put : Walked n first second e was begun k words → Here n first second e starts ends w → ends ≡ true → begun ≡ true
+  pub ended_put : Walked n first second e was begun k words → Here n first second e starts ends w → ends ≡ true → begun ≡ true
       → n ≤ length was → Ended n first second e was false (k + 1) (set words k w)
-  ended-put W P h o l = record {
+  ended_put W P h o l = record {
     begun_is = sym (ap₂ (λ (a b : Bool). a && not b) (sym W.begun_is ∙ o) (sym P.ends_is ∙ h));
     filled =
         let q : across_word n first second e ≡ w =
-        bit_ext (across_word n first second e) w (λ i. bit-across n first second e i ∙ sym (P.word_is i)) in
-        rw (setsTo-put n first second e (closes-is W P ∙ ap₂ ◌&&◌ h o), q) (filled_put w W.filled (omega (arith, walked-room W P h o)));
+        bit_ext (across_word n first second e) w (λ i. bit_across n first second e i ∙ sym (P.word_is i)) in
+        rw (sets_to_put n first second e (closes_is W P ∙ ap₂ ◌&&◌ h o), q) (filled_put w W.filled (omega (arith, walked_room W P h o)));
   }
 
   -- rows end at e, and no set does
-  pub ended-none : Walked n first second e was begun k words → Here n first second e starts ends w → ends ≡ true → begun ≡ false
+  pub ended_none : Walked n first second e was begun k words → Here n first second e starts ends w → ends ≡ true → begun ≡ false
       → Ended n first second e was false k words
-  ended-none W P h o = record {
+  ended_none W P h o = record {
     begun_is = sym (ap (λ (a : Bool). a && not (ends_at n second e)) (sym W.begun_is ∙ o));
-    filled = rw (setsTo-skip n first second e (closes-is W P ∙ ap₂ ◌&&◌ h o)) W.filled;
+    filled = rw (sets_to_skip n first second e (closes_is W P ∙ ap₂ ◌&&◌ h o)) W.filled;
   }
 
   -- no row ends at e
-  pub ended-still : Walked n first second e was begun k words → Here n first second e starts ends w → ends ≡ false
+  pub ended_still : Walked n first second e was begun k words → Here n first second e starts ends w → ends ≡ false
       → Ended n first second e was begun k words
-  ended-still W P h = record {
+  ended_still W P h = record {
     begun_is =
         W.begun_is
         ∙ sym (ap (λ (b : Bool). started n first second e && not b) (sym P.ends_is ∙ h) ∙ and-true (started n first second e));
-    filled = rw (setsTo-skip n first second e (closes-is W P ∙ ap (λ (a : Bool). a && begun) h)) W.filled;
+    filled = rw (sets_to_skip n first second e (closes_is W P ∙ ap (λ (a : Bool). a && begun) h)) W.filled;
   }
 
   -- rows start at e, or none does
-  pub walked-starts : Ended n first second e was begun k words → Here n first second e starts ends w → starts ≡ true
+  pub walked_starts : Ended n first second e was begun k words → Here n first second e starts ends w → starts ≡ true
       → {begun' : Bool} → begun' ≡ true → Walked n first second (e + 1) was begun' k words
-  walked-starts E P h r = record {
+  walked_starts E P h r = record {
     begun_is =
         r ∙ sym (started_next n first second e starts P.starts_is
         ∙ ap (λ (b : Bool). b || (started n first second e && not (ends_at n second e))) h);
@@ -245,7 +245,7 @@ pub walked_end : {n : ℕ} {first second : ℕ → ℕ} {top e : ℕ} {was : Lis
     → SetWords n first second k words
 walked_end {n} {first} {second} {e = e} O l size none W = record {
   size = W.filled.same ∙ size;
-  few = omega (arith, W.filled.count, setsTo-few n first second e);
-  sets = rw (filled_take W.filled) (sets-are n first second O.line O.some e (λ i m. omega (arith, O.within i m)));
+  few = omega (arith, W.filled.count, sets_to_few n first second e);
+  sets = rw (filled_take W.filled) (sets_are n first second O.line O.some e (λ i m. omega (arith, O.within i m)));
   rest = λ i m. filled_rest W.filled i m ∙ none i;
 }

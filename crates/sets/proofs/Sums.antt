@@ -58,8 +58,8 @@ module _ (w i : ℕ) (small : i < 64) where
     sum_past l = sum_eq n _ _ (λ j m. ap (λ (b : Bool). only b (g j)) (other j (λ e. omega arith)))
 
     -- it is, and it was in
-    pub sum-without : i < n → bit w i ≡ true → sum_in n (bit w) g ≡ sum_in n (bit (without w i)) g + g i
-    sum-without l h =
+    pub sum_without : i < n → bit w i ≡ true → sum_in n (bit w) g ≡ sum_in n (bit (without w i)) g + g i
+    sum_without l h =
         sum_bump n (λ j. only (bit (without w i) j) (g j)) (λ j. only (bit w j) (g j)) i (g i) l
         (λ j m d. ap (λ (b : Bool). only b (g j)) (sym (other j d)))
         (omega (

@@ -16,13 +16,13 @@ use Rattle.rules.specs.Refusals.{short_output, header_checks, file_checks, given
 use Rattle.rules.specs.Calls.{one_ring_ask, lent}
 use Rattle.rules.proofs.Answers.{None, Numbered, none_of, none_left, numbered_join}
 use Rattle.rules.proofs.Calls.{lent_take, call_must}
-use Rattle.decoding.proofs.OneRing.{one-rings}
+use Rattle.decoding.proofs.OneRing.{one_rings}
 use Rattle.verdict.proofs.Bound.{verdict_numbered, admissible_of}
 use Rattle.promises.specs.Demands.{Carries}
 use Rattle.promises.proofs.Demands.{plan_carries}
 use Rattle.lists.proofs.RoundTrip.{bytes_length}
 use Rattle.maker.proofs.Answered.{made_only}
-use Rattle.maker.proofs.Promises.{maker-none, few, made_entries}
+use Rattle.maker.proofs.Promises.{maker_none, few, made_entries}
 use Rattle.supervisor.specs.ToC.{list_refusal, ListToC}
 use Rattle.supervisor.specs.Boundary.{ToldApart, ElementOfPlan}
 
@@ -85,8 +85,8 @@ element_of_plan f plan plan' e was now s r m P z L there room =
     let clean = carried_clean t w.0 plan' C words in
     let size = bytes_length (moves_list t e plan') in
     let own = own_none f m none in
-    let least = few t e plan' A.sound (one-rings f (verdict_checks f) own) clean in
+    let least = few t e plan' A.sound (one_rings f (verdict_checks f) own) clean in
     let must = call_must
-    (maker-none (one_ring_ask f) plan' e (length was) (length (list_bytes (moves_list t e plan'))) own there clean
+    (maker_none (one_ring_ask f) plan' e (length was) (length (list_bytes (moves_list t e plan'))) own there clean
     (omega (arith, C.size, ap length w.2, lent_long w.0 plan)) (omega (arith, size, least, A.short, room))) L.made in
     (L.size must.0 ∙ ap (λ (k : ℕ). list_header + entry_size * k) must.2.1 ∙ sym size, must.2.2)

@@ -12,11 +12,11 @@ use Rattle.outline.proofs.Listed.{file_listed_only}
 use Rattle.verdict.specs.declared.Verdict.{Verdict}
 use Rattle.verdict.specs.declared.Verdict.TheVariants.{Admitted}
 use Rattle.verdict.specs.Verdict.{cut_of, other_of, interval_of, hyper_of, load_of, sets_of, IsVerdict}
-use Rattle.verdict.proofs.Judging.{judged-only}
+use Rattle.verdict.proofs.Judging.{judged_only}
 use Rattle.planner.proofs.Only.{plan_only}
 use Rattle.raising.proofs.Writing.{raised_only}
 use Rattle.supervisor.specs.ToC.{VerdictToC, values, values_checks, Valued, ValuesToC, SharedToC, SetsToC, PlanToC, RaiseToC}
-use Rattle.supervisor.proofs.Values.{values-none}
+use Rattle.supervisor.proofs.Values.{values_none}
 
 pub verdict_to_c_only : (a : Ask) (r s : ℕ) → VerdictToC a r → VerdictToC a s → r ≡ s
 verdict_to_c_only a r s A B =
@@ -35,8 +35,8 @@ values_to_c_only f was now then r s A B =
     same = answers_only (values_checks f (length was)) _ _ _ _ A.called.answers B.called.answers
 
     -- the values are those of a verdict, and only one verdict fits
-    is-verdict : None (verdict_checks f) → {now : List ℕ} (d : Valued f was now) → IsVerdict f (verdict_of d)
-    is-verdict none d = record {
+    is_verdict : None (verdict_checks f) → {now : List ℕ} (d : Valued f was now) → IsVerdict f (verdict_of d)
+    is_verdict none d = record {
       answers = answered (verdict_checks f) none;
       done = λ e. d.admitted;
       refused = λ e. absurd (e refl);
@@ -44,10 +44,10 @@ values_to_c_only f was now then r s A B =
 
     go : Dec (A.number ≡ 0) → now ≡ then
     go (yes z) =
-        let none = values-none f (length was) A.place (rw z at A.called.answers) in
+        let none = values_none f (length was) A.place (rw z at A.called.answers) in
         let a = A.called.done z in
         let b = B.called.done (sym same.0 ∙ z) in
-        let e = judged-only f (verdict_of a) (verdict_of b) (is-verdict none a) (is-verdict none b) in
+        let e = judged_only f (verdict_of a) (verdict_of b) (is_verdict none a) (is_verdict none b) in
         a.written
         ∙ ap (λ (v : Verdict). lent (values (cut_of v) (other_of v) (interval_of v) (hyper_of v) (load_of v) (sets_of v)) was) e
         ∙ sym b.written

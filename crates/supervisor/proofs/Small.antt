@@ -14,15 +14,15 @@ use Rattle.rules.specs.Raising.{raise_checks}
 use Rattle.rules.proofs.Answers.{Fit, stopped, answered, none_of, answers_only, answers_split, answers_fit}
 use Rattle.rules.proofs.Small.{last_place, verdict_small}
 use Rattle.outline.specs.Outlined.{outline_checks}
-use Rattle.outline.proofs.Outlined.{outline-numbered}
+use Rattle.outline.proofs.Outlined.{outline_numbered}
 
 module _ (f : List ℕ) where
   -- a refusal by 1 to 9, 18, 10 and 11 is the verdict's too
-  outline-small : (n p : ℕ) → Answers (outline_checks f) n p → Dec (n ≡ 0) → (n ≤ last_number) × (p ≤ last_place)
+  outline_small : (n p : ℕ) → Answers (outline_checks f) n p → Dec (n ≡ 0) → (n ≤ last_number) × (p ≤ last_place)
   unfolding verdict_checks
-  outline-small n p a (no h) = verdict_small f n p (stopped (outline_checks f) (bound_checks (file_table f)) n p h a)
-  outline-small n p a (yes z) =
-      let none = none_of (outline_checks f) p (outline-numbered f) (rw z at a) in
+  outline_small n p a (no h) = verdict_small f n p (stopped (outline_checks f) (bound_checks (file_table f)) n p h a)
+  outline_small n p a (yes z) =
+      let none = none_of (outline_checks f) p (outline_numbered f) (rw z at a) in
       let e = answers_only (outline_checks f) n 0 p 0 a (answered (outline_checks f) none) in
       (omega (arith, e.0), omega (arith, e.1))
 
@@ -30,17 +30,17 @@ module _ (f : List ℕ) where
   room_small : (A : Type 0) (n p : ℕ) → Answers (outline_checks f ++ (short_output A ∷ [])) n p → (n ≤ last_number) × (p ≤ last_place)
   unfolding Fit
   room_small A n p r =
-      ⊎_elim (λ a. outline-small n p a (ℕ_discrete n 0))
+      ⊎_elim (λ a. outline_small n p a (ℕ_discrete n 0))
       (λ a. answers_fit last_number last_place (short_output A ∷ []) n p (lit≤ tt, lit≤ tt, tt) a.1)
       (answers_split (outline_checks f) (short_output A ∷ []) n p r)
 
-  pub sets-small : (room n p : ℕ) → Answers (sets_checks (outline_checks f) (file_table f) room) n p → (n ≤ last_number) × (p ≤ last_place)
+  pub sets_small : (room n p : ℕ) → Answers (sets_checks (outline_checks f) (file_table f) room) n p → (n ≤ last_number) × (p ≤ last_place)
   unfolding sets_checks
-  sets-small room n p r = room_small ((ws : List ℕ) × Sets (file_table f) ws × (room < length ws)) n p r
+  sets_small room n p r = room_small ((ws : List ℕ) × Sets (file_table f) ws × (room < length ws)) n p r
 
-  pub raise-small : (room n p : ℕ) → Answers (raise_checks f room) n p → (n ≤ last_number) × (p ≤ last_place)
+  pub raise_small : (room n p : ℕ) → Answers (raise_checks f room) n p → (n ≤ last_number) × (p ≤ last_place)
   unfolding raise_checks Fit
-  raise-small room n p r =
+  raise_small room n p r =
       let front = short_file f ∷ wrong_mark f ∷ [] in
       ⊎_elim (λ a. answers_fit last_number last_place front n p (lit≤ tt, lit≤ tt, (lit≤ tt, lit≤ tt, tt)) a)
       (λ a. room_small (room < length f) n p a.1)

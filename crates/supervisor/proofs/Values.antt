@@ -13,7 +13,7 @@ use Rattle.verdict.specs.declared.Verdict.{Verdict}
 use Rattle.verdict.specs.declared.Verdict.TheVariants.{Admitted, Refused}
 use Rattle.verdict.specs.Verdict.{number_of, place_of, IsVerdict}
 use Rattle.verdict.proofs.Bound.{verdict_numbered}
-use Rattle.verdict.proofs.Judging.{refused-number}
+use Rattle.verdict.proofs.Judging.{refused_number}
 use Rattle.supervisor.specs.ToC.{values, value_count, values_checks, Valued}
 
 -- ---- six elements, put one after the other
@@ -36,19 +36,19 @@ module _ (f : List ℕ) where
   no_room room = short_output (room < value_count)
 
   -- values that are given are those of an admitted table
-  pub values-none : (room p : ℕ) → Answers (values_checks f room) 0 p → None (verdict_checks f)
+  pub values_none : (room p : ℕ) → Answers (values_checks f room) 0 p → None (verdict_checks f)
   unfolding values_checks Numbered
-  values-none room p a =
+  values_none room p a =
       none_left (verdict_checks f) (no_room room ∷ [])
       (none_of (values_checks f room) p
       (numbered_join (verdict_checks f) (no_room room ∷ []) (verdict_numbered f) (omega arith)) a)
 
   module _ (was : List ℕ) where
-    pub values-refused : (v : Verdict) (r : Answer) → IsVerdict f v → v ≡ Refused r
+    pub values_refused : (v : Verdict) (r : Answer) → IsVerdict f v → v ≡ Refused r
         → Call (values_checks f (length was)) (number_of v) (place_of v) (Valued f was was) (was ≡ was)
     unfolding values_checks
-    values-refused v r X e =
-        let h : number_of v ≢ 0 = rw e (refused-number r (rw e at X)) in
+    values_refused v r X e =
+        let h : number_of v ≢ 0 = rw e (refused_number r (rw e at X)) in
         record {
           answers = stopped (verdict_checks f) (no_room (length was) ∷ []) (number_of v) (place_of v) h X.answers;
           done = λ z. absurd (h z);
@@ -63,18 +63,18 @@ module _ (f : List ℕ) where
       none : None (verdict_checks f)
       none = none_of (verdict_checks f) 0 (verdict_numbered f) X.answers
 
-      pub values-short : length was < value_count → Call (values_checks f (length was)) 17 0 (Valued f was was) (was ≡ was)
+      pub values_short : length was < value_count → Call (values_checks f (length was)) 17 0 (Valued f was was) (was ≡ was)
       unfolding values_checks
-      values-short l = record {
+      values_short l = record {
         answers = joined (verdict_checks f) (no_room (length was) ∷ []) 17 0 none (applied (no_room (length was)) [] 17 0 l refl refl);
         done = λ e. absurd (omega arith);
         refused = λ e. refl;
       }
 
-      pub values-done : (now : List ℕ) → value_count ≤ length was → now ≡ lent (values cut other interval hyper load sets) was
+      pub values_done : (now : List ℕ) → value_count ≤ length was → now ≡ lent (values cut other interval hyper load sets) was
           → Call (values_checks f (length was)) 0 0 (Valued f was now) (now ≡ was)
       unfolding values_checks
-      values-done now l e = record {
+      values_done now l e = record {
         answers =
             joined (verdict_checks f) (no_room (length was) ∷ []) 0 0 none
             (passed (no_room (length was)) [] 0 0 (λ (k : length was < value_count). omega arith) done);

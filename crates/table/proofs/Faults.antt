@@ -21,9 +21,9 @@ use Rattle.rules.specs.TableFile.{rings_of, mark_of, file_rings, file_table, mem
 use Rattle.rules.proofs.Rings.{rings_few}
 use Rattle.rules.specs.Refusals.{Check, Answers, wrong_version, wrong_ends, lost_label, size_checks, header_checks, faults, row_checks}
 use Rattle.rules.specs.Refusals.{unknown_mark, file_checks, memory_checks, label_checks, version_checks}
-use Rattle.rules.proofs.Answers.{None, none_of, none_join, none_left, none_right, none_each, none-at, none-next}
-use Rattle.rules.proofs.Answers.{Numbered, numbered_join, numbered-each, applied, passed, answered, stopped, stopped-at, joined}
-use Rattle.rules.proofs.Answers.{single-numbered}
+use Rattle.rules.proofs.Answers.{None, none_of, none_join, none_left, none_right, none_each, none_at, none_next}
+use Rattle.rules.proofs.Answers.{Numbered, numbered_join, numbered_each, applied, passed, answered, stopped, stopped_at, joined}
+use Rattle.rules.proofs.Answers.{single_numbered}
 use Rattle.table.specs.declared.Row.{Row}
 use Rattle.table.specs.Sound.{SoundRow, Sound, Passed}
 use Rattle.table.specs.Rows.{IsRow, single, EndsFit}
@@ -44,7 +44,7 @@ faults_numbered t i = omega arith
 
 pub rows_numbered : (t : Table) → Numbered (row_checks t)
 unfolding row_checks
-rows_numbered t = numbered-each (faults t) t.rows (faults_numbered t)
+rows_numbered t = numbered_each (faults t) t.rows (faults_numbered t)
 
 pub header_numbered : (f : List ℕ) → Numbered (header_checks f)
 unfolding header_checks Numbered
@@ -129,7 +129,7 @@ row_none t i s = (
 
 pub rows_sound : (t : Table) → None (row_checks t) → (i : ℕ) → i < t.rows → SoundRow t i
 unfolding row_checks
-rows_sound t a i l = row_sound t i (none-at (faults t) t.rows i l a)
+rows_sound t a i l = row_sound t i (none_at (faults t) t.rows i l a)
 
 pub rows_none : (t : Table) → ((i : ℕ) → i < t.rows → SoundRow t i) → None (row_checks t)
 unfolding row_checks
@@ -292,16 +292,16 @@ checked_start t = record { there = omega arith; clear = tt }
 
 module _ {t : Labelled} {i : ℕ} (M k n : ℕ) {r : Row} (e : t.table.elements ≡ M) (w : t.table.rings ≡ k) (q : IsRow t i r)
     (a : Answers (faults (single M k r) 0) n 0) where
-  pub checked-next : Checked t.table i → i < t.table.rows → n ≡ 0 → Checked t.table (i + 1)
-  checked-next c l z = record {
+  pub checked_next : Checked t.table i → i < t.table.rows → n ≡ 0 → Checked t.table (i + 1)
+  checked_next c l z = record {
     there = omega arith;
-    clear = none-next (faults t.table) i c.clear (row_clean M k r t i e w q (rw z at a));
+    clear = none_next (faults t.table) i c.clear (row_clean M k r t i e w q (rw z at a));
   }
 
-  pub checked-stop : Checked t.table i → i < t.table.rows → n ≢ 0 → Answers (row_checks t.table) n i
+  pub checked_stop : Checked t.table i → i < t.table.rows → n ≢ 0 → Answers (row_checks t.table) n i
   unfolding row_checks
-  checked-stop c l h =
-      stopped-at (faults t.table) t.table.rows i n i l h c.clear (row_found M k n r t i e w q h a)
+  checked_stop c l h =
+      stopped_at (faults t.table) t.table.rows i n i l h c.clear (row_found M k n r t i e w q h a)
 
 pub checked_end : {t : Table} {i : ℕ} → Checked t i → t.rows ≤ i → Answers (row_checks t) 0 0
 unfolding row_checks
@@ -318,36 +318,36 @@ module _ (r M n : ℕ) (xs : List ℕ) where
   abbrev sizes : List Check
   sizes = size_checks (memory_with r M n xs) (length xs) (row_numbers * n)
 
-  pub memory-stopped : (m : ℕ) → m ≢ 0 → Answers sizes m 0 → Answers (memory_checks r M n xs) m 0
+  pub memory_stopped : (m : ℕ) → m ≢ 0 → Answers sizes m 0 → Answers (memory_checks r M n xs) m 0
   unfolding memory_checks
-  memory-stopped m h a = stopped sizes (row_checks t) m 0 h a
+  memory_stopped m h a = stopped sizes (row_checks t) m 0 h a
 
-  pub memory-joined : (m p : ℕ) → None sizes → Answers (row_checks t) m p → Answers (memory_checks r M n xs) m p
+  pub memory_joined : (m p : ℕ) → None sizes → Answers (row_checks t) m p → Answers (memory_checks r M n xs) m p
   unfolding memory_checks
-  memory-joined m p a b = joined sizes (row_checks t) m p a b
+  memory_joined m p a b = joined sizes (row_checks t) m p a b
 
   pub memory_numbered : Numbered (memory_checks r M n xs)
   unfolding memory_checks
   memory_numbered = numbered_join sizes (row_checks t) (sizes_numbered t (length xs) (row_numbers * n)) (rows_numbered t)
 
-  pub memory-sound : r ≤ max_rings → None (memory_checks r M n xs) → Sound t × (length xs ≡ row_numbers * n)
+  pub memory_sound : r ≤ max_rings → None (memory_checks r M n xs) → Sound t × (length xs ≡ row_numbers * n)
   unfolding memory_checks
-  memory-sound few a =
+  memory_sound few a =
       let s = none_left sizes (row_checks t) a in (
         table_sound t (length xs) (row_numbers * n) few s (none_right sizes (row_checks t) a),
         (sizes_right t (length xs) (row_numbers * n) s).4,
       )
 
-  pub memory-sizes : None (memory_checks r M n xs) → (n ≤ max_rows) × (length xs ≡ row_numbers * n)
+  pub memory_sizes : None (memory_checks r M n xs) → (n ≤ max_rows) × (length xs ≡ row_numbers * n)
   unfolding memory_checks
-  memory-sizes a = let s = sizes_right t (length xs) (row_numbers * n) (none_left sizes (row_checks t) a) in (s.3, s.4)
+  memory_sizes a = let s = sizes_right t (length xs) (row_numbers * n) (none_left sizes (row_checks t) a) in (s.3, s.4)
 
-  pub memory-none : Sound t → length xs ≡ row_numbers * n → None (memory_checks r M n xs)
+  pub memory_none : Sound t → length xs ≡ row_numbers * n → None (memory_checks r M n xs)
   unfolding memory_checks
-  memory-none s e = none_join sizes (row_checks t) (table_none t (length xs) (row_numbers * n) s e) (rows_none t s.row)
+  memory_none s e = none_join sizes (row_checks t) (table_none t (length xs) (row_numbers * n) s e) (rows_none t s.row)
 
-  pub ends-fit : Sound t → EndsFit (memory_with r 0 n xs)
-  ends-fit s = record {
+  pub ends_fit : Sound t → EndsFit (memory_with r 0 n xs)
+  ends_fit s = record {
     way = λ i l. omega (arith, (s.row i l).way_known, s.rings_few);
     first = λ i l. let r = s.row i l in omega (arith, r.first_high, s.elements_high);
     second = λ i l. let r = s.row i l in omega (arith, r.second_high, s.elements_high);
@@ -358,32 +358,32 @@ module _ (r M n : ℕ) (xs : List ℕ) where
   abbrev labels : ℕ → List Check
   labels v = label_checks v (memory_labelled_with r M n xs)
 
-  pub version-unknown : (v : ℕ) → (wrong_version r v).applies → Answers (version_checks r v M n xs) 3 0
+  pub version_unknown : (v : ℕ) → (wrong_version r v).applies → Answers (version_checks r v M n xs) 3 0
   unfolding version_checks
-  version-unknown v w = applied (wrong_version r v) (memory_checks r M n xs ++ labels v) 3 0 w refl refl
+  version_unknown v w = applied (wrong_version r v) (memory_checks r M n xs ++ labels v) 3 0 w refl refl
 
-  pub labels-numbered : (v : ℕ) → Numbered (labels v)
+  pub labels_numbered : (v : ℕ) → Numbered (labels v)
   unfolding label_checks
-  labels-numbered v = single-numbered (lost_label v (memory_labelled_with r M n xs)) n (λ i. omega arith)
+  labels_numbered v = single_numbered (lost_label v (memory_labelled_with r M n xs)) n (λ i. omega arith)
 
-  pub version-numbered : (v : ℕ) → Numbered (version_checks r v M n xs)
+  pub version_numbered : (v : ℕ) → Numbered (version_checks r v M n xs)
   unfolding version_checks Numbered
-  version-numbered v = (omega arith, numbered_join (memory_checks r M n xs) (labels v) memory_numbered (labels-numbered v))
+  version_numbered v = (omega arith, numbered_join (memory_checks r M n xs) (labels v) memory_numbered (labels_numbered v))
 
   module _ (v : ℕ) (k : (wrong_version r v).applies → ⊥) where
-    pub version-stopped : (m p : ℕ) → m ≢ 0 → Answers (memory_checks r M n xs) m p → Answers (version_checks r v M n xs) m p
+    pub version_stopped : (m p : ℕ) → m ≢ 0 → Answers (memory_checks r M n xs) m p → Answers (version_checks r v M n xs) m p
     unfolding version_checks
-    version-stopped m p h a =
+    version_stopped m p h a =
         passed (wrong_version r v) (memory_checks r M n xs ++ labels v) m p k (stopped (memory_checks r M n xs) (labels v) m p h a)
 
-    pub version-joined : (m p : ℕ) → None (memory_checks r M n xs) → Answers (labels v) m p → Answers (version_checks r v M n xs) m p
+    pub version_joined : (m p : ℕ) → None (memory_checks r M n xs) → Answers (labels v) m p → Answers (version_checks r v M n xs) m p
     unfolding version_checks
-    version-joined m p a b =
+    version_joined m p a b =
         passed (wrong_version r v) (memory_checks r M n xs ++ labels v) m p k (joined (memory_checks r M n xs) (labels v) m p a b)
 
-    pub version-none : None (memory_checks r M n xs) → None (labels v) → None (version_checks r v M n xs)
+    pub version_none : None (memory_checks r M n xs) → None (labels v) → None (version_checks r v M n xs)
     unfolding version_checks None
-    version-none a b = (k, none_join (memory_checks r M n xs) (labels v) a b)
+    version_none a b = (k, none_join (memory_checks r M n xs) (labels v) a b)
 
   pub version_known : (v : ℕ) → None (version_checks r v M n xs) → Known r v × None (memory_checks r M n xs) × None (labels v)
   unfolding version_checks None

@@ -15,7 +15,7 @@ use Rattle.numbers.proofs.Truth.{le_or_lt}
 use Rattle.grammar.specs.TableText.{Part, part, is_blank, parts, until, some, kept, fields, field}
 use Rattle.text_reader.specs.declared.fields.Span.{Span}
 use Rattle.text_reader.specs.Walk.{blank_is, fields_at, spanned, IsNext, IsField}
-use Rattle.text_reader.proofs.Parts.{until-here, until-past, until_end, until-le, until-there, within, after, parts_first}
+use Rattle.text_reader.proofs.Parts.{until_here, until_past, until_end, until_le, until_there, within, after, parts_first}
 
 abbrev has : Part → Bool
 has q = some q.bytes
@@ -34,11 +34,11 @@ skip_cons : (k b : ℕ) (bs : List ℕ) (x : Bool) → is_blank b ≡ x
 skip_cons k b bs true e h =
     let n : ℕ = until (blank_is false) bs in
     let s : suc k + n ≡ k + suc n = omega arith in
-    let u : until (blank_is false) (b ∷ bs) ≡ suc n = until-past (blank_is false) b bs (ap not e) in
+    let u : until (blank_is false) (b ∷ bs) ≡ suc n = until_past (blank_is false) b bs (ap not e) in
     fields_blank k b bs e ∙ h ∙ ap (λ (j : ℕ). fields (part j (drop n bs))) s
     ∙ ap (λ (m : ℕ). fields (part (k + m) (drop m (b ∷ bs)))) (sym u)
 skip_cons k b bs false e h =
-    let u : until (blank_is false) (b ∷ bs) ≡ 0 = until-here (blank_is false) b bs (ap not e) in
+    let u : until (blank_is false) (b ∷ bs) ≡ 0 = until_here (blank_is false) b bs (ap not e) in
     ap (λ (j : ℕ). fields (part j (b ∷ bs))) (sym (add-zero k))
     ∙ ap (λ (m : ℕ). fields (part (k + m) (drop m (b ∷ bs)))) (sym u)
 
@@ -52,7 +52,7 @@ fields_skip k (b ∷ bs) = skip_cons k b bs (is_blank b) refl (fields_skip (suc 
 after_cons : (k b : ℕ) (bs : List ℕ) (x : Bool) → is_blank b ≡ x → until is_blank (b ∷ bs) ≡ 0
     → kept has (parts is_blank (suc k) bs) ≡ fields (part k (b ∷ bs))
 after_cons k b bs true e z = sym (fields_blank k b bs e)
-after_cons k b bs false e z = absurd (let w : ⊥ = omega (arith, z, until-past is_blank b bs e) in w)
+after_cons k b bs false e z = absurd (let w : ⊥ = omega (arith, z, until_past is_blank b bs e) in w)
 
 kept_after : (k : ℕ) (bs : List ℕ) → until is_blank bs ≡ 0 → kept has (after is_blank k bs) ≡ fields (part k bs)
 unfolding after parts kept
@@ -70,8 +70,8 @@ pub fields_word : (k : ℕ) (bs : List ℕ) → 0 < until is_blank bs
     → fields (part k bs) ≡ part k (take (until is_blank bs) bs) ∷ fields (part (k + until is_blank bs) (drop (until is_blank bs) bs))
 fields_word k bs l =
     let n : ℕ = until is_blank bs in
-    ap (kept has) (parts_first is_blank k bs) ∙ kept_filled k n bs (after is_blank (k + n) (drop n bs)) l (until-le is_blank bs)
-    ∙ ap (λ (qs : List Part). part k (take n bs) ∷ qs) (kept_after (k + n) (drop n bs) (until-there is_blank bs))
+    ap (kept has) (parts_first is_blank k bs) ∙ kept_filled k n bs (after is_blank (k + n) (drop n bs)) l (until_le is_blank bs)
+    ∙ ap (λ (qs : List Part). part k (take n bs) ∷ qs) (kept_after (k + n) (drop n bs) (until_there is_blank bs))
 
 -- ---- the next field
 
@@ -80,8 +80,8 @@ nothing_left [] y z = refl
 nothing_left (b ∷ bs) y z = go (is_blank b) refl
   where
     go : (x : Bool) → is_blank b ≡ x → b ∷ bs ≡ []
-    go true e = absurd (let w : ⊥ = omega (arith, z, until-past (blank_is false) b bs (ap not e)) in w)
-    go false e = absurd (let w : ⊥ = omega (arith, y, until-past is_blank b bs e) in w)
+    go true e = absurd (let w : ⊥ = omega (arith, z, until_past (blank_is false) b bs (ap not e)) in w)
+    go false e = absurd (let w : ⊥ = omega (arith, y, until_past is_blank b bs e) in w)
 
 module _ (from k : ℕ) (bs : List ℕ) (r : Span) (low : k ≤ length bs)
     (first : r.start ≡ k + until (blank_is false) (drop k bs)) (last : r.end ≡ r.start + until is_blank (drop r.start bs)) where
@@ -99,18 +99,18 @@ module _ (from k : ℕ) (bs : List ℕ) (r : Span) (low : k ≤ length bs)
       fields_skip (from + k) (drop k bs)
       ∙ ap₂ (λ (j : ℕ) (xs : List ℕ). fields (part j xs)) e (drop-drop n k bs ∙ ap (λ (j : ℕ). drop j bs) (sym first))
 
-  no-blank : until (blank_is false) (drop r.start bs) ≡ 0
-  no-blank =
+  no_blank : until (blank_is false) (drop r.start bs) ≡ 0
+  no_blank =
       ap (λ (j : ℕ). until (blank_is false) (drop j bs)) first
-      ∙ ap (until (blank_is false)) (sym (drop-drop (until (blank_is false) (drop k bs)) k bs)) ∙ until-there (blank_is false) (drop k bs)
+      ∙ ap (until (blank_is false)) (sym (drop-drop (until (blank_is false) (drop k bs)) k bs)) ∙ until_there (blank_is false) (drop k bs)
 
-  pub is-next : IsNext l k r
-  is-next = record {
+  pub is_next : IsNext l k r
+  is_next = record {
     low = omega (arith, first);
     ordered = omega (arith, last);
     high = omega (arith, last, within is_blank bs r.start there);
     none = λ e.
-        let nil : drop r.start bs ≡ [] = nothing_left (drop r.start bs) (omega (arith, last, e)) no-blank in
+        let nil : drop r.start bs ≡ [] = nothing_left (drop r.start bs) (omega (arith, last, e)) no_blank in
         (same ∙ ap (λ (xs : List ℕ). fields (part (from + r.start) xs)) nil ∙ fields_none (from + r.start), ended nil);
     one = λ g.
         let n : ℕ = until is_blank (drop r.start bs) in
@@ -148,13 +148,13 @@ module _ {l : Part} {from : ℕ} {r : Span} (n : IsNext l from r) where
   either : (r.start < r.end) ⊎ (r.start ≡ r.end)
   either = ⊎_elim (λ g. inr (omega (arith, n.ordered))) (λ g. inl g) (le_or_lt r.end r.start)
 
-  pub at-end : r.start ≡ r.end → fields_at l r.end ≡ []
-  at-end e =
+  pub at_end : r.start ≡ r.end → fields_at l r.end ≡ []
+  at_end e =
       let z : drop r.end l.bytes ≡ [] = drop_of_length-le l.bytes {i = r.end} (omega (arith, (n.none e).1, e)) in
       ap (λ (xs : List ℕ). fields (part (l.start + r.end) xs)) z ∙ fields_none (l.start + r.end)
 
-  pub empty-span : r.start ≡ r.end → spanned l r ≡ past l
-  empty-span e =
+  pub empty_span : r.start ≡ r.end → spanned l r ≡ past l
+  empty_span e =
       let z : r.end - r.start ≡ 0 = omega (arith, e) in
       ap₂ part (ap (λ (j : ℕ). l.start + j) (n.none e).1) (ap (λ (j : ℕ). take j (drop r.start l.bytes)) z)
 
@@ -163,14 +163,14 @@ module _ {l : Part} {from : ℕ} {r : Span} (n : IsNext l from r) where
       ⊎_elim
       (λ g. ap (λ (qs : List Part). get_or qs (suc m) (past l)) (n.one g))
       (λ e. ap (λ (qs : List Part). get_or qs (suc m) (past l)) (n.none e).0
-      ∙ ap (λ (qs : List Part). get_or qs m (past l)) (sym (at-end e)))
+      ∙ ap (λ (qs : List Part). get_or qs m (past l)) (sym (at_end e)))
       either
 
-  pub this-one : get_or (fields_at l from) 0 (past l) ≡ spanned l r
-  this-one =
+  pub this_one : get_or (fields_at l from) 0 (past l) ≡ spanned l r
+  this_one =
       ⊎_elim
       (λ g. ap (λ (qs : List Part). get_or qs 0 (past l)) (n.one g))
-      (λ e. ap (λ (qs : List Part). get_or qs 0 (past l)) (n.none e).0 ∙ sym (empty-span e))
+      (λ e. ap (λ (qs : List Part). get_or qs 0 (past l)) (n.none e).0 ∙ sym (empty_span e))
       either
 
 pub walked_on : {l : Part} {k : ℕ} {r s : Span} (left : ℕ) → Walked l k left r → 0 < left → IsNext l r.end s → Walked l k (left - 1) s
@@ -183,7 +183,7 @@ pub walked_there : {l : Part} {k left : ℕ} {r : Span} → Walked l k left r �
 walked_there {l} {k} {left} {r} w e = record {
   ordered = w.next.ordered;
   high = w.next.high;
-  is = w.is ∙ ap (λ (j : ℕ). get_or (fields_at l w.from) j (past l)) e ∙ this-one w.next;
+  is = w.is ∙ ap (λ (j : ℕ). get_or (fields_at l w.from) j (past l)) e ∙ this_one w.next;
 }
 
 -- whether it is there

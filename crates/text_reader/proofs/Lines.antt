@@ -15,9 +15,9 @@ use Rattle.rules.specs.Bounds.{max_rows}
 use Rattle.rules.specs.Bus.{Labelled}
 use Rattle.rules.specs.TableFile.{way_in, label_in}
 use Rattle.rules.specs.Refusals.{Check, Answers, faults, refuse, wrong_elements}
-use Rattle.rules.proofs.Answers.{None, Numbered, applied, passed, done, stopped, joined, answered, none_of, none-next}
-use Rattle.rules.proofs.Answers.{stopped-at}
-use Rattle.rules.proofs.Answers.{numbered_join, numbered-each, answers_only}
+use Rattle.rules.proofs.Answers.{None, Numbered, applied, passed, done, stopped, joined, answered, none_of, none_next}
+use Rattle.rules.proofs.Answers.{stopped_at}
+use Rattle.rules.proofs.Answers.{numbered_join, numbered_each, answers_only}
 use Rattle.table.specs.declared.Row.{Row}
 use Rattle.table.specs.Rows.{IsRow, single, sized}
 use Rattle.table.proofs.Faults.{row_found, row_clean}
@@ -65,15 +65,15 @@ shape_numbered a b = omega arith
 -- ---- the form of a line
 
 module _ (a b : Part) where
-  pub shape-missing : (n p : ℕ) → n ≡ 37 → p ≡ a.start → (a.bytes ≢ [] → ⊥) → Answers (missing_field a ∷ spare_field b ∷ []) n p
-  shape-missing n p e q h = applied (missing_field a) (spare_field b ∷ []) n p (empty_of a.bytes h) e q
+  pub shape_missing : (n p : ℕ) → n ≡ 37 → p ≡ a.start → (a.bytes ≢ [] → ⊥) → Answers (missing_field a ∷ spare_field b ∷ []) n p
+  shape_missing n p e q h = applied (missing_field a) (spare_field b ∷ []) n p (empty_of a.bytes h) e q
 
-  pub shape-spare : (n p : ℕ) → n ≡ 38 → p ≡ b.start → a.bytes ≢ [] → b.bytes ≢ [] → Answers (missing_field a ∷ spare_field b ∷ []) n p
-  shape-spare n p e q h g =
+  pub shape_spare : (n p : ℕ) → n ≡ 38 → p ≡ b.start → a.bytes ≢ [] → b.bytes ≢ [] → Answers (missing_field a ∷ spare_field b ∷ []) n p
+  shape_spare n p e q h g =
       passed (missing_field a) (spare_field b ∷ []) n p h (applied (spare_field b) [] n p g e q)
 
-  pub shape-right : a.bytes ≢ [] → (b.bytes ≢ [] → ⊥) → Answers (missing_field a ∷ spare_field b ∷ []) 0 0
-  shape-right h g = passed (missing_field a) (spare_field b ∷ []) 0 0 h (passed (spare_field b) [] 0 0 g done)
+  pub shape_right : a.bytes ≢ [] → (b.bytes ≢ [] → ⊥) → Answers (missing_field a ∷ spare_field b ∷ []) 0 0
+  shape_right h g = passed (missing_field a) (spare_field b ∷ []) 0 0 h (passed (spare_field b) [] 0 0 g done)
 
 -- ---- the heading
 
@@ -84,39 +84,39 @@ module _ (l : Part) where
   abbrev size : Check
   size = placed (field l 1).start (wrong_elements (row_table 1 (number (field l 1)) l))
 
-  pub heading-none : (n p : ℕ) → n ≡ 36 → p ≡ (field l 0).start → (no_heading l).applies → Answers (heading_checks l) n p
+  pub heading_none : (n p : ℕ) → n ≡ 36 → p ≡ (field l 0).start → (no_heading l).applies → Answers (heading_checks l) n p
   unfolding heading_checks
-  heading-none n p e q h = applied (no_heading l) _ n p h e q
+  heading_none n p e q h = applied (no_heading l) _ n p h e q
 
   module _ (word : (no_heading l).applies → ⊥) where
-    pub heading-cell : (n p : ℕ) → n ≢ 0 → Answers (number_checks (field l 1)) n p → Answers (heading_checks l) n p
+    pub heading_cell : (n p : ℕ) → n ≢ 0 → Answers (number_checks (field l 1)) n p → Answers (heading_checks l) n p
     unfolding heading_checks
-    heading-cell n p h a = passed (no_heading l) _ n p word (stopped (number_checks (field l 1)) (shape ++ (size ∷ [])) n p h a)
+    heading_cell n p h a = passed (no_heading l) _ n p word (stopped (number_checks (field l 1)) (shape ++ (size ∷ [])) n p h a)
 
     module _ (cell : None (number_checks (field l 1))) where
-      pub heading-shape : (n p : ℕ) → n ≢ 0 → Answers shape n p → Answers (heading_checks l) n p
+      pub heading_shape : (n p : ℕ) → n ≢ 0 → Answers shape n p → Answers (heading_checks l) n p
       unfolding heading_checks
-      heading-shape n p h a =
+      heading_shape n p h a =
           passed (no_heading l) _ n p word
           (joined (number_checks (field l 1)) (shape ++ (size ∷ [])) n p cell (stopped shape (size ∷ []) n p h a))
 
-      pub heading-rest : (n p : ℕ) → None shape → Answers (size ∷ []) n p → Answers (heading_checks l) n p
+      pub heading_rest : (n p : ℕ) → None shape → Answers (size ∷ []) n p → Answers (heading_checks l) n p
       unfolding heading_checks
-      heading-rest n p s a =
+      heading_rest n p s a =
           passed (no_heading l) _ n p word
           (joined (number_checks (field l 1)) (shape ++ (size ∷ [])) n p cell (joined shape (size ∷ []) n p s a))
 
       -- the number x in its field is too small or too large, or it is neither
       module _ (form : None (missing_field (field l 1) ∷ spare_field (field l 2) ∷ [])) (x : ℕ) (e : x ≡ number (field l 1)) where
-        pub heading-wrong : (n p : ℕ) → n ≡ 4 → p ≡ (field l 1).start → (wrong_elements (sized x 1)).applies
+        pub heading_wrong : (n p : ℕ) → n ≡ 4 → p ≡ (field l 1).start → (wrong_elements (sized x 1)).applies
             → Answers (heading_checks l) n p
-        heading-wrong n p a b w =
-            heading-rest n p form
+        heading_wrong n p a b w =
+            heading_rest n p form
             (applied size [] n p (subst (λ (y : ℕ). (wrong_elements (sized y 1)).applies) e w) a b)
 
-        pub heading-right : ((wrong_elements (sized x 1)).applies → ⊥) → Answers (heading_checks l) 0 0
-        heading-right w =
-            heading-rest 0 0 form
+        pub heading_right : ((wrong_elements (sized x 1)).applies → ⊥) → Answers (heading_checks l) 0 0
+        heading_right w =
+            heading_rest 0 0 form
             (passed size [] 0 0 (λ h. w (subst (λ (y : ℕ). (wrong_elements (sized y 1)).applies) (sym e) h)) done)
 
 -- ---- the first cells of a row
@@ -133,12 +133,12 @@ unfolding each None
 celled_start l xs e = record { few = omega arith; size = e; none = tt; value = λ j m. absurd (let z : ⊥ = omega arith in z) }
 
 module _ {l : Part} {k : ℕ} {xs : List ℕ} {c : Cell} (C : Celled l k xs) (room : k < 4) (h : IsCell (field l k) c) where
-  pub celled-next : c.number ≡ 0 → Celled l (k + 1) (set xs k c.value)
-  celled-next e = record {
+  pub celled_next : c.number ≡ 0 → Celled l (k + 1) (set xs k c.value)
+  celled_next e = record {
     few = omega arith;
     size = length-set xs k c.value ∙ C.size;
     none =
-        none-next (λ j. number_checks (field l j)) k C.none
+        none_next (λ j. number_checks (field l j)) k C.none
         (none_of (number_checks (field l k)) c.place (numbers_numbered (field l k)) (rw e at h.answers));
     value = λ j m.
         ⊎_elim
@@ -147,8 +147,8 @@ module _ {l : Part} {k : ℕ} {xs : List ℕ} {c : Cell} (C : Celled l k xs) (ro
         (below (let g : j < suc k = omega arith in g));
   }
 
-  pub celled-stop : c.number ≢ 0 → Answers (each 4 (λ j. number_checks (field l j))) c.number c.place
-  celled-stop e = stopped-at (λ j. number_checks (field l j)) 4 k c.number c.place room e C.none h.answers
+  pub celled_stop : c.number ≢ 0 → Answers (each 4 (λ j. number_checks (field l j))) c.number c.place
+  celled_stop e = stopped_at (λ j. number_checks (field l j)) 4 k c.number c.place room e C.none h.answers
 
 pub celled_all : {l : Part} {k : ℕ} {xs : List ℕ} → Celled l k xs → 4 ≤ k
     → None (each 4 (λ j. number_checks (field l j))) × ((j : ℕ) → j < 4 → at xs j ≡ number (field l j))
@@ -159,7 +159,7 @@ celled_all {l} {k} {xs} C g =
 -- ---- the form of a row
 
 pub cells_numbered : (l : Part) → Numbered (each 4 (λ j. number_checks (field l j)))
-cells_numbered l = numbered-each (λ j. number_checks (field l j)) 4 (λ j. numbers_numbered (field l j))
+cells_numbered l = numbered_each (λ j. number_checks (field l j)) 4 (λ j. numbers_numbered (field l j))
 
 module _ (k : ℕ) (l : Part) where
   abbrev cells : List Check
@@ -168,23 +168,23 @@ module _ (k : ℕ) (l : Part) where
   abbrev ends : List Check
   ends = missing_field (field l (needed k)) ∷ spare_field (field l 5) ∷ []
 
-  pub form-cells : (n p : ℕ) → n ≢ 0 → Answers (each 4 (λ j. number_checks (field l j))) n p → Answers (form_checks k l) n p
+  pub form_cells : (n p : ℕ) → n ≢ 0 → Answers (each 4 (λ j. number_checks (field l j))) n p → Answers (form_checks k l) n p
   unfolding form_checks
-  form-cells n p h a = stopped cells (number_checks (last l) ++ ends) n p h a
+  form_cells n p h a = stopped cells (number_checks (last l) ++ ends) n p h a
 
   module _ (c : None (each 4 (λ j. number_checks (field l j)))) where
-    pub form-last : (n p : ℕ) → n ≢ 0 → Answers (number_checks (last l)) n p → Answers (form_checks k l) n p
+    pub form_last : (n p : ℕ) → n ≢ 0 → Answers (number_checks (last l)) n p → Answers (form_checks k l) n p
     unfolding form_checks
-    form-last n p h a = joined cells (number_checks (last l) ++ ends) n p c (stopped (number_checks (last l)) ends n p h a)
+    form_last n p h a = joined cells (number_checks (last l) ++ ends) n p c (stopped (number_checks (last l)) ends n p h a)
 
-    pub form-ends : (n p : ℕ) → None (number_checks (last l))
+    pub form_ends : (n p : ℕ) → None (number_checks (last l))
         → Answers (missing_field (field l (needed k)) ∷ spare_field (field l 5) ∷ []) n p → Answers (form_checks k l) n p
     unfolding form_checks
-    form-ends n p a b = joined cells (number_checks (last l) ++ ends) n p c (joined (number_checks (last l)) ends n p a b)
+    form_ends n p a b = joined cells (number_checks (last l) ++ ends) n p c (joined (number_checks (last l)) ends n p a b)
 
-  pub form-numbered : Numbered (form_checks k l)
+  pub form_numbered : Numbered (form_checks k l)
   unfolding form_checks
-  form-numbered =
+  form_numbered =
       numbered_join cells (number_checks (last l) ++ ends) (cells_numbered l)
       (numbered_join (number_checks (last l)) ends (numbers_numbered (last l)) (shape_numbered (field l (needed k)) (field l 5)))
 
@@ -204,21 +204,21 @@ module _ (k M : ℕ) (l : Part) (r : Row) (q : IsRowOf l r) where
     label = ap (label_in k) q.label;
   }
 
-  pub values-right : Answers (faults (single M k (in_ring k r)) 0) 0 0 → None (value_checks k M l)
+  pub values_right : Answers (faults (single M k (in_ring k r)) 0) 0 0 → None (value_checks k M l)
   unfolding value_checks None
-  values-right a = let c = row_clean M k (in_ring k r) t 0 refl refl is_row a in (c.0, (c.1.0, (c.1.1.0, (c.1.1.1.0, tt))))
+  values_right a = let c = row_clean M k (in_ring k r) t 0 refl refl is_row a in (c.0, (c.1.0, (c.1.1.0, (c.1.1.1.0, tt))))
 
-  end-place : (b : Bool) → (field l (cond b 3 2)).start ≡ (cond b (field l 3) (field l 2)).start
-  end-place true = refl
-  end-place false = refl
+  end_place : (b : Bool) → (field l (cond b 3 2)).start ≡ (cond b (field l 3) (field l 2)).start
+  end_place true = refl
+  end_place false = refl
 
-  pub values-wrong : (n : ℕ) → n ≢ 0 → Answers (faults (single M k (in_ring k r)) 0) n 0
+  pub values_wrong : (n : ℕ) → n ≢ 0 → Answers (faults (single M k (in_ring k r)) 0) n 0
       → Answers (value_checks k M l) n (field l (blame n M r.first)).start
   unfolding value_checks Answers
-  values-wrong n h a =
+  values_wrong n h a =
       rw q.first
       (⊎_elim
-      (λ w. inl (w.0, w.1, told w.1 ∙ end-place (leb 1 x && leb x M)))
+      (λ w. inl (w.0, w.1, told w.1 ∙ end_place (leb 1 x && leb x M)))
       (λ v. inr (
         v.0,
         ⊎_elim
@@ -250,31 +250,31 @@ module _ (k M : ℕ) (l : Part) (i : ℕ) where
   abbrev many : Check
   many = refuse 5 (field l 0).start (max_rows ≤ i)
 
-  pub row-many : (n p : ℕ) → max_rows ≤ i → n ≡ 5 → p ≡ (field l 0).start → Answers (text_row_checks k M l i) n p
+  pub row_many : (n p : ℕ) → max_rows ≤ i → n ≡ 5 → p ≡ (field l 0).start → Answers (text_row_checks k M l i) n p
   unfolding text_row_checks
-  row-many n p h e q = applied many _ n p h e q
+  row_many n p h e q = applied many _ n p h e q
 
   module _ (few : i < max_rows) where
     fits : many.applies → ⊥
     fits h = let z : ⊥ = omega (arith, h) in z
 
-    pub row-form : (n p : ℕ) → n ≢ 0 → Answers (form_checks k l) n p → Answers (text_row_checks k M l i) n p
+    pub row_form : (n p : ℕ) → n ≢ 0 → Answers (form_checks k l) n p → Answers (text_row_checks k M l i) n p
     unfolding text_row_checks
-    row-form n p h a = passed many _ n p fits (stopped (form_checks k l) (value_checks k M l) n p h a)
+    row_form n p h a = passed many _ n p fits (stopped (form_checks k l) (value_checks k M l) n p h a)
 
-    pub row-values : (n p : ℕ) → None (form_checks k l) → Answers (value_checks k M l) n p → Answers (text_row_checks k M l i) n p
+    pub row_values : (n p : ℕ) → None (form_checks k l) → Answers (value_checks k M l) n p → Answers (text_row_checks k M l i) n p
     unfolding text_row_checks
-    row-values n p a b = passed many _ n p fits (joined (form_checks k l) (value_checks k M l) n p a b)
+    row_values n p a b = passed many _ n p fits (joined (form_checks k l) (value_checks k M l) n p a b)
 
-  pub row-numbered : Numbered (text_row_checks k M l i)
+  pub row_numbered : Numbered (text_row_checks k M l i)
   unfolding text_row_checks Numbered
-  row-numbered = (omega arith, numbered_join (form_checks k l) (value_checks k M l) (form-numbered k l) (values_numbered k M l))
+  row_numbered = (omega arith, numbered_join (form_checks k l) (value_checks k M l) (form_numbered k l) (values_numbered k M l))
 
   -- nothing is refused
   pub row_done : (n p m q : ℕ) → i < max_rows → n ≡ 0 → Answers (form_checks k l) n p → m ≡ 0 → Answers (value_checks k M l) m q
       → Answers (text_row_checks k M l i) n p
   row_done n p m q few e a z b =
-      let c : None (form_checks k l) = none_of (form_checks k l) p (form-numbered k l) (rw e at a) in
+      let c : None (form_checks k l) = none_of (form_checks k l) p (form_numbered k l) (rw e at a) in
       let d : None (value_checks k M l) = none_of (value_checks k M l) q (values_numbered k M l) (rw z at b) in
       let f = answers_only (form_checks k l) n 0 p 0 a (answered (form_checks k l) c) in
-      rw (f.0, f.1) (row-values few 0 0 c (answered (value_checks k M l) d))
+      rw (f.0, f.1) (row_values few 0 0 c (answered (value_checks k M l) d))

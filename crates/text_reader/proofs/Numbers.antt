@@ -54,8 +54,8 @@ module _ (k : ℕ) {ds : List ℕ} {i x : ℕ} (s : Summed ds i x) where
   abbrev q : Part
   q = part k ds
 
-  pub cell-word : (r : Cell) → i < length ds → (IsDigit (at ds i) → ⊥) → r.number ≡ 34 → r.place ≡ k → IsCell q r
-  cell-word r l h a b = record {
+  pub cell_word : (r : Cell) → i < length ds → (IsDigit (at ds i) → ⊥) → r.number ≡ 34 → r.place ≡ k → IsCell q r
+  cell_word r l h a b = record {
     answers = applied (no_number q) (large_number q ∷ []) r.number r.place (λ d. h (digits_at ds i d l)) a b;
     value = λ z. absurd (let w : ⊥ = omega (arith, a, z) in w);
   }
@@ -70,16 +70,16 @@ module _ (k : ℕ) {ds : List ℕ} {i x : ℕ} (s : Summed ds i x) where
     sum : x ≡ min (value ds) (max_number + 1)
     sum = s.sum ∙ ap (λ (es : List ℕ). min (value es) (max_number + 1)) whole
 
-    pub cell-large : (r : Cell) → max_number < x → r.number ≡ 35 → r.place ≡ k → IsCell q r
-    cell-large r l a b = record {
+    pub cell_large : (r : Cell) → max_number < x → r.number ≡ 35 → r.place ≡ k → IsCell q r
+    cell_large r l a b = record {
       answers =
           passed (no_number q) (large_number q ∷ []) r.number r.place passes
           (applied (large_number q) [] r.number r.place (omega (arith, sum, l)) a b);
       value = λ z. absurd (let w : ⊥ = omega (arith, a, z) in w);
     }
 
-    pub cell-value : x ≤ max_number → IsCell q (record { number = 0; place = 0; value = x })
-    cell-value l = record {
+    pub cell_value : x ≤ max_number → IsCell q (record { number = 0; place = 0; value = x })
+    cell_value l = record {
       answers =
           passed (no_number q) (large_number q ∷ []) 0 0 passes
           (passed (large_number q) [] 0 0 (λ (g : max_number < value ds). let w : ⊥ = omega (arith, sum, l) in w) done);

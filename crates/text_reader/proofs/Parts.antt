@@ -17,34 +17,34 @@ use Rattle.grammar.specs.TableText.{Part, part, before, parts, until}
 -- ---- how far it is to the first marked byte
 
 module _ (p : ℕ → Bool) where
-  pub until-here : (b : ℕ) (bs : List ℕ) → p b ≡ true → until p (b ∷ bs) ≡ 0
+  pub until_here : (b : ℕ) (bs : List ℕ) → p b ≡ true → until p (b ∷ bs) ≡ 0
   unfolding lowest
-  until-here b bs e = rw e
+  until_here b bs e = rw e
 
-  pub until-past : (b : ℕ) (bs : List ℕ) → p b ≡ false → until p (b ∷ bs) ≡ suc (until p bs)
+  pub until_past : (b : ℕ) (bs : List ℕ) → p b ≡ false → until p (b ∷ bs) ≡ suc (until p bs)
   unfolding lowest
-  until-past b bs e = rw e
+  until_past b bs e = rw e
 
   pub until_end : until p [] ≡ 0
   unfolding lowest
   until_end = refl
 
-  pub until-le : (bs : List ℕ) → until p bs ≤ length bs
-  until-le bs = lowest_le (length bs) (λ i. p (at bs i))
+  pub until_le : (bs : List ℕ) → until p bs ≤ length bs
+  until_le bs = lowest_le (length bs) (λ i. p (at bs i))
 
-  there-cons : (b : ℕ) (bs : List ℕ) (x : Bool) → p b ≡ x → until p (drop (until p bs) bs) ≡ 0
+  there_cons : (b : ℕ) (bs : List ℕ) (x : Bool) → p b ≡ x → until p (drop (until p bs) bs) ≡ 0
       → until p (drop (until p (b ∷ bs)) (b ∷ bs)) ≡ 0
-  there-cons b bs true e h = rw (until-here b bs e) (until-here b bs e)
-  there-cons b bs false e h = rw (until-past b bs e) h
+  there_cons b bs true e h = rw (until_here b bs e) (until_here b bs e)
+  there_cons b bs false e h = rw (until_past b bs e) h
 
   -- there, nothing is left to go
-  pub until-there : (bs : List ℕ) → until p (drop (until p bs) bs) ≡ 0
-  until-there [] = rw until_end until_end
-  until-there (b ∷ bs) = there-cons b bs (p b) refl (until-there bs)
+  pub until_there : (bs : List ℕ) → until p (drop (until p bs) bs) ≡ 0
+  until_there [] = rw until_end until_end
+  until_there (b ∷ bs) = there_cons b bs (p b) refl (until_there bs)
 
   module _ (bs : List ℕ) (i : ℕ) where
     pub within : i ≤ length bs → i + until p (drop i bs) ≤ length bs
-    within l = omega (arith, until-le (drop i bs), length-drop i bs)
+    within l = omega (arith, until_le (drop i bs), length-drop i bs)
 
 -- ---- a loop from place k on to the first marked byte
 
@@ -62,16 +62,16 @@ module _ {p : ℕ → Bool} {bs : List ℕ} {k : ℕ} where
     going_on l e = record { inside = omega arith; same = G.same ∙ omega (arith, past) }
       where
         past : until p (drop i bs) ≡ suc (until p (drop (i + 1) bs))
-        past = rw (drop_next bs i l) (until-past p (at bs i) (drop (i + 1) bs) e)
+        past = rw (drop_next bs i l) (until_past p (at bs i) (drop (i + 1) bs) e)
 
-    pub going-stops : i < length bs → p (at bs i) ≡ true → i ≡ k + until p (drop k bs)
-    going-stops l e = omega (arith, G.same, here)
+    pub going_stops : i < length bs → p (at bs i) ≡ true → i ≡ k + until p (drop k bs)
+    going_stops l e = omega (arith, G.same, here)
       where
         here : until p (drop i bs) ≡ 0
-        here = rw (drop_next bs i l) (until-here p (at bs i) (drop (i + 1) bs) e)
+        here = rw (drop_next bs i l) (until_here p (at bs i) (drop (i + 1) bs) e)
 
-    pub going-ends : length bs ≤ i → i ≡ k + until p (drop k bs)
-    going-ends l = omega (arith, G.same, out)
+    pub going_ends : length bs ≤ i → i ≡ k + until p (drop k bs)
+    going_ends l = omega (arith, G.same, out)
       where
         out : until p (drop i bs) ≡ 0
         out = rw (drop_of_length-le bs l) (until_end p)

@@ -22,16 +22,16 @@ use Rattle.numbers.proofs.Codec.{filled_row}
 use Rattle.rules.specs.Bounds.{max_rows}
 use Rattle.rules.specs.TableFile.{row_numbers, last_of, memory_row, numbers}
 use Rattle.rules.specs.Refusals.{Check, Answers}
-use Rattle.rules.proofs.Answers.{None, none_of, none-next, answered, stopped-at}
+use Rattle.rules.proofs.Answers.{None, none_of, none_next, answered, stopped_at}
 use Rattle.rules.proofs.Calls.{filled_lent}
 use Rattle.table.specs.Rows.{in_memory}
-use Rattle.round_trip.proofs.RoundTrip.{last-told}
+use Rattle.round_trip.proofs.RoundTrip.{last_told}
 use Rattle.grammar.specs.TableText.{Part, part, some, lines, last, row, number, text_rings, text_table, text_labelled, text_row_checks}
 use Rattle.text_reader.specs.declared.fields.Line.{Line}
 use Rattle.text_reader.specs.Walk.{lines_at, line_of, IsNextLine}
 use Rattle.text_reader.specs.declared.Form.{Form}
 use Rattle.text_reader.specs.Reading.{IsRowOf, IsRowAt, Rest, AreRows}
-use Rattle.text_reader.proofs.Lines.{row-numbered}
+use Rattle.text_reader.proofs.Lines.{row_numbered}
 
 abbrev checks_of_row : List ℕ → ℕ → List Check
 checks_of_row t i = text_row_checks (text_rings t) (text_table t).elements (row t i) i
@@ -80,8 +80,8 @@ module _ {t was now : List ℕ} {i : ℕ} {labelled : Bool} {r : Line} (R : Read
     rest : drop (suc i) (lines t) ≡ line_of t r ∷ lines_at t r.next
     rest = R.left ∙ R.next.one g
 
-    pub this-row : row t i ≡ line_of t r
-    this-row =
+    pub this_row : row t i ≡ line_of t r
+    this_row =
         ap (λ (k : ℕ). get_or (lines t) k end) (sym (add-zero (suc i))) ∙ sym (get_or-drop (suc i) (lines t) 0 end)
         ∙ ap (λ (qs : List Part). get_or qs 0 end) rest
 
@@ -94,28 +94,28 @@ module _ {t was now : List ℕ} {i : ℕ} {labelled : Bool} {r : Line} (R : Read
     module _ {f : Form} (h : IsRowAt (text_rings t) (text_table t).elements (line_of t r) i f) where
       here : Answers (checks_of_row t i) f.number f.place
       here =
-          subst (λ (l : Part). Answers (text_row_checks (text_rings t) (text_table t).elements l i) f.number f.place) (sym this-row)
+          subst (λ (l : Part). Answers (text_row_checks (text_rings t) (text_table t).elements l i) f.number f.place) (sym this_row)
           h.answers
 
-      pub reading-stop : f.number ≢ 0 → Answers (each (text_table t).rows (checks_of_row t)) f.number f.place
-      reading-stop e = stopped-at (checks_of_row t) (text_table t).rows i f.number f.place is_one e R.none here
+      pub reading_stop : f.number ≢ 0 → Answers (each (text_table t).rows (checks_of_row t)) f.number f.place
+      reading_stop e = stopped_at (checks_of_row t) (text_table t).rows i f.number f.place is_one e R.none here
 
       module _ (e : f.number ≡ 0) where
         -- its five numbers are those of the table's row
-        in-memory : in_memory 1 f.row ≡ memory_row (text_labelled t) i
+        in_memory_lem : in_memory 1 f.row ≡ memory_row (text_labelled t) i
         unfolding last_of
-        in-memory =
-            let q : IsRowOf (row t i) f.row = subst (λ (l : Part). IsRowOf l f.row) (sym this-row) (h.row e) in
-            rw (q.cost, q.period, q.first, q.second, q.label, last-told (text_rings t) (number (last (row t i))))
+        in_memory_lem =
+            let q : IsRowOf (row t i) f.row = subst (λ (l : Part). IsRowOf l f.row) (sym this_row) (h.row e) in
+            rw (q.cost, q.period, q.first, q.second, q.label, last_told (text_rings t) (number (last (row t i))))
 
-        pub reading-next : (now' : List ℕ) (b labelled' : Bool) (s : Line) → row_numbers * max_rows ≤ length was
+        pub reading_next : (now' : List ℕ) (b labelled' : Bool) (s : Line) → row_numbers * max_rows ≤ length was
             → now' ≡ sets now (row_numbers * i) (in_memory 1 f.row) → Decides ((last (line_of t r)).bytes ≢ []) b
             → labelled' ≡ (labelled || b)
             → IsNextLine t r.next s → Reading t was now' (i + 1) labelled' s
-        reading-next now' b labelled' s room o d q n =
+        reading_next now' b labelled' s room o d q n =
             let few : i < max_rows = h.few e in
             let l : suc i + 1 ≡ suc (i + 1) = omega arith in
-            let one : b ≡ has_last t i = tested b _ d ∙ ap (λ (l : Part). some (last l).bytes) (sym this-row) in
+            let one : b ≡ has_last t i = tested b _ d ∙ ap (λ (l : Part). some (last l).bytes) (sym this_row) in
             record {
               from = r.next;
               next = n;
@@ -124,9 +124,9 @@ module _ {t was now : List ℕ} {i : ℕ} {labelled : Bool} {r : Line} (R : Read
               there = omega (arith, more);
               few = omega arith;
               none =
-                  none-next (checks_of_row t) i R.none
-                  (none_of (checks_of_row t i) f.place (row-numbered (text_rings t) (text_table t).elements (row t i) i) (rw e at here));
-              filled = filled_row [] _ _ _ R.filled o in-memory (omega arith) (omega (arith, room));
+                  none_next (checks_of_row t) i R.none
+                  (none_of (checks_of_row t i) f.place (row_numbered (text_rings t) (text_table t).elements (row t i) i) (rw e at here));
+              filled = filled_row [] _ _ _ R.filled o in_memory_lem (omega arith) (omega (arith, room));
               labels = q ∙ ap₂ ◌||◌ R.labels one ∙ sym (any_next i (has_last t));
             }
 
@@ -138,9 +138,9 @@ module _ {t was now : List ℕ} {i : ℕ} {labelled : Bool} {r : Line} (R : Read
         let nil : drop (suc i) (lines t) ≡ [] = R.left ∙ (R.next.none (omega (arith, R.next.ordered))).0 in
         omega (arith, ap length nil, length-drop (suc i) (lines t), R.there)
 
-    pub reading-end : AreRows t was now (record { number = 0; place = 0; rows = i; labelled = labelled })
+    pub reading_end : AreRows t was now (record { number = 0; place = 0; rows = i; labelled = labelled })
     unfolding numbers
-    reading-end = record {
+    reading_end = record {
       answers = answered (each (text_table t).rows (checks_of_row t)) (rw all at R.none);
       rows = λ z. all;
       few = λ z. R.few;

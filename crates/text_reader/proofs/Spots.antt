@@ -26,9 +26,9 @@ module _ (t : List ℕ) (i : ℕ) where
   lines_next : count (i + 1) (λ j. is_newline (at t j)) ≡ count i (λ j. is_newline (at t j)) + only (is_newline (at t i)) 1
   lines_next = sum_next i (λ j. only (is_newline (at t j)) 1)
 
-  columns-next : lowest (i + 1) (back t (i + 1)) ≡ cond (is_newline (at t i)) 0 (suc (lowest i (back t i)))
+  columns_next : lowest (i + 1) (back t (i + 1)) ≡ cond (is_newline (at t i)) 0 (suc (lowest i (back t i)))
   unfolding lowest
-  columns-next =
+  columns_next =
       let e : suc i - 1 ≡ i = omega arith in
       let f : lowest i (λ j. back t (suc i) (suc j)) ≡ lowest i (back t i) =
       lowest_eq i (λ j. back t (suc i) (suc j)) (back t i)
@@ -36,18 +36,18 @@ module _ (t : List ℕ) (i : ℕ) where
       ap (λ (n : ℕ). lowest n (back t n)) (add-one i)
       ∙ ap₂ (λ (m n : ℕ). cond (is_newline (at t m)) 0 (suc n)) e f
 
-  pub spot-next : stepped (spot_at t i) (at t i) ≡ spot_at t (i + 1)
+  pub spot_next : stepped (spot_at t i) (at t i) ≡ spot_at t (i + 1)
   unfolding only
-  spot-next = go (is_newline (at t i)) refl
+  spot_next = go (is_newline (at t i)) refl
     where
       go : (x : Bool) → is_newline (at t i) ≡ x → stepped (spot_at t i) (at t i) ≡ spot_at t (i + 1)
-      go true e = rw (lines_next, columns-next, e) (ap (λ (n : ℕ). record { line = n; column = 1 }) (omega arith))
+      go true e = rw (lines_next, columns_next, e) (ap (λ (n : ℕ). record { line = n; column = 1 }) (omega arith))
       go false e =
-          rw (lines_next, columns-next, e)
+          rw (lines_next, columns_next, e)
           (ap₂ (λ (m n : ℕ). record { line = m; column = n }) (omega arith) (omega arith))
 
-  pub spot-low : ((spot_at t i).line ≤ i + 1) × ((spot_at t i).column ≤ i + 1)
-  spot-low = (omega (arith, count_le i (λ j. is_newline (at t j))), omega (arith, lowest_le i (back t i)))
+  pub spot_low : ((spot_at t i).line ≤ i + 1) × ((spot_at t i).column ≤ i + 1)
+  spot_low = (omega (arith, count_le i (λ j. is_newline (at t j))), omega (arith, lowest_le i (back t i)))
 
 pub is_spot : (t : List ℕ) (k i : ℕ) (r : Spot) → i ≡ min k (length t) → r ≡ spot_at t i → IsSpot t k r
 unfolding line_at column_at

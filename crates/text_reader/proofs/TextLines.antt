@@ -15,7 +15,7 @@ use Rattle.grammar.specs.TableText.{Part, part, is_newline, is_hash, parts, unti
 use Rattle.text_reader.specs.declared.fields.Span.{Span}
 use Rattle.text_reader.specs.declared.fields.Line.{Line}
 use Rattle.text_reader.specs.Walk.{whole_lines, lines_at, line_of, IsNext, IsLine, IsNextLine}
-use Rattle.text_reader.proofs.Parts.{until-le, within, after, parts_first}
+use Rattle.text_reader.proofs.Parts.{until_le, within, after, parts_first}
 use Rattle.text_reader.proofs.LineFields.{fields_all}
 
 -- ---- one line
@@ -41,7 +41,7 @@ lines_after t e l =
 module _ (t : List ℕ) (k n m : ℕ) (inside : k ≤ length t) (whole : n ≡ until is_newline (drop k t))
     (bare : m ≡ until is_hash (take n (drop k t))) where
   short : m ≤ n
-  short = omega (arith, bare, until-le is_hash (take n (drop k t)), length-take n (drop k t))
+  short = omega (arith, bare, until_le is_hash (take n (drop k t)), length-take n (drop k t))
 
   ends : k + n ≤ length t
   ends = omega (arith, whole, within is_newline t k inside)
@@ -56,8 +56,8 @@ module _ (t : List ℕ) (k n m : ℕ) (inside : k ≤ length t) (whole : n ≡ u
       (drop-drop n k t)
       ∙ ap₂ (λ (xs : List ℕ) (ls : List Part). part k xs ∷ ls) (take-take m n (drop k t) short) (lines_after t (k + n) ends)
 
-  pub is-line : IsLine t k (record { start = k; end = k + m; next = k + n + 1 })
-  is-line = record {
+  pub is_line : IsLine t k (record { start = k; end = k + m; next = k + n + 1 })
+  is_line = record {
     start = refl;
     ordered = omega arith;
     high = omega (arith, short);
@@ -84,11 +84,11 @@ module _ {t : List ℕ} {k : ℕ} {r : Line} {s : Span} (l : IsLine t k r) (n : 
   unfolding kept
   found g = ap (kept (λ q. some (fields q))) l.is ∙ rw (says g)
 
-  pub line-skipped : (from : ℕ) → s.end ≤ s.start → lines_at t from ≡ lines_at t k → lines_at t from ≡ lines_at t r.next
-  line-skipped from g e = e ∙ skip (omega (arith, n.ordered))
+  pub line_skipped : (from : ℕ) → s.end ≤ s.start → lines_at t from ≡ lines_at t k → lines_at t from ≡ lines_at t r.next
+  line_skipped from g e = e ∙ skip (omega (arith, n.ordered))
 
-  pub line-found : (from : ℕ) → s.start < s.end → lines_at t from ≡ lines_at t k → IsNextLine t from r
-  line-found from g e = record {
+  pub line_found : (from : ℕ) → s.start < s.end → lines_at t from ≡ lines_at t k → IsNextLine t from r
+  line_found from g e = record {
     ordered = l.ordered;
     high = omega (arith, l.high, l.past);
     past = l.past;

@@ -13,8 +13,8 @@ use Rattle.rules.specs.Text.{letters}
 use Rattle.rules.specs.Refusals.{Check, Answers, refuse}
 use Rattle.rules.specs.Calls.{lent}
 use Rattle.rules.proofs.Answers.{None, Numbered, applied, passed, done, stopped, joined, none_of}
-use Rattle.rules.proofs.Answers.{numbered_join, numbered-each}
-use Rattle.rules.proofs.Calls.{lent_take, call-refused, call-short, call-done}
+use Rattle.rules.proofs.Answers.{numbered_join, numbered_each}
+use Rattle.rules.proofs.Calls.{lent_take, call_refused, call_short, call_done}
 use Rattle.round_trip.proofs.RoundTrip.{numbers_length}
 use Rattle.grammar.specs.TableText.{Part, part, parts, kept, lines, field, heading, row}
 use Rattle.grammar.specs.TableText.{number, rings_in, text_rings, text_table, text_labelled, text_version, max_text}
@@ -26,7 +26,7 @@ use Rattle.text_reader.specs.declared.Heading.{Heading}
 use Rattle.text_reader.specs.declared.Rows.{Rows}
 use Rattle.text_reader.specs.declared.TextReading.{TextReading}
 use Rattle.text_reader.specs.Reading.{IsHeading, Rest, AreRows, IsNothing, AreLines, version_for}
-use Rattle.text_reader.proofs.Lines.{row-numbered}
+use Rattle.text_reader.proofs.Lines.{row_numbered}
 
 -- ---- no refusal has the number 0
 
@@ -36,8 +36,8 @@ heading_numbered l = omega arith
 
 rows_numbered : (t : List ℕ) → Numbered (each (text_table t).rows (λ i. text_row_checks (text_rings t) (text_table t).elements (row t i) i))
 rows_numbered t =
-    numbered-each (λ i. text_row_checks (text_rings t) (text_table t).elements (row t i) i) (text_table t).rows
-    (λ i. row-numbered (text_rings t) (text_table t).elements (row t i) i)
+    numbered_each (λ i. text_row_checks (text_rings t) (text_table t).elements (row t i) i) (text_table t).rows
+    (λ i. row_numbered (text_rings t) (text_table t).elements (row t i) i)
 
 abbrev empty : List ℕ → Check
 empty t = refuse 5 (length t) ((text_table t).rows ≡ 0)
@@ -68,8 +68,8 @@ module _ {t : List ℕ} {r : Line} (n : IsNextLine t 0 r) where
   first_of : r.start < r.end → lines t ≡ line_of t r ∷ lines_at t r.next
   first_of g = sym (lines_all t) ∙ n.one g
 
-  pub this-heading : heading t ≡ line_of t r
-  this-heading =
+  pub this_heading : heading t ≡ line_of t r
+  this_heading =
       ⊎_elim
       (λ g. ap (λ (qs : List Part). get_or qs 0 (part (length t) [])) (first_of g))
       (λ e.
@@ -80,17 +80,17 @@ module _ {t : List ℕ} {r : Line} (n : IsNextLine t 0 r) where
 
   module _ {h : Heading} (H : IsHeading (line_of t r) h) where
     pub here : Answers (heading_checks (heading t)) h.number h.place
-    here = subst (λ (l : Part). Answers (heading_checks l) h.number h.place) (sym this-heading) H.answers
+    here = subst (λ (l : Part). Answers (heading_checks l) h.number h.place) (sym this_heading) H.answers
 
     module _ (e : h.number ≡ 0) where
-      pub heading-passes : None (heading_checks (heading t))
-      heading-passes = none_of (heading_checks (heading t)) h.place (heading_numbered (heading t)) (rw e at here)
+      pub heading_passes : None (heading_checks (heading t))
+      heading_passes = none_of (heading_checks (heading t)) h.place (heading_numbered (heading t)) (rw e at here)
 
-      pub elements-are : h.elements ≡ (text_table t).elements
-      elements-are = H.elements e ∙ ap (λ (l : Part). number (field l 1)) (sym this-heading)
+      pub elements_are : h.elements ≡ (text_table t).elements
+      elements_are = H.elements e ∙ ap (λ (l : Part). number (field l 1)) (sym this_heading)
 
-      pub rings-are : h.rings ≡ text_rings t
-      rings-are = H.rings e ∙ ap rings_in (sym this-heading)
+      pub rings_are : h.rings ≡ text_rings t
+      rings_are = H.rings e ∙ ap rings_in (sym this_heading)
 
       -- an empty text has no heading
       filled : r.start ≡ r.end → ⊥
@@ -99,7 +99,7 @@ module _ {t : List ℕ} {r : Line} (n : IsNextLine t 0 r) where
           let nil : heading t ≡ part (length t) [] =
           ap (λ (qs : List Part). get_or qs 0 (part (length t) [])) (sym (lines_all t) ∙ (n.none z).0) in
           let word : (field (heading t) 0).bytes ≡ [] = ap (λ (l : Part). (field l 0).bytes) nil ∙ nothing_there (length t) in
-          heading-passes.0 (
+          heading_passes.0 (
             (λ w. let y : [] ≡ letters "elements" = sym word ∙ w in let x : ⊥ = omega (arith, ap length y) in x),
             (λ w. let y : [] ≡ letters "board" = sym word ∙ w in let x : ⊥ = omega (arith, ap length y) in x),
           )
@@ -135,10 +135,10 @@ module _ (t was now : List ℕ) where
     same = e;
   }
 
-  pub lines-heading : (r : TextReading) (n p : ℕ) → n ≢ 0 → Answers (heading_checks (heading t)) n p
+  pub lines_heading : (r : TextReading) (n p : ℕ) → n ≢ 0 → Answers (heading_checks (heading t)) n p
       → (r.number ≡ n) × (r.place ≡ p) × IsNothing r → length now ≡ length was → AreLines t was now r
   unfolding text_line_checks
-  lines-heading r n p h a z e =
+  lines_heading r n p h a z e =
       refused r (λ g. h (sym z.0 ∙ g))
       (rw (z.0, z.1) (stopped (heading_checks (heading t)) (rows ++ (empty t ∷ [])) n p h a)) z.2 e
 
@@ -157,10 +157,10 @@ module _ (t was now : List ℕ) where
       rows_pass : None rows
       rows_pass = none_of rows f.place (rows_numbered t) (rw e at F.answers)
 
-      pub lines-empty : (r : TextReading) → f.rows ≡ 0
+      pub lines_empty : (r : TextReading) → f.rows ≡ 0
           → (r.number ≡ 5) × (r.place ≡ length t) × IsNothing r → AreLines t was now r
       unfolding text_line_checks
-      lines-empty r h z =
+      lines_empty r h z =
           refused r (λ g. let w : ⊥ = omega (arith, z.0, g) in w)
           (rw (z.0, z.1)
           (joined (heading_checks (heading t)) (rows ++ (empty t ∷ [])) 5 (length t) passes
@@ -168,11 +168,11 @@ module _ (t was now : List ℕ) where
           (applied (empty t) [] 5 (length t) (sym (F.rows e) ∙ h) refl refl))))
           z.2 F.same
 
-      pub lines-done : (k : List ℕ) (v M r : ℕ) → f.rows ≢ 0 → r ≡ text_rings t → M ≡ (text_table t).elements → k ≡ mark_of r
+      pub lines_done : (k : List ℕ) (v M r : ℕ) → f.rows ≢ 0 → r ≡ text_rings t → M ≡ (text_table t).elements → k ≡ mark_of r
           → v ≡ version_for r f.labelled
           → AreLines t was now (record { number = 0; place = 0; mark = k; version = v; table = record { elements = M; rows = f.rows } })
       unfolding text_line_checks text_version
-      lines-done k v M r h g m y w = record {
+      lines_done k v M r h g m y w = record {
         answers =
             joined (heading_checks (heading t)) (rows ++ (empty t ∷ [])) 0 0 passes
             (joined rows (empty t ∷ []) 0 0 rows_pass (passed (empty t) [] 0 0 (λ z. h (F.rows e ∙ z)) done));
@@ -192,12 +192,12 @@ module _ (t was : List ℕ) where
   abbrev short : Type 0
   short = length was < row_numbers * (text_table t).rows
 
-  pub read-long : (r : TextReading) → max_text < length t
+  pub read_long : (r : TextReading) → max_text < length t
       → (r.number ≡ 33) × (r.place ≡ max_text) × IsNothing r
       → TextRead t was was r.number r.place r.mark r.version r.table.elements r.table.rows
   unfolding text_reader_checks text_checks
-  read-long r l z =
-      call-refused (text_checks t) short
+  read_long r l z =
+      call_refused (text_checks t) short
       (applied (long_text t) (text_line_checks t) r.number r.place l z.0 z.1) (λ g. let w : ⊥ = omega (arith, z.0, g) in w)
       (z.2.mark, z.2.version, z.2.elements, z.2.rows, refl)
 
@@ -213,7 +213,7 @@ module _ (t was : List ℕ) where
     unfolding text_reader_checks
     read_refused h =
         let z = L.refused h in
-        call-refused (text_checks t) short answers h (z.mark, z.version, z.elements, z.rows, refl)
+        call_refused (text_checks t) short answers h (z.mark, z.version, z.elements, z.rows, refl)
 
     module _ (e : r.number ≡ 0) where
       pub read_short : (s : TextReading) → length was < row_numbers * r.table.rows
@@ -222,14 +222,14 @@ module _ (t was : List ℕ) where
       unfolding text_reader_checks
       read_short s h z =
           rw (z.0, z.1)
-          (call-short (text_checks t) short (none_of (text_checks t) r.place (text_numbered t) (rw e at answers))
+          (call_short (text_checks t) short (none_of (text_checks t) r.place (text_numbered t) (rw e at answers))
           (omega (arith, h, L.rows e)) (z.2.mark, z.2.version, z.2.elements, z.2.rows, refl))
 
       pub read_done : (out : List ℕ) → row_numbers * r.table.rows ≤ length was → out ≡ lent (numbers (text_labelled t)) was
           → TextRead t was out r.number r.place r.mark r.version r.table.elements r.table.rows
       unfolding text_reader_checks
       read_done out h o =
-          call-done (text_checks t) short (text_numbered t) answers e
+          call_done (text_checks t) short (text_numbered t) answers e
           (λ (g : short). let w : ⊥ = omega (arith, h, L.rows e, g) in w) (L.mark e, L.version e, L.elements e, L.rows e, o)
 
 -- the numbers at the front of the memory that they were read into

@@ -18,7 +18,7 @@ use Rattle.rules.specs.Text as text
 use Rattle.decimal.specs.Plain.{IsDigit, Digits, Plain, none, some}
 use Rattle.decimal.proofs.Decimal.{decimal_plain}
 use Rattle.grammar.specs.TableText.{is_newline, is_hash, is_blank, until}
-use Rattle.text_reader.proofs.Parts.{until-past}
+use Rattle.text_reader.proofs.Parts.{until_past}
 
 unfoldable pub clear : (ℕ → Bool) → List ℕ → Bool
 clear p [] = true
@@ -30,7 +30,7 @@ unfolding clear
 until_clear p [] rest h = omega arith
 until_clear p (b ∷ w) rest h =
     let e : p b ≡ false = not-true (p b) (is_true (not (p b)) (fst (not (p b)) (clear p w) h)) in
-    until-past p b (w ++ rest) e ∙ omega (arith, until_clear p w rest (snd (not (p b)) (clear p w) h))
+    until_past p b (w ++ rest) e ∙ omega (arith, until_clear p w rest (snd (not (p b)) (clear p w) h))
 
 pub clear_join : (p : ℕ → Bool) (v w : List ℕ) → T (clear p v) → T (clear p w) → T (clear p (v ++ w))
 unfolding clear

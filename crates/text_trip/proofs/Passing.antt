@@ -126,15 +126,15 @@ one_small a l (suc i) m = absurd (let z : ⊥ = omega arith in z)
 -- ---- the heading
 
 module _ (M : ℕ) {r : ℕ} (o : OneOrTwo r) where
-  top-words : (s : ℕ) → words (part s (body (head_line r M))) ≡ name r ∷ decimal M ∷ []
+  top_words : (s : ℕ) → words (part s (body (head_line r M))) ≡ name r ∷ decimal M ∷ []
   unfolding head_line clear
-  top-words s =
+  top_words s =
       one_or_two (λ r. words (part s (body (head_line r M))) ≡ name r ∷ decimal M ∷ [])
       (words_of s (letters "elements") (M ∷ []) tt (omega arith)) (words_of s (letters "board") (M ∷ []) tt (omega arith)) o
 
-  top-plain : T (clear is_newline (body (head_line r M))) × T (clear is_hash (body (head_line r M)))
+  top_plain : T (clear is_newline (body (head_line r M))) × T (clear is_hash (body (head_line r M)))
   unfolding head_line clear
-  top-plain =
+  top_plain =
       one_or_two (λ r. T (clear is_newline (body (head_line r M))) × T (clear is_hash (body (head_line r M)))) (
         body_clear is_newline newline_skips refl (letters "elements") (M ∷ []) tt,
         body_clear is_hash hash_skips refl (letters "elements") (M ∷ []) tt,
@@ -144,9 +144,9 @@ module _ (M : ℕ) {r : ℕ} (o : OneOrTwo r) where
       )
       o
 
-  top-short : M ≤ max_number → length (body (head_line r M)) ≤ 20
+  top_short : M ≤ max_number → length (body (head_line r M)) ≤ 20
   unfolding head_line
-  top-short l =
+  top_short l =
       one_or_two (λ r. length (body (head_line r M)) ≤ 20)
       (omega (arith, body_length (says "elements" (M ∷ [])), line_short (letters "elements") (M ∷ []) (one_small M l)))
       (omega (arith, body_length (says "board" (M ∷ [])), line_short (letters "board") (M ∷ []) (one_small M l))) o
@@ -179,9 +179,9 @@ module _ (v : ℕ) (t : Labelled) (o : OneOrTwo t.table.rings) (known : Known t.
   abbrev below : List ℕ
   below = each n (λ i. body (row_line v t i) ++ (newline ∷ []))
 
-  text-is : table_text v t ≡ body top ++ (newline ∷ (body (note r v) ++ (newline ∷ below)))
+  text_is : table_text v t ≡ body top ++ (newline ∷ (body (note r v) ++ (newline ∷ below)))
   unfolding table_text
-  text-is =
+  text_is =
       text_first top _ ∙ body_line top _
       ∙ ap (λ (y : List ℕ). body top ++ (newline ∷ y))
       (text_first (note r v) _ ∙ body_line (note r v) _
@@ -192,8 +192,8 @@ module _ (v : ℕ) (t : Labelled) (o : OneOrTwo t.table.rings) (known : Known t.
       words_of s (decimal (t.table.cost i)) (row_line v t i).numbers (decimal_clear is_blank blank_skips (t.table.cost i))
       (decimal_some (t.table.cost i))
 
-  rows-plain : Lines n (λ i. body (row_line v t i))
-  rows-plain = record {
+  rows_plain : Lines n (λ i. body (row_line v t i))
+  rows_plain = record {
     newlines = λ i l.
         body_clear is_newline newline_skips refl (decimal (t.table.cost i)) (row_line v t i).numbers
         (decimal_clear is_newline newline_skips (t.table.cost i));
@@ -212,43 +212,43 @@ module _ (v : ℕ) (t : Labelled) (o : OneOrTwo t.table.rings) (known : Known t.
   lines_are : lines (table_text v t) ≡ part 0 (body top) ∷ lines_from k₂ below
   unfolding lines
   lines_are =
-      let p = top-plain M o in
+      let p = top_plain M o in
       let c = note_line o known in
-      ap (lines_from 0) text-is
-      ∙ lines_one 0 (body top) _ p.0 p.1 (filled (part 0 (body top)) (top-words M o 0))
+      ap (lines_from 0) text_is
+      ∙ lines_one 0 (body top) _ p.0 p.1 (filled (part 0 (body top)) (top_words M o 0))
       ∙ ap (λ (qs : List Part). part 0 (body top) ∷ qs) (lines_note k₁ (body (note r v)) below c.0 c.1)
 
   rows_are : Are (lines_from k₂ below) n (λ i. body (row_line v t i))
-  rows_are = lines_each n (λ i. body (row_line v t i)) k₂ rows-plain
+  rows_are = lines_each n (λ i. body (row_line v t i)) k₂ rows_plain
 
   abbrev end : Part
   end = part (length (table_text v t)) []
 
   -- ---- what its lines say
 
-  head-word : (k : ℕ) → (field (heading (table_text v t)) k).bytes ≡ get_or (name r ∷ decimal M ∷ []) k []
-  head-word k =
+  head_word : (k : ℕ) → (field (heading (table_text v t)) k).bytes ≡ get_or (name r ∷ decimal M ∷ []) k []
+  head_word k =
       field_word (heading (table_text v t)) k
       ∙ ap (λ (ws : List (List ℕ)). get_or ws k [])
-      (ap words (ap (λ (qs : List Part). get_or qs 0 end) lines_are) ∙ top-words M o 0)
+      (ap words (ap (λ (qs : List Part). get_or qs 0 end) lines_are) ∙ top_words M o 0)
 
-  rings-is : text_rings (table_text v t) ≡ t.table.rings
-  rings-is = name_rings (heading (table_text v t)) o (head-word 0)
+  rings_is : text_rings (table_text v t) ≡ t.table.rings
+  rings_is = name_rings (heading (table_text v t)) o (head_word 0)
 
   elements_is : (text_table (table_text v t)).elements ≡ t.table.elements
-  elements_is = number_right (field (heading (table_text v t)) 1) M (head-word 1)
+  elements_is = number_right (field (heading (table_text v t)) 1) M (head_word 1)
 
-  rows-count : (text_table (table_text v t)).rows ≡ n
-  rows-count = let e : length (lines (table_text v t)) ≡ suc n = ap length lines_are ∙ ap suc rows_are.size in omega (arith, e)
+  rows_count : (text_table (table_text v t)).rows ≡ n
+  rows_count = let e : length (lines (table_text v t)) ≡ suc n = ap length lines_are ∙ ap suc rows_are.size in omega (arith, e)
 
   module _ (i : ℕ) (l : i < n) where
-    line-words : words (row (table_text v t) i) ≡ decimal (t.table.cost i) ∷ map decimal (row_line v t i).numbers
-    line-words =
+    line_words : words (row (table_text v t) i) ≡ decimal (t.table.cost i) ∷ map decimal (row_line v t i).numbers
+    line_words =
         let z = rows_are.line end i l in
         ap words (ap (λ (qs : List Part). get_or qs (suc i) end) lines_are ∙ z.1) ∙ row_words z.0 i
 
     word : (k : ℕ) → (field (row (table_text v t) i) k).bytes ≡ get_or (decimal (t.table.cost i) ∷ map decimal (row_line v t i).numbers) k []
-    word k = field_word (row (table_text v t) i) k ∙ ap (λ (ws : List (List ℕ)). get_or ws k []) line-words
+    word k = field_word (row (table_text v t) i) k ∙ ap (λ (ws : List (List ℕ)). get_or ws k []) line_words
 
     absent : last_size r v ≡ 0 → (last (row (table_text v t) i)).bytes ≡ []
     absent e = word 4 ∙ ap (λ (xs : List ℕ). get_or (map decimal xs) 0 []) (last_absent r v (last_number_of t i) e)
@@ -264,9 +264,9 @@ module _ (v : ℕ) (t : Labelled) (o : OneOrTwo t.table.rings) (known : Known t.
         go (no h) = ap (λ (xs : List ℕ). get_or (map decimal xs) 1 []) (last_there r v (last_number_of t i) h)
 
     -- with two rings the direction is there
-    needed-there : (field (row (table_text v t) i) (needed r)).bytes ≢ []
+    needed_there : (field (row (table_text v t) i) (needed r)).bytes ≢ []
     unfolding needed
-    needed-there =
+    needed_there =
         ⊎_elim
         (λ e.
         subst (λ (k : ℕ). (field (row (table_text v t) i) (needed k)).bytes ≢ []) (sym e)
@@ -280,8 +280,8 @@ module _ (v : ℕ) (t : Labelled) (o : OneOrTwo t.table.rings) (known : Known t.
   -- ---- it is short
 
   module _ (s : Sound t.table) (small : (i : ℕ) → i < n → last_number_of t i ≤ max_number) where
-    line-fits : (i : ℕ) → i < n → length (body (row_line v t i) ++ (newline ∷ [])) ≤ 30
-    line-fits i l =
+    line_fits : (i : ℕ) → i < n → length (body (row_line v t i) ++ (newline ∷ [])) ≤ 30
+    line_fits i l =
         let w = s.row i l in
         omega (
           arith,
@@ -292,15 +292,15 @@ module _ (v : ℕ) (t : Labelled) (o : OneOrTwo t.table.rings) (known : Known t.
               (omega (arith, w.first_high, s.elements_high)) (omega (arith, w.second_high, s.elements_high)) (small i l),
         )
 
-    pub text-short : length (table_text v t) ≤ longest_text
-    text-short =
+    pub text_short : length (table_text v t) ≤ longest_text
+    text_short =
         omega (
           arith,
-          ap length text-is,
+          ap length text_is,
           length-append (body top) (newline ∷ (body (note r v) ++ (newline ∷ below))),
           length-append (body (note r v)) (newline ∷ below),
-          each_short n 30 (λ i. body (row_line v t i) ++ (newline ∷ [])) line-fits,
-          top-short M o (omega (arith, s.elements_high)),
+          each_short n 30 (λ i. body (row_line v t i) ++ (newline ∷ [])) line_fits,
+          top_short M o (omega (arith, s.elements_high)),
           note_short o known,
           s.rows_high,
         )
@@ -308,45 +308,45 @@ module _ (v : ℕ) (t : Labelled) (o : OneOrTwo t.table.rings) (known : Known t.
   -- ---- it says the table
 
   module _ (fits : Fits (last_size t.table.rings v) t) (told : Told t) where
-    last-is : (i : ℕ) (l : i < n) → number (last (row (table_text v t) i)) ≡ last_number_of t i
-    last-is i l = go (ℕ_discrete (last_size r v) 0)
+    last_is : (i : ℕ) (l : i < n) → number (last (row (table_text v t) i)) ≡ last_number_of t i
+    last_is i l = go (ℕ_discrete (last_size r v) 0)
       where
         go : Dec (last_size r v ≡ 0) → number (last (row (table_text v t) i)) ≡ last_number_of t i
         go (yes e) = (empty_passes (last (row (table_text v t) i)) (absent i l e)).1 ∙ sym (fits e i l)
         go (no h) = number_right (last (row (table_text v t) i)) (last_number_of t i) (there i l h)
 
-    pub text-back : Alike (text_labelled (table_text v t)) t
-    text-back = record {
+    pub text_back : Alike (text_labelled (table_text v t)) t
+    text_back = record {
       elements = elements_is;
-      rows = rows-count;
+      rows = rows_count;
       cost = λ i l. number_right (field (row (table_text v t) i) 0) (t.table.cost i) (word i l 0);
       period = λ i l. number_right (field (row (table_text v t) i) 1) (t.table.period i) (word i l 1);
       first = λ i l. number_right (field (row (table_text v t) i) 2) (t.table.first i) (word i l 2);
       second = λ i l. number_right (field (row (table_text v t) i) 3) (t.table.second i) (word i l 3);
-      rings = rings-is;
-      way = λ i l. ap₂ way_in rings-is (last-is i l) ∙ (told i l).0;
-      label = λ i l. ap₂ label_in rings-is (last-is i l) ∙ (told i l).1;
+      rings = rings_is;
+      way = λ i l. ap₂ way_in rings_is (last_is i l) ∙ (told i l).0;
+      label = λ i l. ap₂ label_in rings_is (last_is i l) ∙ (told i l).1;
     }
 
     -- ---- nothing of it is refused
 
     module _ (s : Sound t.table) (small : (i : ℕ) → i < n → last_number_of t i ≤ max_number) where
-      heading-passes : None (heading_checks (heading (table_text v t)))
+      heading_passes : None (heading_checks (heading (table_text v t)))
       unfolding heading_checks None
-      heading-passes =
+      heading_passes =
           let h : Part = heading (table_text v t) in
           let rest : List Check =
           missing_field (field h 1) ∷ spare_field (field h 2)
           ∷ placed (field h 1).start (wrong_elements (row_table 1 (number (field h 1)) h)) ∷ [] in
           let passes : None rest = (
-            decimal_is (field h 1) M (head-word 1),
+            decimal_is (field h 1) M (head_word 1),
             (
-              λ g. g (head-word 2),
+              λ g. g (head_word 2),
               (λ g. g (omega (arith, elements_is, s.elements_low), omega (arith, elements_is, s.elements_high)), tt),
             ),
           ) in (
-            name_known o (head-word 0),
-            none_join (number_checks (field h 1)) rest (number_passes (field h 1) M (head-word 1) (omega (arith, s.elements_high))) passes,
+            name_known o (head_word 0),
+            none_join (number_checks (field h 1)) rest (number_passes (field h 1) M (head_word 1) (omega (arith, s.elements_high))) passes,
           )
 
       module _ (i : ℕ) (l : i < n) where
@@ -372,20 +372,20 @@ module _ (v : ℕ) (t : Labelled) (o : OneOrTwo t.table.rings) (known : Known t.
             go (yes e) = (empty_passes (last (row (table_text v t) i)) (absent i l e)).0
             go (no h) = number_passes (last (row (table_text v t) i)) (last_number_of t i) (there i l h) (small i l)
 
-        form-passes : None (form_checks r (row (table_text v t) i))
+        form_passes : None (form_checks r (row (table_text v t) i))
         unfolding form_checks None
-        form-passes =
+        form_passes =
             let ends : List Check = missing_field (q (needed r)) ∷ spare_field (q 5) ∷ [] in
             none_join (each 4 (λ k. number_checks (q k))) (number_checks (last (row (table_text v t) i)) ++ ends)
             (none_each (λ k. number_checks (q k)) 4 cells)
-            (none_join (number_checks (last (row (table_text v t) i))) ends lasts (needed-there i l, (λ g. g (no_more i l), tt)))
+            (none_join (number_checks (last (row (table_text v t) i))) ends lasts (needed_there i l, (λ g. g (no_more i l), tt)))
 
         row_sound : SoundRow (row_table (text_rings (table_text v t)) (text_table (table_text v t)).elements (row (table_text v t) i)) 0
         row_sound =
-            let c = text-back.cost i l in
-            let p = text-back.period i l in
-            let a = text-back.first i l in
-            let b = text-back.second i l in
+            let c = text_back.cost i l in
+            let p = text_back.period i l in
+            let a = text_back.first i l in
+            let b = text_back.second i l in
             record {
               first_low = omega (arith, a, w.first_low);
               first_high = omega (arith, a, elements_is, w.first_high);
@@ -396,35 +396,35 @@ module _ (v : ℕ) (t : Labelled) (o : OneOrTwo t.table.rings) (known : Known t.
               period_high = omega (arith, p, w.period_high);
               cost_low = omega (arith, c, w.cost_low);
               cost_high = omega (arith, c, p, w.cost_high);
-              way_known = omega (arith, text-back.way i l, rings-is, w.way_known);
+              way_known = omega (arith, text_back.way i l, rings_is, w.way_known);
             }
 
-        values-pass : None (value_checks (text_rings (table_text v t)) (text_table (table_text v t)).elements (row (table_text v t) i))
+        values_pass : None (value_checks (text_rings (table_text v t)) (text_table (table_text v t)).elements (row (table_text v t) i))
         unfolding value_checks None
-        values-pass =
+        values_pass =
             let x : List ℕ = table_text v t in
             let f = row_none (row_table (text_rings x) (text_table x).elements (row x i)) 0 row_sound in
             (f.0, (f.1.0, (f.1.1.0, (f.1.1.1.0, tt))))
 
-        row-passes : None (text_row_checks (text_rings (table_text v t)) (text_table (table_text v t)).elements (row (table_text v t) i) i)
+        row_passes : None (text_row_checks (text_rings (table_text v t)) (text_table (table_text v t)).elements (row (table_text v t) i) i)
         unfolding text_row_checks None
-        row-passes = (
+        row_passes = (
           λ (g : max_rows ≤ i). let z : ⊥ = omega (arith, s.rows_high) in z,
           none_join (form_checks (text_rings (table_text v t)) (row (table_text v t) i)) _
-              (subst (λ (k : ℕ). None (form_checks k (row (table_text v t) i))) (sym rings-is) form-passes) values-pass,
+              (subst (λ (k : ℕ). None (form_checks k (row (table_text v t) i))) (sym rings_is) form_passes) values_pass,
         )
 
-      pub text-passes : None (text_checks (table_text v t))
+      pub text_passes : None (text_checks (table_text v t))
       unfolding text_checks text_line_checks None
-      text-passes =
+      text_passes =
           let x : List ℕ = table_text v t in
           let one : ℕ → List Check = λ i. text_row_checks (text_rings x) (text_table x).elements (row x i) i in
           let empty : List Check = refuse 5 (length x) ((text_table x).rows ≡ 0) ∷ [] in
-          let some-row : None empty = (λ z. let y : ⊥ = omega (arith, z, rows-count, s.rows_low) in y, tt) in (
-            λ (g : max_text < length (table_text v t)). let z : ⊥ = omega (arith, text-short s small) in z,
-            none_join (heading_checks (heading x)) (each (text_table x).rows one ++ empty) heading-passes
+          let some_row : None empty = (λ z. let y : ⊥ = omega (arith, z, rows_count, s.rows_low) in y, tt) in (
+            λ (g : max_text < length (table_text v t)). let z : ⊥ = omega (arith, text_short s small) in z,
+            none_join (heading_checks (heading x)) (each (text_table x).rows one ++ empty) heading_passes
                 (none_join (each (text_table x).rows one) empty
-                (none_each one (text_table x).rows (λ i l. row-passes i (omega (arith, rows-count)))) some-row),
+                (none_each one (text_table x).rows (λ i l. row_passes i (omega (arith, rows_count)))) some_row),
           )
 
   -- ---- its version
@@ -434,17 +434,17 @@ module _ (v : ℕ) (t : Labelled) (o : OneOrTwo t.table.rings) (known : Known t.
       let k : ℕ = (text_table (table_text v t)).rows in
       let p : ℕ → Bool = λ i. some (last (row (table_text v t) i)).bytes in
       is_true (any k p)
-      (any_of k p 0 (omega (arith, rows-count)) (some_of _ (decimal_is (last (row (table_text v t) 0)) (last_number_of t 0) (there 0 m h))))
+      (any_of k p 0 (omega (arith, rows_count)) (some_of _ (decimal_is (last (row (table_text v t) 0)) (last_number_of t 0) (there 0 m h))))
 
   none_last : last_size r v ≡ 0 → any (text_table (table_text v t)).rows (λ i. some (last (row (table_text v t) i)).bytes) ≡ false
   none_last e =
       any_none (text_table (table_text v t)).rows (λ i. some (last (row (table_text v t) i)).bytes)
-      (λ i l g. subst (λ (xs : List ℕ). T (some xs)) (absent i (omega (arith, rows-count)) e) g)
+      (λ i l g. subst (λ (xs : List ℕ). T (some xs)) (absent i (omega (arith, rows_count)) e) g)
 
-  pub version-back : 1 ≤ n → text_version (table_text v t) ≡ v
+  pub version_back : 1 ≤ n → text_version (table_text v t) ≡ v
   unfolding text_version
-  version-back m =
-      ap (λ (k : ℕ). cond (eqb k max_rings) version_1 (cond b version_2 version_1)) rings-is
+  version_back m =
+      ap (λ (k : ℕ). cond (eqb k max_rings) version_1 (cond b version_2 version_1)) rings_is
       ∙ of_kind (λ r v. (last_size r v ≡ 0 → b ≡ false) → (last_size r v ≢ 0 → b ≡ true)
       → cond (eqb r max_rings) version_1 (cond b version_2 version_1) ≡ v)
       (λ f g. ap (λ (x : Bool). cond x version_2 version_1) (f bare_1)) (λ f g. ap (λ (x : Bool). cond x version_2 version_1) (g bare_2))

@@ -16,7 +16,7 @@ use Rattle.numbers.specs.Lists.{each}
 use Rattle.numbers.proofs.Lists.{each_eq, each_join}
 use Rattle.rules.specs.Text.{Line, space, newline, decimal, text_of}
 use Rattle.grammar.specs.TableText.{Part, part, is_newline, is_hash, is_blank, parts, until, some, kept, fields, uncommented, field}
-use Rattle.text_reader.proofs.Parts.{until-here, until_end, after, parts_first}
+use Rattle.text_reader.proofs.Parts.{until_here, until_end, after, parts_first}
 use Rattle.text_reader.proofs.LineFields.{fields_none, fields_blank, fields_word}
 use Rattle.text_trip.proofs.Clear.{clear, until_clear, spaced, spaced_none, spaced_next, decimal_some, decimal_clear, blank_skips}
 
@@ -48,7 +48,7 @@ words_of s u (x ∷ xs) c l =
     let r : List ℕ = decimal x ++ spaced xs in
     ap (λ (y : List ℕ). words (part s (u ++ y))) (spaced_next x xs)
     ∙ ap (map (λ (q : Part). q.bytes))
-    (first_word s u (space ∷ r) c l (until-here is_blank space r refl)
+    (first_word s u (space ∷ r) c l (until_here is_blank space r refl)
     ∙ ap (λ (qs : List Part). part s u ∷ qs) (fields_blank (s + length u) space r refl))
     ∙ ap (λ (ws : List (List ℕ)). u ∷ ws)
     (words_of (suc (s + length u)) (decimal x) xs (decimal_clear is_blank blank_skips x) (decimal_some x))
@@ -77,7 +77,7 @@ unfolding after
 line_first k w rest c =
     let bs : List ℕ = w ++ (newline ∷ rest) in
     let n : until is_newline bs ≡ length w =
-    until_clear is_newline w (newline ∷ rest) c ∙ omega (arith, until-here is_newline newline rest refl) in
+    until_clear is_newline w (newline ∷ rest) c ∙ omega (arith, until_here is_newline newline rest refl) in
     parts_first is_newline k bs ∙ ap (λ (m : ℕ). part k (take m bs) ∷ after is_newline (k + m) (drop m bs)) n
     ∙ ap₂ (λ (x y : List ℕ). part k x ∷ after is_newline (k + length w) y) (take_at w (newline ∷ rest) (length w) refl)
     (drop_at w (newline ∷ rest) (length w) refl)

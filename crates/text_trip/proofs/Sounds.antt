@@ -16,10 +16,10 @@ use Rattle.numbers.proofs.Truth.{limits, le_or_lt}
 use Rattle.rules.specs.Bounds.{max_elements, max_rows, max_rings}
 use Rattle.rules.specs.TableFile.{version_1, version_2, way_in, label_in}
 use Rattle.rules.specs.Refusals.{Check, refuse, wrong_elements}
-use Rattle.rules.proofs.Answers.{None, none_left, none_right, none-at}
+use Rattle.rules.proofs.Answers.{None, none_left, none_right, none_at}
 use Rattle.table.specs.Sound.{SoundRow, Sound}
 use Rattle.table.proofs.Faults.{Known, row_sound}
-use Rattle.round_trip.proofs.RoundTrip.{Told, OneOrTwo, last-told}
+use Rattle.round_trip.proofs.RoundTrip.{Told, OneOrTwo, last_told}
 use Rattle.grammar.specs.TableText.{Part, some, field, last, heading, row, number, rings_in, text_rings, text_table, text_labelled, text_version}
 use Rattle.grammar.specs.TableText.{number_checks, missing_field, spare_field, placed, row_table, heading_checks, form_checks}
 use Rattle.grammar.specs.TableText.{value_checks, text_row_checks}
@@ -40,7 +40,7 @@ pub text_told : (t : List ℕ) → Told (text_labelled t)
 text_told t i l =
     let r : ℕ = text_rings t in
     let x : ℕ = number (last (row t i)) in
-    (ap (way_in r) (last-told r x), ap (label_in r) (last-told r x))
+    (ap (way_in r) (last_told r x), ap (label_in r) (last_told r x))
 
 -- ---- the table
 
@@ -51,41 +51,41 @@ module _ (t : List ℕ) (a : None (text_checks t)) where
   abbrev empty : List Check
   empty = refuse 5 (length t) ((text_table t).rows ≡ 0) ∷ []
 
-  by-line : None (heading_checks (heading t) ++ (rows ++ empty))
+  by_line : None (heading_checks (heading t) ++ (rows ++ empty))
   unfolding text_checks text_line_checks None
-  by-line = a.1
+  by_line = a.1
 
   head : None (heading_checks (heading t))
-  head = none_left (heading_checks (heading t)) (rows ++ empty) by-line
+  head = none_left (heading_checks (heading t)) (rows ++ empty) by_line
 
   rest : None (rows ++ empty)
-  rest = none_right (heading_checks (heading t)) (rows ++ empty) by-line
+  rest = none_right (heading_checks (heading t)) (rows ++ empty) by_line
 
-  elements-right : (2 ≤ (text_table t).elements) × ((text_table t).elements ≤ max_elements)
+  elements_right : (2 ≤ (text_table t).elements) × ((text_table t).elements ≤ max_elements)
   unfolding heading_checks None
-  elements-right =
+  elements_right =
       let h : Part = heading t in
       let size : Check = placed (field h 1).start (wrong_elements (row_table 1 (number (field h 1)) h)) in
       limits (text_table t).elements 2 max_elements
       (none_right (number_checks (field h 1)) (missing_field (field h 1) ∷ spare_field (field h 2) ∷ size ∷ []) head.1).1.1.0
 
-  row-right : (i : ℕ) → i < (text_table t).rows → None (text_row_checks (text_rings t) (text_table t).elements (row t i) i)
-  row-right i l =
-      none-at (λ j. text_row_checks (text_rings t) (text_table t).elements (row t j) j) (text_table t).rows i l (none_left rows empty rest)
+  row_right : (i : ℕ) → i < (text_table t).rows → None (text_row_checks (text_rings t) (text_table t).elements (row t i) i)
+  row_right i l =
+      none_at (λ j. text_row_checks (text_rings t) (text_table t).elements (row t j) j) (text_table t).rows i l (none_left rows empty rest)
 
-  some-row : 1 ≤ (text_table t).rows
+  some_row : 1 ≤ (text_table t).rows
   unfolding None
-  some-row = ⊎_elim (λ h. h) (λ h. absurd ((none_right rows empty rest).0 (omega (arith, h)))) (le_or_lt 1 (text_table t).rows)
+  some_row = ⊎_elim (λ h. h) (λ h. absurd ((none_right rows empty rest).0 (omega (arith, h)))) (le_or_lt 1 (text_table t).rows)
 
   few_rows : (text_table t).rows ≤ max_rows
   unfolding text_row_checks None
   few_rows =
-      ⊎_elim (λ h. h) (λ h. absurd ((row-right max_rows h).0 (omega arith))) (le_or_lt (text_table t).rows max_rows)
+      ⊎_elim (λ h. h) (λ h. absurd ((row_right max_rows h).0 (omega arith))) (le_or_lt (text_table t).rows max_rows)
 
-  row-passes : (i : ℕ) → i < (text_table t).rows → SoundRow (text_table t) i
+  row_passes : (i : ℕ) → i < (text_table t).rows → SoundRow (text_table t) i
   unfolding text_row_checks value_checks None
-  row-passes i l =
-      let v = none_right (form_checks (text_rings t) (row t i)) _ (row-right i l).1 in
+  row_passes i l =
+      let v = none_right (form_checks (text_rings t) (row t i)) _ (row_right i l).1 in
       let s : SoundRow (row_table (text_rings t) (text_table t).elements (row t i)) 0 =
       row_sound (row_table (text_rings t) (text_table t).elements (row t i)) 0 (v.0, (v.1.0, (v.1.1.0, (v.1.1.1.0, tt)))) in
       record {
@@ -101,14 +101,14 @@ module _ (t : List ℕ) (a : None (text_checks t)) where
         way_known = s.way_known;
       }
 
-  pub text-sound : Sound (text_table t)
-  text-sound = record {
-    elements_low = elements-right.0;
-    elements_high = elements-right.1;
-    rows_low = some-row;
+  pub text_sound : Sound (text_table t)
+  text_sound = record {
+    elements_low = elements_right.0;
+    elements_high = elements_right.1;
+    rows_low = some_row;
     rows_high = few_rows;
     rings_few = ⊎_elim (λ e. omega (arith, e)) (λ e. omega (arith, e)) (text_rings_lem t);
-    row = row-passes;
+    row = row_passes;
   }
 
 -- ---- the version

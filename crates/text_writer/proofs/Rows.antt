@@ -10,7 +10,7 @@ use Rattle.rules.specs.TableFile.{row_numbers, last_size, label_in, memory_label
 use Rattle.rules.specs.Text.{Line, decimal, text_of, text}
 use Rattle.table.specs.declared.Row.{Row}
 use Rattle.table.specs.Rows.{IsRow}
-use Rattle.round_trip.proofs.RoundTrip.{last-told}
+use Rattle.round_trip.proofs.RoundTrip.{last_told}
 use Rattle.decimal.specs.Puts.{line_of, Puts, PutsLine, PutsLines}
 use Rattle.decimal.proofs.Puts.{puts_more}
 use Rattle.decimal.proofs.Text.{text_first}
@@ -35,7 +35,7 @@ pub number_line_lem : (r v n : ℕ) (xs : List ℕ) (i : ℕ) (x : Row) → IsRo
     → row_line v (memory_labelled_with r 0 n xs) i ≡ number_line r v x
 unfolding label_in
 number_line_lem r v n xs i x q =
-    rw (q.cost, q.period, q.first, q.second, q.label, last-told r (at xs (row_numbers * i + 4)))
+    rw (q.cost, q.period, q.first, q.second, q.label, last_told r (at xs (row_numbers * i + 4)))
 
 pub record Numbers16 (x : Row) : Type 0 where
   pub cost : x.cost ≤ max_number

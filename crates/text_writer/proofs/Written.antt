@@ -10,8 +10,8 @@ use Rattle.rules.specs.TableFile.{rings_of, memory_labelled_with}
 use Rattle.rules.specs.Refusals.{Answers, unknown_mark, version_checks}
 use Rattle.rules.specs.Calls.{lent}
 use Rattle.rules.proofs.Answers.{None, applied, passed}
-use Rattle.rules.proofs.Calls.{filled_lent, call-refused, call-short, call-done, call_only}
-use Rattle.table.proofs.Faults.{version-numbered}
+use Rattle.rules.proofs.Calls.{filled_lent, call_refused, call_short, call_done, call_only}
+use Rattle.table.proofs.Faults.{version_numbered}
 use Rattle.decimal.specs.Puts.{Puts}
 use Rattle.grammar.specs.TableText.{table_text, text_writer_checks, TextWritten}
 use Rattle.text_writer.specs.Lines.{WrittenWith}
@@ -25,30 +25,30 @@ module _ (r v M n : ℕ) (xs was : List ℕ) where
   short = length was < length (table_text v (memory_labelled_with r M n xs))
 
   pub write_refused : (m p : ℕ) → Answers (version_checks r v M n xs) m p → m ≢ 0 → WrittenWith r v M n xs was was m p 0
-  write_refused m p a h = call-refused (version_checks r v M n xs) short a h (refl, refl)
+  write_refused m p a h = call_refused (version_checks r v M n xs) short a h (refl, refl)
 
-  pub write-short : None (version_checks r v M n xs) → short → WrittenWith r v M n xs was was 17 0 0
-  write-short a h = call-short (version_checks r v M n xs) short a h (refl, refl)
+  pub write_short : None (version_checks r v M n xs) → short → WrittenWith r v M n xs was was 17 0 0
+  write_short a h = call_short (version_checks r v M n xs) short a h (refl, refl)
 
   pub write_done : (now : List ℕ) (m p size : ℕ) → Answers (version_checks r v M n xs) m p → m ≡ 0 → (short → ⊥)
       → now ≡ lent (table_text v (memory_labelled_with r M n xs)) was → size ≡ length (table_text v (memory_labelled_with r M n xs))
       → WrittenWith r v M n xs was now m p size
-  write_done now m p size a e h o s = call-done (version_checks r v M n xs) short (version-numbered r M n xs v) a e h (o, s)
+  write_done now m p size a e h o s = call_done (version_checks r v M n xs) short (version_numbered r M n xs v) a e h (o, s)
 
 -- with the mark
 module _ (m : List ℕ) (v M n : ℕ) (xs was : List ℕ) where
-  pub mark-refused : (unknown_mark m).applies → TextWritten m v M n xs was was 2 0 0
+  pub mark_refused : (unknown_mark m).applies → TextWritten m v M n xs was was 2 0 0
   unfolding text_writer_checks
-  mark-refused w = record {
+  mark_refused w = record {
     answers = applied _ _ 2 0 w refl refl;
     done = λ e. absurd (let z : ⊥ = omega arith in z);
     refused = λ h. (refl, refl);
   }
 
-  pub mark-known : (now : List ℕ) (number place size : ℕ) → ((unknown_mark m).applies → ⊥)
+  pub mark_known : (now : List ℕ) (number place size : ℕ) → ((unknown_mark m).applies → ⊥)
       → WrittenWith (rings_of m) v M n xs was now number place size → TextWritten m v M n xs was now number place size
   unfolding text_writer_checks
-  mark-known now number place size h c =
+  mark_known now number place size h c =
       record { answers = passed _ _ number place h c.answers; done = c.done; refused = c.refused }
 
 pub text_written_only : (m : List ℕ) (v M n : ℕ) (xs was now now' : List ℕ) (k k' p p' s s' : ℕ)

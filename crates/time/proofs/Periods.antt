@@ -24,15 +24,15 @@ use Rattle.numbers.proofs.Truth.{is_true, of_true, le_or_lt}
 use Rattle.numbers.proofs.Finite.{any_of, any_none, least}
 use Rattle.numbers.proofs.Lists.{Filled, filled_start, filled_put, zeros_at}
 use Rattle.numbers.proofs.Pairs.{pair_gcd, pair_gcd_self, pair_gcd_swap, pair_gcd_only}
-use Rattle.numbers.proofs.Divisors.{Positive, lcm_none, lcm_next, lcm-multiple, lcm-positive, lcm_grows, of_dvd}
-use Rattle.numbers.proofs.Divisors.{leads_any, leads_same, leading_none, leading-kept, leading-new, leading_leads, leading_few}
-use Rattle.numbers.proofs.Divisors.{least-gcd-only, least-gcd-led}
+use Rattle.numbers.proofs.Divisors.{Positive, lcm_none, lcm_next, lcm_multiple, lcm_positive, lcm_grows, of_dvd}
+use Rattle.numbers.proofs.Divisors.{leads_any, leads_same, leading_none, leading_kept, leading_new, leading_leads, leading_few}
+use Rattle.numbers.proofs.Divisors.{least_gcd_only, least_gcd_led}
 use Rattle.rules.specs.Bounds.{max_rows, max_slots}
 use Rattle.rules.specs.Bus.{Table}
 use Rattle.rules.specs.Loads.{hyperperiod}
 use Rattle.rules.specs.Calls.{lent}
 use Rattle.table.specs.Sound.{Sound}
-use Rattle.lags.proofs.Intervals.{hyperperiod-positive, shortest-gcd}
+use Rattle.lags.proofs.Intervals.{hyperperiod_positive, shortest_gcd}
 use Rattle.time.specs.declared.Time.{Time}
 use Rattle.time.specs.Time.{Periods, Capped, Leading, Nearing, Clocks, no_time, Timed}
 
@@ -74,15 +74,15 @@ module _ {p : ℕ → ℕ} {i : ℕ} {ms : List ℕ} (M : Met p i ms) where
   pub met_next : Met p (i + 1) ms
   met_next = record { earlier = λ s. ⊎_elim (λ e. inl e) (λ w. inr (w.0, omega (arith, w.1), w.2)) (M.earlier s) }
 
-  pub met-put : (s : ℕ) → s < length ms → Met p (i + 1) (set ms s (p i))
-  met-put s l = record { earlier = λ r. go r (ℕ_discrete r s) }
+  pub met_put : (s : ℕ) → s < length ms → Met p (i + 1) (set ms s (p i))
+  met_put s l = record { earlier = λ r. go r (ℕ_discrete r s) }
     where
       go : (r : ℕ) → Dec (r ≡ s) → (at (set ms s (p i)) r ≡ 0) ⊎ ((j : ℕ) × (j < i + 1) × (p j ≡ at (set ms s (p i)) r))
       go r (yes e) = inr (i, omega arith, rw e (sym (get_or-set_same ms s (p i) 0 l)))
       go r (no d) = rw (get_or-set_other ms s r (p i) 0 d) (met_next.earlier r)
 
-  pub met-again : (s : ℕ) → at ms s ≡ p i → 0 < p i → (j : ℕ) × (j < i) × (p j ≡ p i)
-  met-again s e l = ⊎_elim (λ z. absurd (omega arith)) (λ w. (w.0, w.1, w.2 ∙ e)) (M.earlier s)
+  pub met_again : (s : ℕ) → at ms s ≡ p i → 0 < p i → (j : ℕ) × (j < i) × (p j ≡ p i)
+  met_again s e l = ⊎_elim (λ z. absurd (omega arith)) (λ w. (w.0, w.1, w.2 ∙ e)) (M.earlier s)
 
 -- ---- the hyperperiod
 
@@ -90,27 +90,27 @@ module _ {n : ℕ} {p : ℕ → ℕ} where
   positive : Periods n p → (k : ℕ) → k ≤ n → Positive k p
   positive P k l i h = P.low i (omega arith)
 
-  pub rising-start : Rising n p 0 1
-  rising-start = record { rows = omega arith; low = omega arith; high = omega arith; is = lcm_none p }
+  pub rising_start : Rising n p 0 1
+  rising_start = record { rows = omega arith; low = omega arith; high = omega arith; is = lcm_none p }
 
   module _ (P : Periods n p) {i h m : ℕ} (R : Rising n p i h) (l : i < n) (M : IsLcm h (p i) m) where
-    rising-is : lcm (i + 1) p ≡ m
-    rising-is = lcm_next i p (positive P (i + 1) (omega arith)) m (rw R.is M)
+    rising_is : lcm (i + 1) p ≡ m
+    rising_is = lcm_next i p (positive P (i + 1) (omega arith)) m (rw R.is M)
 
-    pub rising-next : m ≤ max_slots → Rising n p (i + 1) m
-    rising-next k = record {
+    pub rising_next : m ≤ max_slots → Rising n p (i + 1) m
+    rising_next k = record {
       rows = omega arith;
-      low = omega (arith, rising-is, lcm-positive (i + 1) p (positive P (i + 1) (omega arith)));
+      low = omega (arith, rising_is, lcm_positive (i + 1) p (positive P (i + 1) (omega arith)));
       high = k;
-      is = rising-is;
+      is = rising_is;
     }
 
     -- the rows after row i can't bring it down again
-    pub rising-over : max_slots < m → max_slots < lcm n p
-    rising-over k = omega (arith, rising-is, lcm_grows (i + 1) n p (positive P n (omega arith)) (omega arith))
+    pub rising_over : max_slots < m → max_slots < lcm n p
+    rising_over k = omega (arith, rising_is, lcm_grows (i + 1) n p (positive P n (omega arith)) (omega arith))
 
-  pub rising-end : {i h : ℕ} → Rising n p i h → n ≤ i → lcm n p ≡ h
-  rising-end {i} {h} R l =
+  pub rising_end : {i h : ℕ} → Rising n p i h → n ≤ i → lcm n p ≡ h
+  rising_end {i} {h} R l =
       let rows = R.rows in
       let e : i ≡ n = omega arith in
       rw e at R.is
@@ -147,62 +147,62 @@ module _ {n : ℕ} {p : ℕ → ℕ} {m : ℕ} {ks : List ℕ} (L : Leading n p 
       ap (λ (xs : List ℕ). at xs k) L.holds
       ∙ get_or-append (leading n p) (drop (length (leading n p)) (replicate max_rows 0)) 0 k (omega (arith, L.count))
 
-  pub leading-is : Leads n p m (at ks)
-  leading-is = leads_same (rw L.count at (leading_leads n p)) leading_at
+  pub leading_is : Leads n p m (at ks)
+  leading_is = leads_same (rw L.count at (leading_leads n p)) leading_at
 
-  pub leading-periods : Periods n p → Periods m (at ks)
-  leading-periods P = periods_led P leading-is (let few = P.few in omega (arith, L.count, leading_few n p))
+  pub leading_periods : Periods n p → Periods m (at ks)
+  leading_periods P = periods_led P leading_is (let few = P.few in omega (arith, L.count, leading_few n p))
 
-  pub leading-only : {k : ℕ} {vs : List ℕ} → Leading n p k vs → (m ≡ k) × (ks ≡ vs)
-  leading-only K = (sym L.count ∙ K.count, L.holds ∙ sym K.holds)
+  pub leading_only : {k : ℕ} {vs : List ℕ} → Leading n p k vs → (m ≡ k) × (ks ≡ vs)
+  leading_only K = (sym L.count ∙ K.count, L.holds ∙ sym K.holds)
 
 module _ {n : ℕ} {p : ℕ → ℕ} (P : Periods n p) where
   pub keeping_start : Keeping n p 0 0 (replicate max_rows 0)
   keeping_start = record { rows = omega arith; filled = rw (leading_none p) (filled_start (replicate max_rows 0)) }
 
   module _ {i m : ℕ} {ks : List ℕ} (K : Keeping n p i m ks) where
-    keeping-leads : Leads i p m (at ks)
-    keeping-leads =
+    keeping_leads : Leads i p m (at ks)
+    keeping_leads =
         leads_same (rw K.filled.count at (leading_leads i p))
         (λ k l. ap (λ (xs : List ℕ). at xs k) K.filled.holds
         ∙ get_or-append (leading i p) (drop m (replicate max_rows 0)) 0 k (let c = K.filled.count in omega arith))
 
-    pub keeping-low : (k : ℕ) → k < m → 0 < at ks k
-    keeping-low k l =
-        let r = keeping-leads.among k l in
+    pub keeping_low : (k : ℕ) → k < m → 0 < at ks k
+    keeping_low k l =
+        let r = keeping_leads.among k l in
         let rows = K.rows in
         omega (arith, r.2, P.low r.0 (omega (arith, r.1)))
 
-    pub keeping-room : m ≤ max_rows
-    keeping-room = let c = K.filled.count in let few = P.few in let rows = K.rows in omega (arith, leading_few i p)
+    pub keeping_room : m ≤ max_rows
+    keeping_room = let c = K.filled.count in let few = P.few in let rows = K.rows in omega (arith, leading_few i p)
 
     module _ (l : i < n) where
       -- a period that is a multiple of one that leads
-      pub keeping-kept : any m (λ k. divides (at ks k) (p i)) ≡ true → Keeping n p (i + 1) m ks
-      keeping-kept e = record {
+      pub keeping_kept : any m (λ k. divides (at ks k) (p i)) ≡ true → Keeping n p (i + 1) m ks
+      keeping_kept e = record {
         rows = omega arith;
-        filled = rw (leading-kept i p (sym (leads_any keeping-leads (p i)) ∙ e)) K.filled;
+        filled = rw (leading_kept i p (sym (leads_any keeping_leads (p i)) ∙ e)) K.filled;
       }
 
       -- one that was met before is a multiple of itself
-      pub keeping-again : (j : ℕ) → j < i → p j ≡ p i → Keeping n p (i + 1) m ks
-      keeping-again j h e =
+      pub keeping_again : (j : ℕ) → j < i → p j ≡ p i → Keeping n p (i + 1) m ks
+      keeping_again j h e =
           let same : any i (λ k. divides (p k) (p i)) ≡ true =
           is_true _ (any_of i (λ k. divides (p k) (p i)) j h (of_dvd (p j) (p i) (rw e (dvd_refl (p i))))) in
-          keeping-kept (leads_any keeping-leads (p i) ∙ same)
+          keeping_kept (leads_any keeping_leads (p i) ∙ same)
 
-      pub keeping-space : m < max_rows
-      keeping-space = let c = K.filled.count in let few = P.few in omega (arith, leading_few i p)
+      pub keeping_space : m < max_rows
+      keeping_space = let c = K.filled.count in let few = P.few in omega (arith, leading_few i p)
 
       -- and one that is not
-      pub keeping-new : any m (λ k. divides (at ks k) (p i)) ≡ false → Keeping n p (i + 1) (m + 1) (set ks m (p i))
-      keeping-new e =
+      pub keeping_new : any m (λ k. divides (at ks k) (p i)) ≡ false → Keeping n p (i + 1) (m + 1) (set ks m (p i))
+      keeping_new e =
           let zeros : List ℕ = replicate max_rows 0 in
           let nought : ℕ = 0 in
           let size : length zeros ≡ max_rows = length-replicate max_rows nought in
-          let room : m < length zeros = omega (arith, keeping-space) in
+          let room : m < length zeros = omega (arith, keeping_space) in
           let F : Filled (replicate max_rows 0) (set ks m (p i)) (m + 1) (leading i p ++ (p i ∷ [])) = filled_put (p i) K.filled room in
-          record { rows = omega arith; filled = rw (leading-new i p (sym (leads_any keeping-leads (p i)) ∙ e)) F }
+          record { rows = omega arith; filled = rw (leading_new i p (sym (leads_any keeping_leads (p i)) ∙ e)) F }
 
 pub keeping_end : {n : ℕ} {p : ℕ → ℕ} {i m : ℕ} {ks : List ℕ} → Keeping n p i m ks → n ≤ i → Leading n p m ks
 unfolding lent
@@ -221,9 +221,9 @@ pub record Clocking (n : ℕ) (p : ℕ → ℕ) (i h m : ℕ) (ks ms : List ℕ)
   pub places : length ms ≡ max_rows
 
 module _ {n : ℕ} {p : ℕ → ℕ} (P : Periods n p) where
-  pub clocking-start : Clocking n p 0 1 0 (replicate max_rows 0) (replicate max_rows 0)
-  clocking-start = record {
-    rising = rising-start;
+  pub clocking_start : Clocking n p 0 1 0 (replicate max_rows 0) (replicate max_rows 0)
+  clocking_start = record {
+    rising = rising_start;
     keeping = keeping_start P;
     met = met_start;
     places = length-replicate {A = ℕ} max_rows 0;
@@ -231,13 +231,13 @@ module _ {n : ℕ} {p : ℕ → ℕ} (P : Periods n p) where
 
   module _ {i h m : ℕ} {ks ms : List ℕ} (C : Clocking n p i h m ks ms) (l : i < n) where
     -- a period that was met
-    pub clocking-again : (s : ℕ) → at ms s ≡ p i → Clocking n p (i + 1) h m ks ms
-    clocking-again s e =
-        let w = met-again C.met s e (P.low i l) in
-        let d : p i ∣ h = rw (← w.2, ← C.rising.is) (lcm-multiple i p (positive P i C.rising.rows) w.0 w.1) in
+    pub clocking_again : (s : ℕ) → at ms s ≡ p i → Clocking n p (i + 1) h m ks ms
+    clocking_again s e =
+        let w = met_again C.met s e (P.low i l) in
+        let d : p i ∣ h = rw (← w.2, ← C.rising.is) (lcm_multiple i p (positive P i C.rising.rows) w.0 w.1) in
         record {
-          rising = rising-next P C.rising l (lcm_kept d) C.rising.high;
-          keeping = keeping-again P C.keeping l w.0 w.1 w.2;
+          rising = rising_next P C.rising l (lcm_kept d) C.rising.high;
+          keeping = keeping_again P C.keeping l w.0 w.1 w.2;
           met = met_next C.met;
           places = C.places;
         }
@@ -246,18 +246,18 @@ module _ {n : ℕ} {p : ℕ → ℕ} (P : Periods n p) where
     module _ (s : ℕ) (f : s < max_rows) {r : ℕ} (L : IsLcm h (p i) r) (k : r ≤ max_slots) where
       new : {x : ℕ} {ys : List ℕ} → Keeping n p (i + 1) x ys → Clocking n p (i + 1) r x ys (set ms s (p i))
       new K = record {
-        rising = rising-next P C.rising l L k;
+        rising = rising_next P C.rising l L k;
         keeping = K;
-        met = met-put C.met s (omega (arith, C.places));
+        met = met_put C.met s (omega (arith, C.places));
         places = length-set ms s (p i) ∙ C.places;
       }
 
-      pub clocking-kept : any m (λ k. divides (at ks k) (p i)) ≡ true → Clocking n p (i + 1) r m ks (set ms s (p i))
-      clocking-kept e = new (keeping-kept P C.keeping l e)
+      pub clocking_kept : any m (λ k. divides (at ks k) (p i)) ≡ true → Clocking n p (i + 1) r m ks (set ms s (p i))
+      clocking_kept e = new (keeping_kept P C.keeping l e)
 
-      pub clocking-new : any m (λ k. divides (at ks k) (p i)) ≡ false
+      pub clocking_new : any m (λ k. divides (at ks k) (p i)) ≡ false
           → Clocking n p (i + 1) r (m + 1) (set ks m (p i)) (set ms s (p i))
-      clocking-new e = new (keeping-new P C.keeping l e)
+      clocking_new e = new (keeping_new P C.keeping l e)
 
 -- past a long hyperperiod, and past the last row
 
@@ -267,10 +267,10 @@ clocks_none l = record { short = λ a. absurd (omega arith); long = λ a. refl }
 pub clocks_end : {n : ℕ} {p : ℕ → ℕ} {i h m l : ℕ} {ks ms : List ℕ} → Periods n p → Clocking n p i h m ks ms → n ≤ i → LeastGcd m (at ks) l
     → Clocks n p (record { hyper = h; interval = l; count = m; period = ks })
 clocks_end P C k G =
-    let e = rising-end C.rising k in
+    let e = rising_end C.rising k in
     let K = keeping_end C.keeping k in
     record {
-      short = λ a. record { hyper = sym e; interval = least-gcd-led (λ i l. P.low i l) (leading-is K) G; leads = K };
+      short = λ a. record { hyper = sym e; interval = least_gcd_led (λ i l. P.low i l) (leading_is K) G; leads = K };
       long = λ a. absurd (let high = C.rising.high in omega (arith, e));
     }
 
@@ -279,28 +279,28 @@ clocks_capped C = record { short = λ l. (C.short l).hyper; long = λ l. ap (λ 
 
 -- so a table's time is found, or its hyperperiod is long
 module _ {t : Table} {c : Time} (s : Sound t) (C : Clocks t.rows t.period c) where
-  pub clocks-timed : c.hyper ≢ 0 → Timed t c
+  pub clocks_timed : c.hyper ≢ 0 → Timed t c
   unfolding hyperperiod
-  clocks-timed z =
+  clocks_timed z =
       let h = capped_some (clocks_capped C) z in
       let T = C.short (omega (arith, h)) in
       record {
         sound = s;
         short = omega (arith, h);
         hyper = h.0;
-        interval = least-gcd-only T.interval (shortest-gcd s);
+        interval = least_gcd_only T.interval (shortest_gcd s);
         leads = T.leads;
       }
 
-  pub clocks-long : c.hyper ≡ 0 → max_slots < hyperperiod t
+  pub clocks_long : c.hyper ≡ 0 → max_slots < hyperperiod t
   unfolding hyperperiod
-  clocks-long z = capped_none (clocks_capped C) z (hyperperiod-positive s)
+  clocks_long z = capped_none (clocks_capped C) z (hyperperiod_positive s)
 
 -- ---- the interval
 
 module _ {n : ℕ} {p : ℕ → ℕ} (P : Periods n p) where
-  pub nearing-start : Nearing n p 1 0 (p 0)
-  nearing-start = record {
+  pub nearing_start : Nearing n p 1 0 (p 0)
+  nearing_start = record {
     first = omega arith;
     some = (0, 0, P.some, P.some, pair_gcd_self (p 0));
     before = λ a b d l h D.
@@ -311,8 +311,8 @@ module _ {n : ℕ} {p : ℕ → ℕ} (P : Periods n p) where
   }
 
   module _ {i j l : ℕ} (N : Nearing n p i j l) (h : i < n) where
-    pub nearing-next : {d : ℕ} → j < i → IsGcd (p i) (p j) d → Nearing n p i (j + 1) (min l d)
-    nearing-next {d} k D = record {
+    pub nearing_next : {d : ℕ} → j < i → IsGcd (p i) (p j) d → Nearing n p i (j + 1) (min l d)
+    nearing_next {d} k D = record {
       first = N.first;
       some = ⊎_elim
           (λ (a : l ≤ d). let e : min l d ≡ l = omega arith in rw e N.some)
@@ -326,8 +326,8 @@ module _ {n : ℕ} {p : ℕ → ℕ} (P : Periods n p) where
     }
 
     -- with itself a period has no less than with the first
-    pub nearing-row : i ≤ j → Nearing n p (i + 1) 0 l
-    nearing-row q =
+    pub nearing_row : i ≤ j → Nearing n p (i + 1) 0 l
+    nearing_row q =
         let w = pair_gcd (p i) (p 0) in
         let own : l ≤ p i =
         omega (arith, N.here 0 w.0 (let k = N.first in omega arith) w.1, le_of_dvd (P.low i h) w.1.left) in
@@ -358,7 +358,7 @@ nearing_end N k = record {
 
 pub time_only : {t : Table} {c d : Time} → Timed t c → Timed t d → c ≡ d
 time_only C D =
-    let e = leading-only C.leads D.leads in
+    let e = leading_only C.leads D.leads in
     λ k. record {
       hyper = (C.hyper ∙ sym D.hyper) k;
       interval = (C.interval ∙ sym D.interval) k;

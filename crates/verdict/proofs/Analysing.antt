@@ -10,12 +10,12 @@ use Rattle.rules.specs.TableFile.{file_table}
 use Rattle.rules.specs.Loads.{reported}
 use Rattle.rules.specs.Refusals.{Check, Answers, given_checks, line_checks, bound_checks, verdict_checks}
 use Rattle.rules.proofs.Answers.{None, stopped, joined, answered, answers_only, none_right}
-use Rattle.rules.proofs.Sets.{sets-only}
+use Rattle.rules.proofs.Sets.{sets_only}
 use Rattle.table.specs.declared.Answer.{Answer}
 use Rattle.table.proofs.ByRow.{by_row_only}
 use Rattle.outline.specs.declared.Outline.{Outline}
 use Rattle.outline.specs.Outlined.{Outlined}
-use Rattle.outline.proofs.Outlined.{answer_only, line-numbered, outlined_none, found_only}
+use Rattle.outline.proofs.Outlined.{answer_only, line_numbered, outlined_none, found_only}
 use Rattle.verdict.specs.declared.Loaded.{Loaded}
 use Rattle.verdict.specs.declared.Analysis.{Analysis}
 use Rattle.verdict.specs.Weighing.{Weighable, Weighs}
@@ -38,18 +38,18 @@ analysed_after cs ds none {t} {a} A = record {
 
 module _ (t : Table) where
   -- 10 or 11
-  pub analysed-first : (o : Outline) → Outlined (line_checks t) t o → o.answer.number ≢ 0
+  pub analysed_first : (o : Outline) → Outlined (line_checks t) t o → o.answer.number ≢ 0
       → Analysed (table_checks t) t (blank o.answer)
-  analysed-first o O h =
+  analysed_first o O h =
       analysed_refused o.answer h
       (stopped (line_checks t) (bound_checks t) o.answer.number o.answer.place h O.answers)
 
   module _ {o : Outline} {i : ℕ} {xs : List ℕ} (R : Rated t o i xs) where
     pub line_none : None (line_checks t)
-    line_none = outlined_none (line-numbered t) R.outlined R.passed
+    line_none = outlined_none (line_numbered t) R.outlined R.passed
 
-    pub rated-weighable : Weighable t t.rows i o.time o.top o.first o.second xs
-    rated-weighable =
+    pub rated_weighable : Weighable t t.rows i o.time o.top o.first o.second xs
+    rated_weighable =
         let F = R.outlined.found R.passed in
         record {
           rows_is = refl;
@@ -63,12 +63,12 @@ module _ (t : Table) where
 
     module _ (w : Loaded) (W : Weighs t w) where
       -- 13 or 14
-      pub analysed-next : w.answer.number ≢ 0 → Analysed (bound_checks t) t (blank w.answer)
-      analysed-next h = analysed_refused w.answer h W.answers
+      pub analysed_next : w.answer.number ≢ 0 → Analysed (bound_checks t) t (blank w.answer)
+      analysed_next h = analysed_refused w.answer h W.answers
 
       -- none
-      pub analysed-done : w.answer.number ≡ 0 → Analysed (bound_checks t) t (record { outline = o; load = w.load; rate = xs })
-      analysed-done y =
+      pub analysed_done : w.answer.number ≡ 0 → Analysed (bound_checks t) t (record { outline = o; load = w.load; rate = xs })
+      analysed_done y =
           let O = R.outlined in
           let F = O.found R.passed in
           let s = F.timed.sound in
@@ -82,7 +82,7 @@ module _ (t : Table) where
               outline = F;
               admissible = table_admissible t s none;
               rate = R.weighed.rate;
-              load = v.3 ∙ ap (reported t) (sets-only s.rows_low v.1 F.list);
+              load = v.3 ∙ ap (reported t) (sets_only s.rows_low v.1 F.list);
             };
             refused = λ h. absurd (h R.passed);
           }
@@ -90,14 +90,14 @@ module _ (t : Table) where
 -- ---- of a file
 
 module _ (f : List ℕ) where
-  pub analysed-given : (r : Answer) → r.number ≢ 0 → Answers (given_checks f) r.number r.place
+  pub analysed_given : (r : Answer) → r.number ≢ 0 → Answers (given_checks f) r.number r.place
       → Analysed (verdict_checks f) (file_table f) (blank r)
-  analysed-given r h a = analysed_refused r h (given_stops f r.number r.place h a)
+  analysed_given r h a = analysed_refused r h (given_stops f r.number r.place h a)
 
   -- past these checks its table's analysis is the file's
-  pub analysed-past : (p : ℕ) → Answers (given_checks f) 0 p → {a : Analysis} → Analysed (table_checks (file_table f)) (file_table f) a
+  pub analysed_past : (p : ℕ) → Answers (given_checks f) 0 p → {a : Analysis} → Analysed (table_checks (file_table f)) (file_table f) a
       → Analysed (verdict_checks f) (file_table f) a
-  analysed-past p c {a} A = record {
+  analysed_past p c {a} A = record {
     answers = given_passes f p c a.outline.answer.number a.outline.answer.place A.answers;
     found = A.found;
     refused = A.refused;

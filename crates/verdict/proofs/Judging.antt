@@ -15,12 +15,12 @@ use Rattle.rules.specs.Loads.{hyperperiod, reported}
 use Rattle.rules.specs.Refusals.{Check, Answers, given_checks, line_checks, bound_checks, verdict_checks}
 use Rattle.rules.specs.Calls as calls
 use Rattle.rules.proofs.Answers.{None, Numbered, none_of, stopped, joined, answered, answers_only, none_position, position_none}
-use Rattle.rules.proofs.Sets.{sets-only}
+use Rattle.rules.proofs.Sets.{sets_only}
 use Rattle.table.specs.declared.Answer.{Answer}
 use Rattle.outline.specs.declared.Layout.{Layout}
 use Rattle.outline.specs.declared.Outline.{Outline}
 use Rattle.outline.specs.Layout.{LaidOut}
-use Rattle.outline.proofs.Outlined.{answer_only, line-numbered, found_count}
+use Rattle.outline.proofs.Outlined.{answer_only, line_numbered, found_count}
 use Rattle.verdict.specs.declared.Loaded.{Loaded}
 use Rattle.verdict.specs.declared.Verdict.{Verdict}
 use Rattle.verdict.specs.declared.Verdict.TheVariants.{Admitted, Refused}
@@ -40,29 +40,29 @@ judged_refused r h a = record { answers = a; done = λ e. absurd (h e); refused 
 
 module _ {t : Table} {l : Layout} (A : LaidOut t l) where
   -- 10 or 11
-  pub judged-first : l.answer.number ≢ 0 → JudgedBy (table_checks t) t (Refused l.answer)
-  judged-first h =
+  pub judged_first : l.answer.number ≢ 0 → JudgedBy (table_checks t) t (Refused l.answer)
+  judged_first h =
       judged_refused l.answer h
       (stopped (line_checks t) (bound_checks t) l.answer.number l.answer.place h A.answers)
 
   module _ (z : l.answer.number ≡ 0) (w : Loaded) (W : Weighs t w) where
-    none-line : None (line_checks t)
-    none-line = none_of (line_checks t) l.answer.place (line-numbered t) (rw z at A.answers)
+    none_line : None (line_checks t)
+    none_line = none_of (line_checks t) l.answer.place (line_numbered t) (rw z at A.answers)
 
     -- 13 or 14
-    pub judged-next : w.answer.number ≢ 0 → JudgedBy (table_checks t) t (Refused w.answer)
-    judged-next h =
+    pub judged_next : w.answer.number ≢ 0 → JudgedBy (table_checks t) t (Refused w.answer)
+    judged_next h =
         judged_refused w.answer h
-        (joined (line_checks t) (bound_checks t) w.answer.number w.answer.place none-line W.answers)
+        (joined (line_checks t) (bound_checks t) w.answer.number w.answer.place none_line W.answers)
 
     module _ (y : w.answer.number ≡ 0) where
       none : None (table_checks t)
-      none = table_none t none-line w.answer y W.answers
+      none = table_none t none_line w.answer y W.answers
 
       -- none
-      pub judged-admitted : JudgedBy (table_checks t) t
+      pub judged_admitted : JudgedBy (table_checks t) t
           (Admitted l.cut l.other l.time.interval l.time.hyper w.load w.sets)
-      judged-admitted =
+      judged_admitted =
           let L = A.found z in
           let v = W.done y in
           record {
@@ -81,13 +81,13 @@ module _ {t : Table} {l : Layout} (A : LaidOut t l) where
           }
 
       -- the values fit
-      pub values-small : (w.load ≤ 1000) × (w.sets ≤ max_rows)
-      values-small =
+      pub values_small : (w.load ≤ 1000) × (w.sets ≤ max_rows)
+      values_small =
           let s = (A.found z).timed.sound in
           let v = W.done y in
           let few = sets_exist t s (A.found z).clear in (
             omega (arith, v.3, reported_small (table_admissible t s none) v.0 v.1),
-            omega (arith, v.2, ap length (sets-only s.rows_low v.1 few.1), few.2),
+            omega (arith, v.2, ap length (sets_only s.rows_low v.1 few.1), few.2),
           )
 
 -- what an analysis that admits a table says of it
@@ -95,8 +95,8 @@ module _ {t : Table} {a : Analysis} (F : Accepted t a) where
   abbrev found : Outline
   found = a.outline
 
-  pub accepted-values : calls.Admitted t found.cut found.other found.time.interval found.time.hyper a.load found.sets
-  accepted-values =
+  pub accepted_values : calls.Admitted t found.cut found.other found.time.interval found.time.hyper a.load found.sets
+  accepted_values =
       let o = F.outline in
       record {
         list = take a.outline.sets a.outline.words;
@@ -109,8 +109,8 @@ module _ {t : Table} {a : Analysis} (F : Accepted t a) where
         sets_is = sym (found_count o);
       }
 
-  pub accepted-small : a.load ≤ 1000
-  accepted-small = omega (arith, F.load, reported_small F.admissible (take a.outline.sets a.outline.words) F.outline.list)
+  pub accepted_small : a.load ≤ 1000
+  accepted_small = omega (arith, F.load, reported_small F.admissible (take a.outline.sets a.outline.words) F.outline.list)
 
 -- so it is the verdict by the checks that the analysis answers
 pub judged_on : {cs : List Check} {t : Table} {a : Analysis} {r : Verdict} → Numbered cs → Analysed cs t a → VerdictOn a r → JudgedBy cs t r
@@ -137,16 +137,16 @@ hyper_some t = omega arith
 
 module _ {cs : List Check} {t : Table} where
   -- a table that is admitted has an h, so no refusal has the number 0
-  pub refused-number : (r : Answer) → JudgedBy cs t (Refused r) → r.number ≢ 0
-  refused-number r X e = omega (arith, (X.done e).hyper_is, hyper_some t)
+  pub refused_number : (r : Answer) → JudgedBy cs t (Refused r) → r.number ≢ 0
+  refused_number r X e = omega (arith, (X.done e).hyper_is, hyper_some t)
 
   module _ (some : None cs → 1 ≤ t.rows) (numbered : Numbered cs) where
-    admitted-only : (c o i h l s c' o' i' h' l' s' : ℕ) → JudgedBy cs t (Admitted c o i h l s)
+    admitted_only : (c o i h l s c' o' i' h' l' s' : ℕ) → JudgedBy cs t (Admitted c o i h l s)
         → JudgedBy cs t (Admitted c' o' i' h' l' s') → Admitted c o i h l s ≡ Admitted c' o' i' h' l' s'
-    admitted-only c o i h l s c' o' i' h' l' s' X Y =
+    admitted_only c o i h l s c' o' i' h' l' s' X Y =
         let A = X.done refl in
         let B = Y.done refl in
-        let e : A.list ≡ B.list = sets-only (some (none_of cs 0 numbered X.answers)) A.listed B.listed in
+        let e : A.list ≡ B.list = sets_only (some (none_of cs 0 numbered X.answers)) A.listed B.listed in
         λ k. Admitted
         ((A.cut_is ∙ sym B.cut_is) k)
         ((A.second_is ∙ sym B.second_is) k)
@@ -155,17 +155,17 @@ module _ {cs : List Check} {t : Table} where
         ((A.load_is ∙ ap (reported t) e ∙ sym B.load_is) k)
         ((A.sets_is ∙ ap length e ∙ sym B.sets_is) k)
 
-    pub judged-by-only : (r s : Verdict) → JudgedBy cs t r → JudgedBy cs t s → r ≡ s
-    judged-by-only (Admitted c o i h l n) (Admitted c' o' i' h' l' n') X Y = admitted-only c o i h l n c' o' i' h' l' n' X Y
-    judged-by-only (Admitted c o i h l n) (Refused r) X Y =
-        absurd (refused-number r Y (answers_only cs r.number 0 r.place 0 Y.answers X.answers).0)
-    judged-by-only (Refused r) (Admitted c o i h l n) X Y =
-        absurd (refused-number r X (answers_only cs r.number 0 r.place 0 X.answers Y.answers).0)
-    judged-by-only (Refused r) (Refused s) X Y = ap Refused (answer_only cs r s X.answers Y.answers)
+    pub judged_by_only : (r s : Verdict) → JudgedBy cs t r → JudgedBy cs t s → r ≡ s
+    judged_by_only (Admitted c o i h l n) (Admitted c' o' i' h' l' n') X Y = admitted_only c o i h l n c' o' i' h' l' n' X Y
+    judged_by_only (Admitted c o i h l n) (Refused r) X Y =
+        absurd (refused_number r Y (answers_only cs r.number 0 r.place 0 Y.answers X.answers).0)
+    judged_by_only (Refused r) (Admitted c o i h l n) X Y =
+        absurd (refused_number r X (answers_only cs r.number 0 r.place 0 X.answers Y.answers).0)
+    judged_by_only (Refused r) (Refused s) X Y = ap Refused (answer_only cs r s X.answers Y.answers)
 
 module _ (f : List ℕ) where
-  pub judged-only : (r s : Verdict) → IsVerdict f r → IsVerdict f s → r ≡ s
-  judged-only = judged-by-only (λ n. (admissible_of f n).sound.rows_low) (verdict_numbered f)
+  pub judged_only : (r s : Verdict) → IsVerdict f r → IsVerdict f s → r ≡ s
+  judged_only = judged_by_only (λ n. (admissible_of f n).sound.rows_low) (verdict_numbered f)
 
 -- ---- demand 2
 

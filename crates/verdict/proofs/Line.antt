@@ -22,12 +22,12 @@ use Rattle.rules.specs.Bounds.{max_rows, max_slots}
 use Rattle.rules.specs.Loads.{past}
 use Rattle.sets.specs.Walk.{line_size, across, ends_at}
 use Rattle.sets.specs.Sets.{OnLine, SetWords}
-use Rattle.sets.proofs.Overlap.{across-is, across-of}
-use Rattle.sets.proofs.List.{across_word, bit-across}
-use Rattle.sets.proofs.Loops.{Here, here, Walked, walked_start, walked-room, walked-starts, walked_on, walked_end}
-use Rattle.sets.proofs.Loops.{ended-put, ended-none, ended-still}
+use Rattle.sets.proofs.Overlap.{across_is, across_of}
+use Rattle.sets.proofs.List.{across_word, bit_across}
+use Rattle.sets.proofs.Loops.{Here, here, Walked, walked_start, walked_room, walked_starts, walked_on, walked_end}
+use Rattle.sets.proofs.Loops.{ended_put, ended_none, ended_still}
 use Rattle.verdict.specs.Weights.{Rates, weight, next_lowest, SumsAt, Weighed}
-use Rattle.verdict.proofs.Weighing.{weight_small, weighed-start, weighed-next, weighed-more}
+use Rattle.verdict.proofs.Weighing.{weight_small, weighed_start, weighed_next, weighed_more}
 
 -- ---- rates by their rows' ends
 
@@ -62,8 +62,8 @@ sums_small {n} {ends} {xs} S small e l = omega (arith, S.held e l, sum_in_most n
 
 module _ {n : ℕ} {ends xs : ℕ → ℕ} {sums : List ℕ} (S : SumsAt n ends xs sums) (some : (i : ℕ) → i < n → 1 ≤ xs i) where
   -- a sum is 0 just where no row has this end
-  pub sums-there : (e : ℕ) → e < line_size → not (eqb (at sums e) 0) ≡ ends_at n ends e
-  sums-there e l =
+  pub sums_there : (e : ℕ) → e < line_size → not (eqb (at sums e) 0) ≡ ends_at n ends e
+  sums_there e l =
       ⊎_elim
       (λ (z : T (eqb (at sums e) 0)).
       ap not (is_true (eqb (at sums e) 0) z)
@@ -107,46 +107,46 @@ moved false false false true x p q r s u v = absurd (p tt)
 moved false false false false x p q r s u v = refl
 
 module _ {n : ℕ} {first second : ℕ → ℕ} (line : (i : ℕ) → i < n → first i < second i) (xs : List ℕ) where
-  weight-across : (e : ℕ) → weight n xs (across_word n first second e) ≡ sum_in n (across n first second e) (at xs)
+  weight_across : (e : ℕ) → weight n xs (across_word n first second e) ≡ sum_in n (across n first second e) (at xs)
   unfolding weight
-  weight-across e = sum_in_eq n _ _ (at xs) (at xs) (λ i l. bit-across n first second e i) (λ i l t. refl)
+  weight_across e = sum_in_eq n _ _ (at xs) (at xs) (λ i l. bit_across n first second e i) (λ i l t. refl)
 
   -- rows that start at e join, rows that end there leave
-  weight-moved : (e : ℕ)
+  weight_moved : (e : ℕ)
       → weight n xs (across_word n first second e) + sum_in n (λ j. eqb (first j) e) (at xs)
       ≡ weight n xs (across_word n first second (e + 1)) + sum_in n (λ j. eqb (second j) e) (at xs)
-  weight-moved e =
-      ap (λ (x : ℕ). x + sum_in n (λ j. eqb (first j) e) (at xs)) (weight-across e)
+  weight_moved e =
+      ap (λ (x : ℕ). x + sum_in n (λ j. eqb (first j) e) (at xs)) (weight_across e)
       ∙ sym (sum_add n (λ i. only (across n first second e i) (at xs i)) (λ i. only (eqb (first i) e) (at xs i)))
       ∙ sum_eq n (λ i. only (across n first second e i) (at xs i) + only (eqb (first i) e) (at xs i))
       (λ i. only (across n first second (e + 1) i) (at xs i) + only (eqb (second i) e) (at xs i)) each
       ∙ sum_add n (λ i. only (across n first second (e + 1) i) (at xs i)) (λ i. only (eqb (second i) e) (at xs i))
-      ∙ ap (λ (x : ℕ). x + sum_in n (λ j. eqb (second j) e) (at xs)) (sym (weight-across (e + 1)))
+      ∙ ap (λ (x : ℕ). x + sum_in n (λ j. eqb (second j) e) (at xs)) (sym (weight_across (e + 1)))
     where
       each : (i : ℕ) → i < n
           → only (across n first second e i) (at xs i) + only (eqb (first i) e) (at xs i)
           ≡ only (across n first second (e + 1) i) (at xs i) + only (eqb (second i) e) (at xs i)
       each i l =
           moved (across n first second e i) (eqb (first i) e) (across n first second (e + 1) i) (eqb (second i) e) (at xs i)
-          (λ t. across-of n first second e i l (omega (arith, line i l, eqb→eq (second i) e t)) (omega (arith, eqb→eq (second i) e t)))
-          (λ t. across-of n first second (e + 1) i l (omega (arith, eqb→eq (first i) e t)) (omega (arith, line i l, eqb→eq (first i) e t)))
-          (λ t u. let z : ⊥ = omega (arith, across-is n first second e i t, eqb→eq (first i) e u) in z)
-          (λ t u. let z : ⊥ = omega (arith, across-is n first second (e + 1) i t, eqb→eq (second i) e u) in z)
+          (λ t. across_of n first second e i l (omega (arith, line i l, eqb→eq (second i) e t)) (omega (arith, eqb→eq (second i) e t)))
+          (λ t. across_of n first second (e + 1) i l (omega (arith, eqb→eq (first i) e t)) (omega (arith, line i l, eqb→eq (first i) e t)))
+          (λ t u. let z : ⊥ = omega (arith, across_is n first second e i t, eqb→eq (first i) e u) in z)
+          (λ t u. let z : ⊥ = omega (arith, across_is n first second (e + 1) i t, eqb→eq (second i) e u) in z)
           (λ t u.
-          let a = across-is n first second e i t in
+          let a = across_is n first second e i t in
           let d : second i ≢ e = λ q. u (eqb_of (second i) e q) in
-          across-of n first second (e + 1) i l (omega (arith, a)) (omega (arith, a, d)))
+          across_of n first second (e + 1) i l (omega (arith, a)) (omega (arith, a, d)))
           (λ t u.
-          let a = across-is n first second (e + 1) i t in
+          let a = across_is n first second (e + 1) i t in
           let d : first i ≢ e = λ q. u (eqb_of (first i) e q) in
-          across-of n first second e i l (omega (arith, a, d)) (omega (arith, a)))
+          across_of n first second e i l (omega (arith, a, d)) (omega (arith, a)))
 
-  leaving-low : (e : ℕ) → sum_in n (λ j. eqb (second j) e) (at xs) ≤ weight n xs (across_word n first second e)
-  leaving-low e =
-      rw (weight-across e)
+  leaving_low : (e : ℕ) → sum_in n (λ j. eqb (second j) e) (at xs) ≤ weight n xs (across_word n first second e)
+  leaving_low e =
+      rw (weight_across e)
       (sum_le n (λ j. only (eqb (second j) e) (at xs j)) (λ i. only (across n first second e i) (at xs i))
       (λ i l. only_le (eqb (second i) e) (across n first second e i) (at xs i) (at xs i)
-      (λ t. across-of n first second e i l (omega (arith, line i l, eqb→eq (second i) e t)) (omega (arith, eqb→eq (second i) e t)))
+      (λ t. across_of n first second e i l (omega (arith, line i l, eqb→eq (second i) e t)) (omega (arith, eqb→eq (second i) e t)))
       (λ t. omega arith)))
 
 -- ---- the walk
@@ -158,77 +158,77 @@ pub record Passing (n : ℕ) (first second : ℕ → ℕ) (xs : List ℕ) (e : �
   pub load : x ≡ weight n xs (across_word n first second e)
 
 module _ {n : ℕ} {first second : ℕ → ℕ} {xs : List ℕ} {t : Bool} {h l : ℕ} where
-  pub passing-start : Passing n first second xs 0 t h l false 0 0 0 0
+  pub passing_start : Passing n first second xs 0 t h l false 0 0 0 0
   unfolding weight
-  passing-start = record {
+  passing_start = record {
     words = replicate max_rows 0;
     walked = walked_start n first second (replicate max_rows 0);
-    weighed = weighed-start;
+    weighed = weighed_start;
     load = sym (sum_zero n _
         (λ i m. only_false (bit (across_word n first second 0) i) (at xs i)
-        (bit-across n first second 0 i
-        ∙ is_false (across n first second 0 i) (λ u. let z : ⊥ = omega (arith, (across-is n first second 0 i u).1) in z))));
+        (bit_across n first second 0 i
+        ∙ is_false (across n first second 0 i) (λ u. let z : ⊥ = omega (arith, (across_is n first second 0 i u).1) in z))));
   }
 
 -- the walk one element on: `s` and `d` say whether rows start and end there
 walk : {n : ℕ} {first second : ℕ → ℕ} {e w k : ℕ} {was words : List ℕ} (g s d : Bool) → Walked n first second e was g k words
     → Here n first second e s d w → n ≤ length was
     → Walked n first second (e + 1) was (s || (g && not d)) (cond (g && d) (k + 1) k) (cond (g && d) (set words k w) words)
-walk true true true W P l = walked-starts (ended-put W P refl refl l) P refl refl
-walk true false true W P l = walked_on (ended-put W P refl refl l) P refl refl
-walk false true true W P l = walked-starts (ended-none W P refl refl) P refl refl
-walk false false true W P l = walked_on (ended-none W P refl refl) P refl refl
-walk true true false W P l = walked-starts (ended-still W P refl) P refl refl
-walk true false false W P l = walked_on (ended-still W P refl) P refl refl
-walk false true false W P l = walked-starts (ended-still W P refl) P refl refl
-walk false false false W P l = walked_on (ended-still W P refl) P refl refl
+walk true true true W P l = walked_starts (ended_put W P refl refl l) P refl refl
+walk true false true W P l = walked_on (ended_put W P refl refl l) P refl refl
+walk false true true W P l = walked_starts (ended_none W P refl refl) P refl refl
+walk false false true W P l = walked_on (ended_none W P refl refl) P refl refl
+walk true true false W P l = walked_starts (ended_still W P refl) P refl refl
+walk true false false W P l = walked_on (ended_still W P refl) P refl refl
+walk false true false W P l = walked_starts (ended_still W P refl) P refl refl
+walk false false false W P l = walked_on (ended_still W P refl) P refl refl
 
 -- the weights with one more set, of word w and load x, where one closes
 weigh : {n : ℕ} {xs words : List ℕ} {t : Bool} {h l k a b x : ℕ} (w : ℕ) (c : Bool) → Weighed n xs k words t h l a b
     → (c ≡ true → k < length words) → x ≡ weight n xs w → x ≤ max_rows * max_slots
     → Weighed n xs (cond c (k + 1) k) (cond c (set words k w) words) t h l (cond c (next_lowest a k (past t h l x)) a) (cond c (max b x) b)
 weigh {n} {xs} {words} {k = k} w true W room e s =
-    weighed-next (weighed-more (λ j m. get_or-set_other words k j w 0 (λ z. omega arith)) W)
+    weighed_next (weighed_more (λ j m. get_or-set_other words k j w 0 (λ z. omega arith)) W)
     (e ∙ ap (weight n xs) (sym (get_or-set_same words k w 0 (room refl)))) s
 weigh w false W room e s = W
 
 module _ {n : ℕ} {first second : ℕ → ℕ} {xs : List ℕ} {top e : ℕ} {t : Bool} {h l : ℕ} {began : Bool} {k a b x : ℕ}
     (O : OnLine n first second top) (R : Rates xs n) (P : Passing n first second xs e t h l began k a b x) where
-  at-e : Here n first second e (ends_at n first e) (ends_at n second e) (across_word n first second e)
-  at-e = here n first second e (across_word n first second e) refl
+  at_e : Here n first second e (ends_at n first e) (ends_at n second e) (across_word n first second e)
+  at_e = here n first second e (across_word n first second e) refl
 
   -- a set that closes is one of no more than rows
-  pub passing-room : (d : Bool) → d ≡ ends_at n second e → (began && d) ≡ true → k < n
-  passing-room d q c =
-      walked-room P.walked at-e (sym q ∙ is_true d (snd began d (of_true c))) (is_true began (fst began d (of_true c)))
+  pub passing_room : (d : Bool) → d ≡ ends_at n second e → (began && d) ≡ true → k < n
+  passing_room d q c =
+      walked_room P.walked at_e (sym q ∙ is_true d (snd began d (of_true c))) (is_true began (fst began d (of_true c)))
 
-  pub passing-small : x ≤ max_rows * max_slots
-  passing-small = omega (arith, P.load, weight_small R (across_word n first second e), R.few)
+  pub passing_small : x ≤ max_rows * max_slots
+  passing_small = omega (arith, P.load, weight_small R (across_word n first second e), R.few)
 
   module _ {joining leaving : List ℕ} (J : SumsAt n first (at xs) joining) (L : SumsAt n second (at xs) leaving) (m : e < line_size) where
     -- the rows that leave are in the load, and with those that join it is that of the next element
-    pub passing-load : (at leaving e ≤ x) × (x + at joining e ≡ weight n xs (across_word n first second (e + 1)) + at leaving e)
-    passing-load =
+    pub passing_load : (at leaving e ≤ x) × (x + at joining e ≡ weight n xs (across_word n first second (e + 1)) + at leaving e)
+    passing_load =
         let p = P.load in
         let j = J.held e m in
         let v = L.held e m in
-        (omega (arith, p, v, leaving-low O.line xs e), omega (arith, p, j, v, weight-moved O.line xs e))
+        (omega (arith, p, v, leaving_low O.line xs e), omega (arith, p, j, v, weight_moved O.line xs e))
 
-    pub passing-fits : (x + at joining e) ≤ max_rows * max_slots + at leaving e
-    passing-fits = omega (arith, passing-load.1, weight_small R (across_word n first second (e + 1)), R.few)
+    pub passing_fits : (x + at joining e) ≤ max_rows * max_slots + at leaving e
+    passing_fits = omega (arith, passing_load.1, weight_small R (across_word n first second (e + 1)), R.few)
 
-    pub passing-next : (s d : Bool) → s ≡ ends_at n first e → d ≡ ends_at n second e → (y : ℕ) → y + at leaving e ≡ x + at joining e
+    pub passing_next : (s d : Bool) → s ≡ ends_at n first e → d ≡ ends_at n second e → (y : ℕ) → y + at leaving e ≡ x + at joining e
         → Passing n first second xs (e + 1) t h l (s || (began && not d)) (cond (began && d) (k + 1) k)
         (cond (began && d) (next_lowest a k (past t h l x)) a) (cond (began && d) (max b x) b) y
-    passing-next s d p q y z = record {
+    passing_next s d p q y z = record {
       words = cond (began && d) (set P.words k (across_word n first second e)) P.words;
-      walked = walk began s d P.walked (rw (p, q) at-e) (omega (arith, O.few, length-replicate {A = ℕ} max_rows 0));
+      walked = walk began s d P.walked (rw (p, q) at_e) (omega (arith, O.few, length-replicate {A = ℕ} max_rows 0));
       weighed = weigh (across_word n first second e) (began && d) P.weighed
-          (λ c. omega (arith, passing-room d q c, P.walked.filled.same, length-replicate {A = ℕ} max_rows 0, O.few))
-          P.load passing-small;
-      load = omega (arith, z, passing-load.1);
+          (λ c. omega (arith, passing_room d q c, P.walked.filled.same, length-replicate {A = ℕ} max_rows 0, O.few))
+          P.load passing_small;
+      load = omega (arith, z, passing_load.1);
     }
 
-  pub passing-end : top < e
+  pub passing_end : top < e
       → (ws : List ℕ) × SetWords n first second k ws × Weighed n xs k ws t h l a b
-  passing-end m = (P.words, walked_end O m (length-replicate {A = ℕ} max_rows 0) (zeros_at max_rows) P.walked, P.weighed)
+  passing_end m = (P.words, walked_end O m (length-replicate {A = ℕ} max_rows 0) (zeros_at max_rows) P.walked, P.weighed)

@@ -15,36 +15,36 @@ use Rattle.numbers.specs.Word.{bit}
 use Rattle.numbers.specs.Lists.{at}
 use Rattle.numbers.proofs.Truth.{both, fst, snd, decide, is_true, is_false, of_true, eqb_of, le_or_lt, refutes}
 use Rattle.numbers.proofs.Finite.{every_of, lowest_is, lowest_none, lowest_le, lowest_has, lowest_below, lowest_eq}
-use Rattle.numbers.proofs.Finite.{sum_in_eq, sum_in_most, largest-next, largest_eq}
+use Rattle.numbers.proofs.Finite.{sum_in_eq, sum_in_most, largest_next, largest_eq}
 use Rattle.rules.specs.Bounds.{max_rows, max_slots}
 use Rattle.rules.specs.Bus.{Table}
 use Rattle.rules.specs.Loads.{hyperperiod, shortest, rate, load, equal_periods, light, past, over}
 use Rattle.table.specs.Sound.{Sound}
 use Rattle.table.specs.Columns.{ByRow}
 use Rattle.sets.proofs.Sums.{sum_none}
-use Rattle.lags.proofs.Intervals.{period-divides, hyperperiod-positive, shortest-positive, shortest-low, rate-period, rate-le}
-use Rattle.lags.proofs.Intervals.{equal-shortest, equal-hyperperiod}
+use Rattle.lags.proofs.Intervals.{period_divides, hyperperiod_positive, shortest_positive, shortest_low, rate_period, rate_le}
+use Rattle.lags.proofs.Intervals.{equal_shortest, equal_hyperperiod}
 use Rattle.verdict.specs.Weights.{Times, Rates, weight, next_lowest, Weighed}
 
 -- ---- equal periods
 
 -- L divides every period and every period divides h, so all are equal exactly if L is h
 module _ {t : Table} (s : Sound t) where
-  all-equal : shortest t ≡ hyperperiod t → T (equal_periods t)
+  all_equal : shortest t ≡ hyperperiod t → T (equal_periods t)
   unfolding equal_periods
-  all-equal e =
+  all_equal e =
       let same : (i : ℕ) → i < t.rows → t.period i ≡ hyperperiod t =
-      λ i l. omega (arith, shortest-low s i l, le_of_dvd (hyperperiod-positive s) (period-divides s i l), e) in
+      λ i l. omega (arith, shortest_low s i l, le_of_dvd (hyperperiod_positive s) (period_divides s i l), e) in
       every_of t.rows (λ j. eqb (t.period j) (t.period 0))
       (λ j m. eqb_of (t.period j) (t.period 0) (same j m ∙ sym (same 0 s.rows_low)))
 
   pub equal_is : eqb (shortest t) (hyperperiod t) ≡ equal_periods t
   equal_is =
       let p : Bool = eqb (shortest t) (hyperperiod t) in
-      ⊎_elim (λ h. is_true p h ∙ sym (is_true (equal_periods t) (all-equal (eqb→eq (shortest t) (hyperperiod t) h))))
+      ⊎_elim (λ h. is_true p h ∙ sym (is_true (equal_periods t) (all_equal (eqb→eq (shortest t) (hyperperiod t) h))))
       (λ f. is_false p f
       ∙ sym (is_false (equal_periods t)
-      (λ e. f (eqb_of (shortest t) (hyperperiod t) (equal-shortest s e ∙ sym (equal-hyperperiod s e))))))
+      (λ e. f (eqb_of (shortest t) (hyperperiod t) (equal_shortest s e ∙ sym (equal_hyperperiod s e))))))
       (decide p)
 
 -- ---- light rows
@@ -64,10 +64,10 @@ light_is {t} s i l = go (equal_periods t) refl
   where
     go : (e : Bool) → equal_periods t ≡ e → ltb (t.cost i * shortest t) (t.period i) ≡ light t i
     go true e =
-        let h : shortest t ≡ hyperperiod t = equal-shortest s (of_true e) ∙ sym (equal-hyperperiod s (of_true e)) in
+        let h : shortest t ≡ hyperperiod t = equal_shortest s (of_true e) ∙ sym (equal_hyperperiod s (of_true e)) in
         let m : 1 * shortest t ≤ t.cost i * shortest t = mul-le-mul_right (shortest t) (s.row i l).cost_low in
         let p : t.period i ≤ t.cost i * shortest t =
-        omega (arith, h, m, le_of_dvd (hyperperiod-positive s) (period-divides s i l)) in
+        omega (arith, h, m, le_of_dvd (hyperperiod_positive s) (period_divides s i l)) in
         rw e (le-ltb (t.cost i * shortest t) (t.period i) p)
     go false e = rw e refl
 
@@ -113,27 +113,27 @@ lowest_next n p =
 -- ---- the pass over the sets
 
 module _ {n : ℕ} {xs ws : List ℕ} {e : Bool} {h l : ℕ} where
-  pub weighed-start : Weighed n xs 0 ws e h l 0 0
+  pub weighed_start : Weighed n xs 0 ws e h l 0 0
   unfolding lowest largest
-  weighed-start = record { over_is = refl; largest_is = refl; small = omega arith }
+  weighed_start = record { over_is = refl; largest_is = refl; small = omega arith }
 
-  pub weighed-next : {k a b x : ℕ} → Weighed n xs k ws e h l a b → x ≡ weight n xs (at ws k) → x ≤ max_rows * max_slots
+  pub weighed_next : {k a b x : ℕ} → Weighed n xs k ws e h l a b → x ≡ weight n xs (at ws k) → x ≤ max_rows * max_slots
       → Weighed n xs (k + 1) ws e h l (next_lowest a k (past e h l x)) (max b x)
-  weighed-next {k} {a} {b} {x} w i s = record {
+  weighed_next {k} {a} {b} {x} w i s = record {
     over_is =
         ap (λ (j : ℕ). next_lowest j k (past e h l x)) w.over_is
         ∙ ap (λ (j : ℕ). next_lowest (lowest k (λ j. past e h l (weight n xs (at ws j)))) k (past e h l j)) i
         ∙ sym (lowest_next k (λ j. past e h l (weight n xs (at ws j))));
     largest_is =
         ap (λ (j : ℕ). max j x) w.largest_is ∙ ap (λ (j : ℕ). max (largest k (λ j. weight n xs (at ws j))) j) i
-        ∙ sym (largest-next (λ j. weight n xs (at ws j)) k);
+        ∙ sym (largest_next (λ j. weight n xs (at ws j)) k);
     small = omega (arith, w.small);
   }
 
   -- another list that is the same so far
-  pub weighed-more : {vs : List ℕ} {k a b : ℕ} → ((j : ℕ) → j < k → at vs j ≡ at ws j) → Weighed n xs k ws e h l a b
+  pub weighed_more : {vs : List ℕ} {k a b : ℕ} → ((j : ℕ) → j < k → at vs j ≡ at ws j) → Weighed n xs k ws e h l a b
       → Weighed n xs k vs e h l a b
-  weighed-more {vs} {k} same w = record {
+  weighed_more {vs} {k} same w = record {
     over_is =
         w.over_is
         ∙ lowest_eq k (λ j. past e h l (weight n xs (at ws j))) (λ j. past e h l (weight n xs (at vs j)))
@@ -147,17 +147,17 @@ module _ {n : ℕ} {xs ws : List ℕ} {e : Bool} {h l : ℕ} where
 -- ---- as document 01 has them
 
 module _ (t : Table) (xs : List ℕ) (r : (i : ℕ) → i < t.rows → at xs i ≡ rate t i) where
-  pub weight-load : (w : ℕ) → weight t.rows xs w ≡ load t (bit w)
+  pub weight_load : (w : ℕ) → weight t.rows xs w ≡ load t (bit w)
   unfolding weight
-  weight-load w = sum_in_eq t.rows (bit w) (bit w) (at xs) (rate t) (λ i l. refl) (λ i l b. r i l)
+  weight_load w = sum_in_eq t.rows (bit w) (bit w) (at xs) (rate t) (λ i l. refl) (λ i l b. r i l)
 
 -- every row has some load, as its cost is some, and none is above 1
 rate_some : {t : Table} → Sound t → (i : ℕ) → i < t.rows → 1 ≤ rate t i
 rate_some {t} s i l =
     ⊎_elim (λ (z : rate t i ≤ 0).
     let y : rate t i ≡ 0 = omega arith in
-    let none : 0 * t.period i ≡ t.cost i * hyperperiod t = sym (ap (λ (x : ℕ). x * t.period i) y) ∙ rate-period s i l in
-    absurd (let some = mul-le-mul (s.row i l).cost_low (hyperperiod-positive s) in omega (arith, some, none)))
+    let none : 0 * t.period i ≡ t.cost i * hyperperiod t = sym (ap (λ (x : ℕ). x * t.period i) y) ∙ rate_period s i l in
+    absurd (let some = mul-le-mul (s.row i l).cost_low (hyperperiod_positive s) in omega (arith, some, none)))
     (λ m. m)
     (le_or_lt (rate t i) 0)
 
@@ -165,7 +165,7 @@ pub rates_small : {t : Table} → Sound t → hyperperiod t ≤ max_slots → {x
 rates_small s h B = record {
   few = s.rows_high;
   some = λ i l. omega (arith, B.row i l, rate_some s i l);
-  small = λ i l. omega (arith, B.row i l, rate-le s i l);
+  small = λ i l. omega (arith, B.row i l, rate_le s i l);
 }
 
 pub past_over : (t : Table) (D : ℕ → Bool) → past (equal_periods t) (hyperperiod t) (shortest t) (load t D) ≡ over t D
@@ -185,4 +185,4 @@ within_one {t} s D u = go (equal_periods t) refl
         let h : ¬ ((shortest t - 1) * hyperperiod t < load t D * shortest t) =
         λ l. u (rw e (lt→ltb ((shortest t - 1) * hyperperiod t) (load t D * shortest t) l)) in
         let m : (shortest t - 1) * hyperperiod t ≤ shortest t * hyperperiod t = mul-le-mul_right (hyperperiod t) (omega arith) in
-        le_of_mul-le-mul_right (omega arith) (shortest-positive s)
+        le_of_mul-le-mul_right (omega arith) (shortest_positive s)

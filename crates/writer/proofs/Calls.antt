@@ -13,10 +13,10 @@ use Rattle.rules.specs.TableFile.{header_size, row_with, row_size, last_of, writ
 use Rattle.rules.specs.Refusals.{Answers, unknown_mark, version_checks, writer_checks}
 use Rattle.rules.specs.Calls.{Written, lent}
 use Rattle.rules.proofs.Answers.{None, applied, passed}
-use Rattle.rules.proofs.Calls.{call-refused, call-short, call-done, call_only}
+use Rattle.rules.proofs.Calls.{call_refused, call_short, call_done, call_only}
 use Rattle.table.specs.declared.Row.{Row}
 use Rattle.table.specs.Rows.{IsRow, in_file}
-use Rattle.table.proofs.Faults.{version-numbered}
+use Rattle.table.proofs.Faults.{version_numbered}
 use Rattle.writer.specs.Written.{WrittenWith}
 
 -- ---- rows
@@ -45,30 +45,30 @@ module _ (r v M n : ℕ) (xs was : List ℕ) where
   abbrev cramped : Type 0
   cramped = length was < header_size + row_size r v * n
 
-  pub written-refused : (m p : ℕ) → Answers (version_checks r v M n xs) m p → m ≢ 0 → WrittenWith r v M n xs was was m p
-  written-refused m p a h = call-refused (version_checks r v M n xs) cramped a h refl
+  pub written_refused : (m p : ℕ) → Answers (version_checks r v M n xs) m p → m ≢ 0 → WrittenWith r v M n xs was was m p
+  written_refused m p a h = call_refused (version_checks r v M n xs) cramped a h refl
 
-  pub written-short : None (version_checks r v M n xs) → cramped → WrittenWith r v M n xs was was 17 0
-  written-short a h = call-short (version_checks r v M n xs) cramped a h refl
+  pub written_short : None (version_checks r v M n xs) → cramped → WrittenWith r v M n xs was was 17 0
+  written_short a h = call_short (version_checks r v M n xs) cramped a h refl
 
-  pub written-done : (now : List ℕ) (m p : ℕ) → Answers (version_checks r v M n xs) m p → m ≡ 0 → (cramped → ⊥)
+  pub written_done : (now : List ℕ) (m p : ℕ) → Answers (version_checks r v M n xs) m p → m ≡ 0 → (cramped → ⊥)
       → now ≡ lent (bytes v (memory_labelled_with r M n xs)) was → WrittenWith r v M n xs was now m p
-  written-done now m p a e h k = call-done (version_checks r v M n xs) cramped (version-numbered r M n xs v) a e h k
+  written_done now m p a e h k = call_done (version_checks r v M n xs) cramped (version_numbered r M n xs v) a e h k
 
 -- with the mark
 module _ (m : List ℕ) (v M n : ℕ) (xs was : List ℕ) where
-  pub mark-refused : (unknown_mark m).applies → Written m v M n xs was was 2 0
+  pub mark_refused : (unknown_mark m).applies → Written m v M n xs was was 2 0
   unfolding writer_checks
-  mark-refused w = record {
+  mark_refused w = record {
     answers = applied _ _ 2 0 w refl refl;
     done = λ e. absurd (let z : ⊥ = omega arith in z);
     refused = λ h. refl;
   }
 
-  pub mark-known : (now : List ℕ) (number place : ℕ) → ((unknown_mark m).applies → ⊥) → WrittenWith (rings_of m) v M n xs was now number place
+  pub mark_known : (now : List ℕ) (number place : ℕ) → ((unknown_mark m).applies → ⊥) → WrittenWith (rings_of m) v M n xs was now number place
       → Written m v M n xs was now number place
   unfolding writer_checks
-  mark-known now number place h c =
+  mark_known now number place h c =
       record { answers = passed _ _ number place h c.answers; done = c.done; refused = c.refused }
 
 pub written_only : (k : List ℕ) (v M r : ℕ) (xs was now now' : List ℕ) (m n p q : ℕ) → Written k v M r xs was now m p

@@ -11,7 +11,7 @@ use Rattle.numbers.proofs.Finite.{below}
 use Rattle.rules.specs.Bus.{Labelled}
 use Rattle.rules.specs.TableFile.{version_1, row_numbers, label_in, memory_labelled_with}
 use Rattle.rules.specs.Refusals.{Answers, lost_label, label_checks}
-use Rattle.rules.proofs.Answers.{answered, single-none, single-stopped}
+use Rattle.rules.proofs.Answers.{answered, single_none, single_stopped}
 
 pub record Bare (r : ℕ) (xs : List ℕ) (i : ℕ) : Type 0 where
   pub row : (j : ℕ) → j < i → label_in r (at xs (row_numbers * j + 4)) ≡ 0
@@ -30,18 +30,18 @@ module _ (r v n : ℕ) (xs : List ℕ) (M : ℕ) where
   t = memory_labelled_with r M n xs
 
   -- another version than 1
-  pub labels-held : v ≢ version_1 → Answers (label_checks v t) 0 0
+  pub labels_held : v ≢ version_1 → Answers (label_checks v t) 0 0
   unfolding label_checks
-  labels-held h = answered _ (single-none (lost_label v t) n (λ i l w. h w.0))
+  labels_held h = answered _ (single_none (lost_label v t) n (λ i l w. h w.0))
 
   -- no row has a label
-  pub labels-bare : Bare r xs n → Answers (label_checks v t) 0 0
+  pub labels_bare : Bare r xs n → Answers (label_checks v t) 0 0
   unfolding label_checks
-  labels-bare B = answered _ (single-none (lost_label v t) n (λ i l w. w.1 (B.row i l)))
+  labels_bare B = answered _ (single_none (lost_label v t) n (λ i l w. w.1 (B.row i l)))
 
   -- row i is the lowest that has one
-  pub labels-lost : v ≡ version_1 → (i : ℕ) → i < n → Bare r xs i → label_in r (at xs (row_numbers * i + 4)) ≢ 0
+  pub labels_lost : v ≡ version_1 → (i : ℕ) → i < n → Bare r xs i → label_in r (at xs (row_numbers * i + 4)) ≢ 0
       → Answers (label_checks v t) 20 i
   unfolding label_checks
-  labels-lost e i l B h =
-      single-stopped (lost_label v t) n i l (omega arith) (λ j m w. w.1 (B.row j m)) (e, h)
+  labels_lost e i l B h =
+      single_stopped (lost_label v t) n i l (omega arith) (λ j m w. w.1 (B.row j m)) (e, h)

@@ -3,7 +3,7 @@ use native.Mathlib.Omega.{arith}
 use borrow.Author.Rules.{rules}
 use Prim.Native.Nat.{◌-◌, ◌<◌}
 use lib.ListN.{length}
-use Rattle.cases.proofs.Reading.{Front, front_start, front-next, front-end}
+use Rattle.cases.proofs.Reading.{Front, front_start, front_next, front_end}
 use Rattle.cases.proofs.numbers.Statement.{statement}
 use Rattle.cases.proofs.numbers.Tie as tie
 
@@ -44,7 +44,7 @@ loop-again c =
     let l : z.loop-i.i < length z.before.before.before.args.text.now = omega arith in
     let P = c.before.before.before.put_ended-k.ensures in
     rw (d.is_digit-digit.ensures, c.grow-x.ensures)
-    (front-next z.loop-i.invariant l (rw d.is_digit-digit.ensures at (rw c.before.before.before.before.before.ends.ensures at P)))
+    (front_next z.loop-i.invariant l (rw d.is_digit-digit.ensures at (rw c.before.before.before.before.before.ends.ensures at P)))
 
 put-ended-requires-2 : tie.Need-put_ended-requires invariant-loop decreases-loop
 put-ended-requires-2 c κs = omega arith
@@ -55,7 +55,7 @@ same_length c = search rules
 returns : tie.Need-returns invariant-loop decreases-loop
 returns c =
     let z = c.before.before.before.before.before in
-    front-end z.loop-i.invariant (omega arith) c.before.before.put_ended.ensures
+    front_end z.loop-i.invariant (omega arith) c.before.before.put_ended.ensures
 
 pub numbers_spec : {M : Type 1} → statement M
 numbers_spec =

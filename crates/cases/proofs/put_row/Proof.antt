@@ -1,5 +1,5 @@
 -- put_row: the row's six bytes, in their order.
-use Rattle.cases.proofs.Tables.{row-puts}
+use Rattle.cases.proofs.Tables.{row_puts}
 use borrow.Author.Rules.{rules}
 use Rattle.cases.proofs.put_row.Statement.{statement}
 use Rattle.cases.proofs.put_row.Tie as tie
@@ -60,7 +60,7 @@ returns c =
     let f = b.before.before in
     let n = f.before.before in
     let z = n.before.before.before.args in
-    row-puts z.xs.now z.k
+    row_puts z.xs.now z.k
     n.number_at-cost.ensures f.before.number_at-period.ensures f.number_at-first.ensures b.before.number_at-second.ensures
     b.low_byte.ensures p.before.before.high_byte.ensures p.before.low_byte-2.ensures p.high_byte-2.ensures
     a.before.low_byte-3.ensures a.low_byte-4.ensures c.before.before.put_bytes.ensures

@@ -1,6 +1,6 @@
 -- decode: a passed file's columns, with its labels.
 use borrow.Author.Rules.{rules}
-use Rattle.decoding.proofs.Decoding.{whole_of, decodes-refused, decodes-all}
+use Rattle.decoding.proofs.Decoding.{whole_of, decodes_refused, decodes_all}
 use Rattle.decoding.proofs.decode.Statement.{statement}
 use Rattle.decoding.proofs.decode.Tie as tie
 
@@ -16,7 +16,7 @@ refused-requires c κs = search rules
 returns : tie.Need-returns-then-answer-ne-DONE
 returns c =
     let d = c.before.before.before.before in
-    rw c.refused.ensures (decodes-refused d.decode_into-head.ensures c.before.if-answer-ne-DONE.true)
+    rw c.refused.ensures (decodes_refused d.decode_into-head.ensures c.before.if-answer-ne-DONE.true)
 
 labels-of-requires : tie.Need-labels_of-requires
 labels-of-requires c κs =
@@ -26,7 +26,7 @@ labels-of-requires c κs =
 returns-2 : tie.Need-returns
 returns-2 c =
     let e = c.before in
-    decodes-all (taken e).decode_into-head.ensures e.if-answer-ne-DONE.false c.labels_of.ensures
+    decodes_all (taken e).decode_into-head.ensures e.if-answer-ne-DONE.false c.labels_of.ensures
 
 pub decode_spec : {M : Type 1} → statement M
 decode_spec = tie.close (tie.spec decode-into-requires refused-requires returns labels-of-requires returns-2)

@@ -11,7 +11,7 @@ use Rattle.table.specs.Columns.{Whole, Holds}
 use Rattle.table.specs.declared.columns.Columns.{Columns}
 use Rattle.table.proofs.Faults.{header_numbered, header_whole}
 use Rattle.decoding.specs.Decoded.{Decoding}
-use Rattle.decoding.proofs.Decoding.{decoding_start, decoding_end, into-header, into-row, into-all}
+use Rattle.decoding.proofs.Decoding.{decoding_start, decoding_end, into_header, into_row, into_all}
 use Rattle.decoding.proofs.decode_into.Statement.{statement}
 use Rattle.decoding.proofs.decode_into.Tie as tie
 
@@ -78,7 +78,7 @@ refused-requires c κs = search rules
 returns : tie.Need-returns-then-number-ne-DONE
 returns c =
     rw c.refused.ensures
-    (into-header _ _ c.before.before.before.header_fault-number.ensures c.before.before.if-number-ne-DONE.true c.before.at.ensures.0
+    (into_header _ _ c.before.before.before.header_fault-number.ensures c.before.before.if-number-ne-DONE.true c.before.at.ensures.0
     c.before.at.ensures.1)
 
 put-ways-requires : tie.Need-put_ways-requires
@@ -99,7 +99,7 @@ refused-requires-2 c κs = search rules
 returns-2 : tie.Need-returns-then-answer-ne-DONE
 returns-2 c =
     let p = c.before.before.before in
-    rw c.refused-then-answer-ne-DONE.ensures (into-row _ _ (none (asked p)) p.put_rows-answer.ensures.0 c.before.if-answer-ne-DONE.true)
+    rw c.refused-then-answer-ne-DONE.ensures (into_row _ _ (none (asked p)) p.put_rows-answer.ensures.0 c.before.if-answer-ne-DONE.true)
 
 of-requires : tie.Need-of-table-requires
 of-requires c κs = omega (arith, (whole (asked c.before.before)).size)
@@ -111,7 +111,7 @@ returns-3 : tie.Need-returns
 returns-3 c =
     let o = c.before in
     let p = passed o in
-    into-all _ _ (none (asked p)) p.put_rows-answer.ensures.0 o.before.if-answer-ne-DONE.false (held c)
+    into_all _ _ (none (asked p)) p.put_rows-answer.ensures.0 o.before.if-answer-ne-DONE.false (held c)
 
 pub decode_into_spec : {M : Type 1} → statement M
 decode_into_spec =

@@ -6,7 +6,7 @@ use Rattle.rules.specs.TableFile.{read16, version, label_in, file_rings, file_la
 use Rattle.table.specs.Columns.{ByRow}
 use Rattle.table.proofs.ByRow.{by_row_start, by_row_put}
 use Rattle.table.proofs.RowSizes.{label_two, last_label}
-use Rattle.decoding.proofs.Decoding.{last_end, labelless, label_at, labels-none-way, labels-none}
+use Rattle.decoding.proofs.Decoding.{last_end, labelless, label_at, labels_none_way, labels_none}
 use Rattle.decoding.proofs.labels_of.Statement.{statement}
 use Rattle.decoding.proofs.labels_of.Tie as tie
 
@@ -21,7 +21,7 @@ rings-of-requires : tie.Need-rings_of-requires invariant-loop decreases-loop
 rings-of-requires c κs = omega arith
 
 returns : tie.Need-returns-then-rings_of-eq-RINGS invariant-loop decreases-loop
-returns c = labels-none-way c.before.before.before.args.file.now (rw c.before.rings_of.ensures at c.if-rings_of-eq-RINGS.true)
+returns c = labels_none_way c.before.before.before.args.file.now (rw c.before.rings_of.ensures at c.if-rings_of-eq-RINGS.true)
 
 version-of-requires : tie.Need-version_of-requires invariant-loop decreases-loop
 version-of-requires c κs = omega arith
@@ -29,7 +29,7 @@ version-of-requires c κs = omega arith
 returns-2 : tie.Need-returns-then-version_of-ne-VERSION_2 invariant-loop decreases-loop
 returns-2 c =
     let y = c.before.before in
-    labels-none y.before.before.before.args.file.now (rw y.before.rings_of.ensures at y.if-rings_of-eq-RINGS.false)
+    labels_none y.before.before.before.args.file.now (rw y.before.rings_of.ensures at y.if-rings_of-eq-RINGS.false)
     (rw c.before.version_of.ensures at c.if-version_of-ne-VERSION_2.true)
 
 of-requires : tie.Need-of-rows-requires invariant-loop decreases-loop

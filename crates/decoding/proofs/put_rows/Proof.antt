@@ -10,7 +10,7 @@ use Rattle.rules.specs.Bounds.{max_rows}
 use Rattle.rules.specs.TableFile.{header_size, row_size, version, file_rings, file_table}
 use Rattle.table.specs.Rows.{IsRow}
 use Rattle.table.proofs.RowSizes.{row_inside}
-use Rattle.table.proofs.Faults.{Checked, checked_start, checked-next, checked-stop, checked_end}
+use Rattle.table.proofs.Faults.{Checked, checked_start, checked_next, checked_stop, checked_end}
 use Rattle.decoding.specs.Decoded.{Decoding}
 use Rattle.decoding.proofs.Decoding.{decoding_next, file_one_way, unlabelled, stands_row}
 use Rattle.decoding.proofs.put_rows.Statement.{statement}
@@ -110,7 +110,7 @@ returns c =
     let u = head t in
     let a = c.at.ensures in (
       rw (a.0, a.1)
-          (checked-stop _ _ _ (sym (sizes u).of-table.ensures.elements) (sym u.before.before.rings_of-rings.ensures) (is_row r)
+          (checked_stop _ _ _ (sym (sizes u).of-table.ensures.elements) (sym u.before.before.rings_of-rings.ensures) (is_row r)
           n.row_fault-number.ensures u.loop-i.invariant.0 (row t) c.before.if-number-ne-DONE.true),
       λ z. absurd (c.before.if-number-ne-DONE.true (sym a.0 ∙ z)),
     )
@@ -164,7 +164,7 @@ loop-again c =
     let u = head t in
     let f = bytes u in
     let q = is_row r in (
-      checked-next _ _ _ (sym (sizes u).of-table.ensures.elements) (sym u.before.before.rings_of-rings.ensures) q
+      checked_next _ _ _ (sym (sizes u).of-table.ensures.elements) (sym u.before.before.rings_of-rings.ensures) q
           e.before.row_fault-number.ensures u.loop-i.invariant.0 (row t) e.if-number-ne-DONE.false,
       decoding_next u.loop-i.invariant.1 (few t) q.cost q.period (ap (λ (k : ℕ). at f (k + 4)) (place p))
           (ap (λ (k : ℕ). at f (k + 5)) (place p)),

@@ -7,7 +7,7 @@ use Rattle.rules.specs.TableFile.{version, way_in, file_rings, file_table}
 use Rattle.table.specs.Columns.{ByRow}
 use Rattle.table.proofs.ByRow.{by_row_start, by_row_put}
 use Rattle.table.proofs.RowSizes.{last_way}
-use Rattle.decoding.proofs.Decoding.{last_end, wayless, way_at, ways-none}
+use Rattle.decoding.proofs.Decoding.{last_end, wayless, way_at, ways_none}
 use Rattle.decoding.proofs.put_ways.Statement.{statement}
 use Rattle.decoding.proofs.put_ways.Tie as tie
 
@@ -23,7 +23,7 @@ rings-of-requires c κs = omega arith
 returns : tie.Need-returns-then-rings_of-ne-RINGS invariant-loop decreases-loop
 returns c =
     let z = c.before.before.before in
-    rw z.requires.1 (ways-none z.args.file.now (rw c.before.rings_of.ensures at c.if-rings_of-ne-RINGS.true))
+    rw z.requires.1 (ways_none z.args.file.now (rw c.before.rings_of.ensures at c.if-rings_of-ne-RINGS.true))
 
 of-requires : tie.Need-of-rows-requires invariant-loop decreases-loop
 of-requires c κs = omega arith

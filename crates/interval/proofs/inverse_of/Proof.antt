@@ -1,7 +1,7 @@
 -- `inverse_of` rounds the quotient up.
 use native.Mathlib.Omega.{arith}
 use Prim.Native.Nat.{◌^◌}
-use Rattle.numbers.proofs.Rounding.{up-over, up-under}
+use Rattle.numbers.proofs.Rounding.{up_over, up_under}
 use Rattle.interval.proofs.inverse_of.Statement.{statement}
 use Rattle.interval.proofs.inverse_of.Tie as tie
 
@@ -17,7 +17,7 @@ div-result c = omega (arith, c.requires.0)
 returns : tie.Need-returns
 returns c =
     let h = c.args.h in
-    record { least = up-over (2 ^ 36) h c.requires.0; most = up-under (2 ^ 36) h c.requires.0 }
+    record { least = up_over (2 ^ 36) h c.requires.0; most = up_under (2 ^ 36) h c.requires.0 }
 
 pub inverse_of_spec : {M : Type 1} → statement M
 inverse_of_spec = tie.close (tie.spec sub-result add-result div-result returns)

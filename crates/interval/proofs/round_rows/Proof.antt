@@ -15,7 +15,7 @@ use Rattle.rules.specs.Bounds.{max_rings}
 use Rattle.loads.proofs.Words.{and_both}
 use Rattle.loads.specs.Loads.{digit, among, last}
 use Rattle.interval.specs.Rings.{on_ring, ring_count, Chosen}
-use Rattle.interval.proofs.Product.{greatest-parts, rings_few, chosen-start, chosen-next, chosen-end}
+use Rattle.interval.proofs.Product.{greatest_parts, rings_few, chosen_start, chosen_next, chosen_end}
 use Rattle.interval.proofs.round_rows.Statement.{statement}
 use Rattle.interval.proofs.round_rows.Tie as tie
 
@@ -33,7 +33,7 @@ ring-count-requires : tie.Need-ring_count-rings-requires invariant-loop decrease
 ring-count-requires c κs = search rules
 
 loop-holds : tie.Need-loop-d-init invariant-loop decreases-loop
-loop-holds c = (omega arith, chosen-start _ _ _ _ _ _ _ c.before.requires.1.some)
+loop-holds c = (omega arith, chosen_start _ _ _ _ _ _ _ c.before.requires.1.some)
 
 -- the ring is one of those that there are
 ring-here : (n : tie.In-loop-d invariant-loop decreases-loop) → n.before.loop-d.d < max_rings
@@ -88,8 +88,8 @@ loop-again c =
     let n = r.before in
     let l = n.before.loop-d in (
       omega (arith, n.loop-d-test.true),
-      chosen-next _ _ _ _ _ _ _ (entry r).requires.1.some l.d l.rounded c.choose-rounded.result (ring-here n) l.invariant.1
-          (greatest-parts _ _ _ _ _ _ _ (digit c.choose-rounded.result) (own r) c.choose-rounded.ensures),
+      chosen_next _ _ _ _ _ _ _ (entry r).requires.1.some l.d l.rounded c.choose-rounded.result (ring-here n) l.invariant.1
+          (greatest_parts _ _ _ _ _ _ _ (digit c.choose-rounded.result) (own r) c.choose-rounded.ensures),
     )
 
 returns : tie.Need-returns invariant-loop decreases-loop
@@ -97,7 +97,7 @@ returns c =
     let l = c.before in
     let z = start l in
     let e : l.loop-d.d ≡ ring_count z.args.upper = omega (arith, l.loop-d.invariant.0, c.loop-d-test.false, l.before.ring_count-rings.ensures) in
-    chosen-end _ _ _ _ _ _ _ z.requires.1.some l.loop-d.d _ e l.loop-d.invariant.1
+    chosen_end _ _ _ _ _ _ _ z.requires.1.some l.loop-d.d _ e l.loop-d.invariant.1
 
 pub round_rows_spec : {M : Type 1} → statement M
 round_rows_spec =

@@ -8,10 +8,10 @@ use Rattle.rules.specs.TableFile.{file_table, file_labelled}
 use Rattle.rules.specs.Refusals.{Answers, given_checks, one_ring_checks}
 use Rattle.table.specs.Sound.{Sound}
 use Rattle.table.specs.Columns.{table_of}
-use Rattle.pasted.proofs.AsGiven.{given-passed}
-use Rattle.pasted.proofs.OneRing.{one-ring-none, one_ring}
+use Rattle.pasted.proofs.AsGiven.{given_passed}
+use Rattle.pasted.proofs.OneRing.{one_ring_none, one_ring}
 use Rattle.outline.proofs.Outlined.{answers_zero}
-use Rattle.limited.proofs.Checked.{within_held, limits-wrong, limits-low, limits-given, limits-past}
+use Rattle.limited.proofs.Checked.{within_held, limits_wrong, limits_low, limits_given, limits_past}
 use Rattle.limited.proofs.analyse.Statement.{statement}
 use Rattle.limited.proofs.analyse.Tie as tie
 
@@ -41,7 +41,7 @@ held : (c : tie.Else-answer-ne-DONE) → table c ≡ file_table (bytes c)
 held c = ((taken c).given_one_ring-found.ensures.passed c.if-answer-ne-DONE.false).table
 
 sound : (c : tie.Else-answer-ne-DONE) → Sound (table c)
-sound c = rw (held c) (given-passed (bytes c) (one-ring-none (bytes c) _ (checked c))).sound
+sound c = rw (held c) (given_passed (bytes c) (one_ring_none (bytes c) _ (checked c))).sound
 
 are-wrong-requires : tie.Need-are_wrong-requires
 are-wrong-requires c κs = search rules
@@ -58,7 +58,7 @@ returns c =
     let a = w.before.before.args in
     let r = c.before.at in
     rw c.refused.ensures
-    (limits-wrong a.file.now a.limits.ours a.limits.theirs w.are_wrong.ensures c.before.before.if-are_wrong.true r.result
+    (limits_wrong a.file.now a.limits.ours a.limits.theirs w.are_wrong.ensures c.before.before.if-are_wrong.true r.result
     r.ensures.0 r.ensures.1)
 
 given-one-ring-requires : tie.Need-given_one_ring-found-requires
@@ -73,7 +73,7 @@ returns-2 c =
     let e = g.before in
     let a = (asked e).args in
     rw c.refused-then-answer-ne-DONE.ensures
-    (limits-given a.file.now a.limits.ours a.limits.theirs e.before.are_wrong.ensures e.if-are_wrong.false
+    (limits_given a.file.now a.limits.ours a.limits.theirs e.before.are_wrong.ensures e.if-are_wrong.false
     g.given_one_ring-found.result.answer c.before.if-answer-ne-DONE.true g.given_one_ring-found.ensures.answers)
 
 analysis-within-requires : tie.Need-analysis_within-requires
@@ -81,7 +81,7 @@ analysis-within-requires c κs =
     let d = c.before.before.before in
     let e = (taken d).before in
     let a = (start d).args in
-    let low = limits-low a.file.now a.limits.ours a.limits.theirs e.before.are_wrong.ensures e.if-are_wrong.left in
+    let low = limits_low a.file.now a.limits.ours a.limits.theirs e.before.are_wrong.ensures e.if-are_wrong.left in
     (sound d, ap (λ (t : Table). t.rings) (held d) ∙ one_ring (bytes d) _ (checked d), low.0, low.1)
 
 returns-3 : tie.Need-returns
@@ -93,7 +93,7 @@ returns-3 c =
     let f = a.file.now in
     let our = a.limits.ours in
     let their = a.limits.theirs in
-    limits-past f our their e.before.are_wrong.ensures e.if-are_wrong.left _ (checked d)
+    limits_past f our their e.before.are_wrong.ensures e.if-are_wrong.left _ (checked d)
     (within_held (table d) g.result.labels (file_labelled f) our their (held d)
     (g.ensures.labelled d.if-answer-ne-DONE.false).labels c.analysis_within.ensures)
 

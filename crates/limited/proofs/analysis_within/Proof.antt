@@ -10,16 +10,16 @@ use Rattle.rules.specs.Refusals.{Answers, line_checks, limit_checks, bound_check
 use Rattle.table.specs.Columns.{table_of}
 use Rattle.ring.proofs.Rows.{sound_routes}
 use Rattle.outline.specs.Outlined.{Outlined}
-use Rattle.lags.proofs.Intervals.{shortest-le}
+use Rattle.lags.proofs.Intervals.{shortest_le}
 use Rattle.verdict.proofs.Weighing.{times_of}
-use Rattle.verdict.proofs.Weighed.{rows-weighed}
+use Rattle.verdict.proofs.Weighed.{rows_weighed}
 use Rattle.limited.specs.Limits.{labelled, Limited}
 use Rattle.verdict.specs.Weighing.{Weighs}
 use Rattle.verdict.specs.Analysed.{Rated, Analysed}
 use Rattle.verdict.specs.declared.Analysis.{Analysis}
-use Rattle.verdict.proofs.Analysing.{rated-weighable, analysed-next, analysed-done}
+use Rattle.verdict.proofs.Analysing.{rated_weighable, analysed_next, analysed_done}
 use Rattle.limited.specs.Limited.{within_checks}
-use Rattle.limited.proofs.Checked.{within-line, within-limit, within-bound}
+use Rattle.limited.proofs.Checked.{within_line, within_limit, within_bound}
 use Rattle.limited.proofs.analysis_within.Statement.{statement}
 use Rattle.limited.proofs.analysis_within.Tie as tie
 
@@ -43,7 +43,7 @@ returns c =
     let d = c.before.before.before.before in
     let a = (start d).args in
     rw c.refused.ensures
-    (within-line (table d) a.label.now a.limits.ours a.limits.theirs _ (outlined d) c.before.if-answer-ne-DONE.true)
+    (within_line (table d) a.label.now a.limits.ours a.limits.theirs _ (outlined d) c.before.if-answer-ne-DONE.true)
 
 -- the way back from the rates to the outline, and from the segments to the rates
 abbrev asked : tie.After-put_rates-light → tie.After-outline_of-outline
@@ -57,13 +57,13 @@ rated d =
     let e = d.before.before.before.before.before.before in
     let a = asked d in
     let F = (outlined a).found e.if-answer-ne-DONE.false in
-    record { outlined = outlined a; passed = e.if-answer-ne-DONE.false; weighed = rows-weighed F.timed d.put_rates-light.ensures }
+    record { outlined = outlined a; passed = e.if-answer-ne-DONE.false; weighed = rows_weighed F.timed d.put_rates-light.ensures }
 
 put-rates-requires : tie.Need-put_rates-light-requires
 put-rates-requires c κs =
     let e = c.before.before.before.before.before in
     let T = ((outlined e.before.before.before).found e.if-answer-ne-DONE.false).timed in
-    (times_of T.sound, omega (arith, T.hyper, T.short), omega (arith, T.interval, shortest-le T.sound), refl)
+    (times_of T.sound, omega (arith, T.hyper, T.short), omega (arith, T.interval, shortest_le T.sound), refl)
 
 lay-segments-requires : tie.Need-lay_segments-segments-requires
 lay-segments-requires c κs = let o = asked c.before.before.before.before in sound_routes {t = table o} (start o).requires.0
@@ -117,13 +117,13 @@ returns-2 c =
     let k = c.before.before.before in
     let a = (start (found k)).args in
     rw c.refused-then-kept-ne-DONE.ensures
-    (within-limit (table (found k)) a.label.now a.limits.ours a.limits.theirs (rated (weighted (laid k))) _ (within k)
+    (within_limit (table (found k)) a.label.now a.limits.ours a.limits.theirs (rated (weighted (laid k))) _ (within k)
     c.before.if-kept-ne-DONE.true)
 
 weigh-requires : tie.Need-weigh-weighing-requires
 weigh-requires c κs =
     let k = c.before.before.before.before.before.before in
-    (table (found k), rated-weighable (table (found k)) (rated (weighted (laid k))))
+    (table (found k), rated_weighable (table (found k)) (rated (weighted (laid k))))
 
 -- the way back from the weights to what is kept
 abbrev kept : tie.After-weigh-weighing → tie.Else-kept-ne-DONE
@@ -138,13 +138,13 @@ after : (w : tie.After-weigh-weighing) (z : Analysis)
 after w z A =
     let k = (kept w).before.before in
     let a = (start (found k)).args in
-    within-bound (table (found k)) a.label.now a.limits.ours a.limits.theirs (rated (weighted (laid k))) _ (within k)
+    within_bound (table (found k)) a.label.now a.limits.ours a.limits.theirs (rated (weighted (laid k))) _ (within k)
     (kept w).if-kept-ne-DONE.false A
 
 weighs : (w : tie.After-weigh-weighing) → Weighs (table (found (kept w).before.before)) w.weigh-weighing.result
 weighs w =
     let k = (kept w).before.before in
-    w.weigh-weighing.ensures (table (found k)) (rated-weighable (table (found k)) (rated (weighted (laid k))))
+    w.weigh-weighing.ensures (table (found k)) (rated_weighable (table (found k)) (rated (weighted (laid k))))
 
 refused-requires-3 : tie.Need-refused-requires-then-next-ne-DONE
 refused-requires-3 c κs = search rules
@@ -154,13 +154,13 @@ returns-3 c =
     let w = c.before.before.before.before in
     let k = (kept w).before.before in
     rw c.refused-then-next-ne-DONE.ensures
-    (after w _ (analysed-next (table (found k)) (rated (weighted (laid k))) _ (weighs w) c.before.if-next-ne-DONE.true))
+    (after w _ (analysed_next (table (found k)) (rated (weighted (laid k))) _ (weighs w) c.before.if-next-ne-DONE.true))
 
 returns-4 : tie.Need-returns
 returns-4 c =
     let w = c.before.before.before in
     let k = (kept w).before.before in
-    after w _ (analysed-done (table (found k)) (rated (weighted (laid k))) _ (weighs w) c.if-next-ne-DONE.false)
+    after w _ (analysed_done (table (found k)) (rated (weighted (laid k))) _ (weighs w) c.if-next-ne-DONE.false)
 
 pub analysis_within_spec : {M : Type 1} → statement M
 analysis_within_spec =

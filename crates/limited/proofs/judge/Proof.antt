@@ -2,7 +2,7 @@
 use borrow.Author.Rules.{rules}
 use Rattle.rules.specs.TableFile.{file_table}
 use Rattle.verdict.proofs.Judging.{judged_on}
-use Rattle.limited.proofs.Checked.{limited-numbered}
+use Rattle.limited.proofs.Checked.{limited_numbered}
 use Rattle.limited.proofs.judge.Statement.{statement}
 use Rattle.limited.proofs.judge.Tie as tie
 
@@ -15,7 +15,7 @@ verdict-of-requires c κs z = (file_table c.before.before.args.file.now, c.analy
 returns : tie.Need-returns
 returns c =
     let a = c.before.before.before.args in
-    judged_on (limited-numbered a.file.now a.limits.ours a.limits.theirs) c.before.analyse.ensures c.verdict_of.ensures
+    judged_on (limited_numbered a.file.now a.limits.ours a.limits.theirs) c.before.analyse.ensures c.verdict_of.ensures
 
 pub judge_spec : {M : Type 1} → statement M
 judge_spec = tie.close (tie.spec analyse-requires verdict-of-requires returns)

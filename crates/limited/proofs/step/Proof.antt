@@ -4,8 +4,8 @@ use borrow.Author.Rules.{rules}
 use lib.ListN.{length}
 use Rattle.rules.specs.Bounds.{max_rows}
 use Rattle.rules.specs.Calls.{limited_ask}
-use Rattle.planner.proofs.Asks.{usable, step-asked}
-use Rattle.limited.proofs.Checked.{limited-numbered}
+use Rattle.planner.proofs.Asks.{usable, step_asked}
+use Rattle.limited.proofs.Checked.{limited_numbered}
 use Rattle.limited.proofs.step.Statement.{statement}
 use Rattle.limited.proofs.step.Tie as tie
 
@@ -29,7 +29,7 @@ returns c =
     let f = S.args.file.now in
     let our = S.args.limits.ours in
     let their = S.args.limits.theirs in
-    step-asked (limited_ask f our their) (limited-numbered f our their) A.analyse.ensures S.args.p O.step_on.result
+    step_asked (limited_ask f our their) (limited_numbered f our their) A.analyse.ensures S.args.p O.step_on.result
     S.args.out-1.now _ (size S) O.step_on.ensures
 
 pub step_spec : {M : Type 1} → statement M

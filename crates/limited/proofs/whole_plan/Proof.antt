@@ -1,8 +1,8 @@
 -- `limited::whole_plan` meets its contract: the analysis answers the file's checks with limits.
 use borrow.Author.Rules.{rules}
 use Rattle.rules.specs.Calls.{limited_ask}
-use Rattle.planner.proofs.Asks.{usable, plan-asked}
-use Rattle.limited.proofs.Checked.{limited-numbered}
+use Rattle.planner.proofs.Asks.{usable, plan_asked}
+use Rattle.limited.proofs.Checked.{limited_numbered}
 use Rattle.limited.proofs.whole_plan.Statement.{statement}
 use Rattle.limited.proofs.whole_plan.Tie as tie
 
@@ -23,7 +23,7 @@ returns c =
     let f = a.file.now in
     let our = a.limits.ours in
     let their = a.limits.theirs in
-    plan-asked (limited_ask f our their) (limited-numbered f our their) A.analyse.ensures O.plan_on.result a.plan-1.now _
+    plan_asked (limited_ask f our their) (limited_numbered f our their) A.analyse.ensures O.plan_on.result a.plan-1.now _
     O.plan_on.ensures
 
 pub whole_plan_spec : {M : Type 1} → statement M

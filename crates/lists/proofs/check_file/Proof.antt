@@ -5,7 +5,7 @@ use native.Mathlib.Omega.{arith}
 use borrow.Author.Rules.{rules}
 use Rattle.rules.proofs.Answers.{None, none_of}
 use Rattle.lists.specs.Entries.{head_checks}
-use Rattle.lists.proofs.Entries.{first-few}
+use Rattle.lists.proofs.Entries.{first_few}
 use Rattle.lists.proofs.Heads.{head_numbered, head_passed, head_hyper, file_stopped, file_joined}
 use Rattle.lists.proofs.check_file.Statement.{statement}
 use Rattle.lists.proofs.check_file.Tie as tie
@@ -36,7 +36,7 @@ first-wrong-in-requires c κs = omega (arith, c.of-head.ensures.entries, (head_p
 check-entries-requires : tie.Need-check_entries-requires
 check-entries-requires c κs =
     let z = c.before.before in
-    omega (arith, first-few c.first_wrong_in.ensures, c.before.of-head.ensures.hyper, head_hyper (bytes z) (none z))
+    omega (arith, first_few c.first_wrong_in.ensures, c.before.of-head.ensures.hyper, head_hyper (bytes z) (none z))
 
 returns-2 : tie.Need-returns
 returns-2 c =

@@ -5,8 +5,8 @@ use borrow.Author.Rules.{rules}
 use Rattle.rules.specs.ElementList.{memory_list}
 use Rattle.rules.specs.Refusals.{wrong_list}
 use Rattle.rules.proofs.Answers.{None, none_of}
-use Rattle.lists.proofs.Entries.{first-few}
-use Rattle.lists.proofs.Heads.{bounds_numbered, bounds_hyper, memory-part, memory-bounds, memory-entries}
+use Rattle.lists.proofs.Entries.{first_few}
+use Rattle.lists.proofs.Heads.{bounds_numbered, bounds_hyper, memory_part, memory_bounds, memory_entries}
 use Rattle.lists.proofs.check_numbers.Statement.{statement}
 use Rattle.lists.proofs.check_numbers.Tie as tie
 
@@ -22,7 +22,7 @@ at-requires : tie.Need-at-requires
 at-requires c κs = search rules
 
 returns : tie.Need-returns-then-numbers-ne0
-returns c = memory-part _ _ _ _ _ c.before.if-numbers-ne0.true c.at.ensures
+returns c = memory_part _ _ _ _ _ c.before.if-numbers-ne0.true c.at.ensures
 
 bounds-fault-requires : tie.Need-bounds_fault-number-requires
 bounds-fault-requires c κs = search rules
@@ -33,7 +33,7 @@ at-requires-2 c κs = search rules
 returns-2 : tie.Need-returns-then-number-ne-DONE
 returns-2 c =
     rw (c.at-then-number-ne-DONE.ensures.0, c.at-then-number-ne-DONE.ensures.1)
-    (memory-bounds _ _ _ c.before.before.before.if-numbers-ne0.false _ 0 c.before.if-number-ne-DONE.true c.before.before.bounds_fault-number.ensures)
+    (memory_bounds _ _ _ c.before.before.before.if-numbers-ne0.false _ 0 c.before.if-number-ne-DONE.true c.before.before.bounds_fault-number.ensures)
 
 first-wrong-of-requires : tie.Need-first_wrong_of-requires
 first-wrong-of-requires c κs = omega arith
@@ -42,12 +42,12 @@ check-entries-requires : tie.Need-check_entries-requires
 check-entries-requires c κs =
     let z = c.before in
     let a = z.before.before.before.before.args in
-    omega (arith, first-few c.first_wrong_of.ensures, bounds_hyper (memory_list a.element a.hyper a.numbers.now) (none z))
+    omega (arith, first_few c.first_wrong_of.ensures, bounds_hyper (memory_list a.element a.hyper a.numbers.now) (none z))
 
 returns-3 : tie.Need-returns
 returns-3 c =
     let z = c.before.before in
-    memory-entries _ _ _ z.before.before.if-numbers-ne0.false _ _ (none z) (c.check_entries.ensures _ c.before.first_wrong_of.ensures)
+    memory_entries _ _ _ z.before.before.if-numbers-ne0.false _ _ (none z) (c.check_entries.ensures _ c.before.first_wrong_of.ensures)
 
 pub check_numbers_spec : {M : Type 1} → statement M
 check_numbers_spec =

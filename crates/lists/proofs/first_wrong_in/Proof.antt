@@ -4,7 +4,7 @@ use native.Mathlib.Omega.{arith}
 use borrow.Author.Rules.{rules}
 use Rattle.rules.specs.ElementList.{file_entry}
 use Rattle.lists.specs.Entries.{told}
-use Rattle.lists.proofs.Entries.{Checked, checked_start, read_next, read-stop, checked_end}
+use Rattle.lists.proofs.Entries.{Checked, checked_start, read_next, read_stop, checked_end}
 use Rattle.lists.proofs.first_wrong_in.Statement.{statement}
 use Rattle.lists.proofs.first_wrong_in.Tie as tie
 
@@ -26,7 +26,7 @@ least-after-requires c κs = search rules
 returns : tie.Need-returns-then-least-eq0 invariant-loop decreases-loop
 returns c =
     let z = c.before.before.before in
-    read-stop c.before.before.entry_in.ensures c.before.least_after-least.ensures z.before.loop-k.invariant.1 _ z.loop-k-test.true
+    read_stop c.before.before.entry_in.ensures c.before.least_after-least.ensures z.before.loop-k.invariant.1 _ z.loop-k-test.true
     c.if-least-eq0.true
 
 add-k : tie.Need-overflow_add-k invariant-loop decreases-loop

@@ -10,8 +10,8 @@ use Rattle.rules.specs.ElementList.{list_header, entry_numbers, memory_list, mem
 use Rattle.rules.specs.Refusals.{list_memory_checks}
 use Rattle.rules.proofs.Answers.{None, none_of}
 use Rattle.rules.proofs.Calls.{lent_headed}
-use Rattle.lists.proofs.Heads.{Right, memory_numbered, memory-right, right_fits}
-use Rattle.lists.proofs.Calls.{written-refused, written-short, written-done}
+use Rattle.lists.proofs.Heads.{Right, memory_numbered, memory_right, right_fits}
+use Rattle.lists.proofs.Calls.{written_refused, written_short, written_done}
 use Rattle.lists.proofs.write.Statement.{statement}
 use Rattle.lists.proofs.write.Tie as tie
 
@@ -27,13 +27,13 @@ right : (z : tie.Else-answer-ne-DONE) → let a = z.before.before.before.before.
     (memory_list a.element a.hyper a.numbers.now)
 right z =
     let a = z.before.before.before.before.before.args in
-    memory-right a.element a.hyper a.numbers.now (none z)
+    memory_right a.element a.hyper a.numbers.now (none z)
 
 check-numbers-requires : tie.Need-check_numbers-answer-requires
 check-numbers-requires c κs = search rules
 
 returns : tie.Need-returns-then-answer-ne-DONE
-returns c = written-refused _ _ _ _ _ _ c.before.before.check_numbers-answer.ensures c.if-answer-ne-DONE.true
+returns c = written_refused _ _ _ _ _ _ c.before.before.check_numbers-answer.ensures c.if-answer-ne-DONE.true
 
 mul-if2 : tie.Need-overflow_mul-entries
 mul-if2 c = search rules
@@ -49,7 +49,7 @@ returns-2 c =
     let z = c.before.before in
     let a = z.before.before.before.before.before.args in
     rw (c.at.ensures.0, c.at.ensures.1)
-    (written-short a.element a.hyper a.numbers.now a.out-1.now (none z) c.before.if-out-entries.true)
+    (written_short a.element a.hyper a.numbers.now a.out-1.now (none z) c.before.if-out-entries.true)
 
 cast-put-head : tie.Need-overflow_cast-element
 cast-put-head c = omega (arith, (right c.before).element_high)
@@ -76,7 +76,7 @@ returns-3 c =
     let z = c.before.before.before.before.before.before.before.before.before in
     let a = z.before.before.before.before.before.args in
     let rows = each (length a.numbers.now / entry_numbers) (λ k. in_file (memory_entry a.numbers.now k)) in
-    written-done _ _ _ _ _ _ _ z.before.before.check_numbers-answer.ensures z.if-answer-ne-DONE.false (λ l. let z : ⊥ = omega arith in z)
+    written_done _ _ _ _ _ _ _ z.before.before.check_numbers-answer.ensures z.if-answer-ne-DONE.false (λ l. let z : ⊥ = omega arith in z)
     (lent_headed a.out-1.now _ _ (file_head a.element a.hyper) rows list_header refl (omega arith)
     c.before.before.before.before.before.before.put_head.ensures c.before.before.put_all_bytes.ensures)
 

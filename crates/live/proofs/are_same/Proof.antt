@@ -5,7 +5,7 @@ use native.Mathlib.Omega.{arith}
 use borrow.Author.Rules.{rules}
 use Rattle.numbers.specs.Lists.{at}
 use Rattle.rules.specs.Bounds.{max_elements}
-use Rattle.live.proofs.Seated.{Upto, upto-start, upto_next, upto-end, upto-stop}
+use Rattle.live.proofs.Seated.{Upto, upto_start, upto_next, upto_end, upto_stop}
 use Rattle.live.proofs.are_same.Statement.{statement}
 use Rattle.live.proofs.are_same.Tie as tie
 
@@ -16,7 +16,7 @@ abbrev decreases-loop : tie.decreases-loop-s
 decreases-loop a b s₀ s = max_elements - s
 
 loop-holds : tie.Need-loop-s-init invariant-loop decreases-loop
-loop-holds c = upto-start
+loop-holds c = upto_start
 
 mul-if1 : tie.Need-offset_bounds-a-s invariant-loop decreases-loop
 mul-if1 c = search rules
@@ -31,7 +31,7 @@ element-copy-out-if1-2 : tie.Need-bounds-b-s invariant-loop decreases-loop
 element-copy-out-if1-2 c = search rules
 
 returns : tie.Need-returns-then-a-s invariant-loop decreases-loop
-returns c = upto-stop c.before.before.before.before.loop-s.s (omega arith) c.if-a-s.true
+returns c = upto_stop c.before.before.before.before.loop-s.s (omega arith) c.if-a-s.true
 
 add-s : tie.Need-overflow_add-s invariant-loop decreases-loop
 add-s c = search rules
@@ -43,7 +43,7 @@ loop-again : tie.Need-loop-s-preserved invariant-loop decreases-loop
 loop-again c = upto_next c.before.before.before.before.loop-s.invariant (omega arith) c.if-a-s.false
 
 returns-2 : tie.Need-returns invariant-loop decreases-loop
-returns-2 c = upto-end c.before.loop-s.invariant (omega arith)
+returns-2 c = upto_end c.before.loop-s.invariant (omega arith)
 
 pub are_same_spec : {M : Type 1} → statement M
 are_same_spec =

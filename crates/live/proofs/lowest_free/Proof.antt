@@ -7,7 +7,7 @@ use borrow.Author.Rules.{rules}
 use lib.Dec.{ltb, ltb→lt, lt→ltb}
 use Rattle.numbers.specs.Lists.{at}
 use Rattle.numbers.proofs.Truth.{is_true, is_false}
-use Rattle.numbers.proofs.Finite.{Sought, sought-start, sought-next, sought-found, sought-end}
+use Rattle.numbers.proofs.Finite.{Sought, sought_start, sought_next, sought_found, sought_end}
 use Rattle.rules.specs.Bounds.{max_rows}
 use Rattle.live.proofs.lowest_free.Statement.{statement}
 use Rattle.live.proofs.lowest_free.Tie as tie
@@ -19,7 +19,7 @@ abbrev decreases-loop : tie.decreases-loop-i
 decreases-loop period i₀ i = max_rows - i
 
 loop-holds : tie.Need-loop-i-init invariant-loop decreases-loop
-loop-holds c = sought-start
+loop-holds c = sought_start
 
 slots-at-requires : tie.Need-slots_at-requires invariant-loop decreases-loop
 slots-at-requires c κs = search rules
@@ -29,7 +29,7 @@ returns c =
     let d = c.before in
     let u = d.before.before in
     let p = at u.before.args.period.now u.loop-i.i in
-    sought-found u.loop-i.invariant (omega arith)
+    sought_found u.loop-i.invariant (omega arith)
     (ap not (is_false (ltb 0 p) (λ t. omega (arith, ltb→lt 0 p t, d.slots_at.ensures, c.if-slots_at-eq0.true))))
 
 add-i : tie.Need-overflow_add-i invariant-loop decreases-loop
@@ -43,11 +43,11 @@ loop-again c =
     let d = c.before in
     let u = d.before.before in
     let p = at u.before.args.period.now u.loop-i.i in
-    sought-next u.loop-i.invariant (omega arith)
+    sought_next u.loop-i.invariant (omega arith)
     (ap not (is_true (ltb 0 p) (lt→ltb 0 p (omega (arith, d.slots_at.ensures, c.if-slots_at-eq0.false)))))
 
 returns-2 : tie.Need-returns invariant-loop decreases-loop
-returns-2 c = sought-end c.before.loop-i.invariant (omega arith)
+returns-2 c = sought_end c.before.loop-i.invariant (omega arith)
 
 pub lowest_free_spec : {M : Type 1} → statement M
 lowest_free_spec =

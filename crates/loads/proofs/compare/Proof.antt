@@ -10,7 +10,7 @@ use Rattle.numbers.specs.Lists.{at}
 use Rattle.numbers.specs.Word.{word}
 use Rattle.rules.specs.Bounds.{max_rows, max_slots}
 use Rattle.loads.specs.State.{over}
-use Rattle.loads.proofs.Comparing.{takes, gives, lacks, takes-next, compared-of, word_one, word_zero, word_more}
+use Rattle.loads.proofs.Comparing.{takes, gives, lacks, takes_next, compared_of, word_one, word_zero, word_more}
 use Rattle.loads.proofs.Over.{over_next}
 use Rattle.loads.proofs.compare.Statement.{statement}
 use Rattle.loads.proofs.compare.Tie as tie
@@ -114,7 +114,7 @@ loop-again c =
     rw e (
       omega (arith, t.loop-k-test.true),
       word_more (u.k + 1) u.more _ (takes h C F) _ u.invariant.1 (rw e at c.before.before.mark-more.ensures)
-          (takes-next h C F u.k),
+          (takes_next h C F u.k),
       word_more u.k u.less _ (gives h C F) _ u.invariant.2 (rw e at c.before.mark-less.ensures) refl,
       word_more u.k u.low _ (lacks h C F) _ u.invariant.3 (rw e at c.mark-low.ensures) refl,
       ap (over (at a.out.now) (at a.into.now)) (sym (add-one u.k)),
@@ -130,7 +130,7 @@ returns c =
     let e : u.k ≡ a.size.sets = omega (arith, c.loop-k-test.false, u.invariant.0) in (
       refl,
       refl,
-      rw e at (compared-of h C F u.k u.more u.less u.low u.invariant.1 u.invariant.2 u.invariant.3),
+      rw e at (compared_of h C F u.k u.more u.less u.low u.invariant.1 u.invariant.2 u.invariant.3),
     )
 
 pub compare_spec : {M : Type 1} → statement M

@@ -14,9 +14,9 @@ use Rattle.loads.proofs.Words.{in_first}
 use Rattle.loads.specs.Loads.{last, digit}
 use Rattle.loads.specs.Line.{carried, line}
 use Rattle.loads.specs.State.{over, Asked, State}
-use Rattle.loads.proofs.Settling.{carried-circ}
-use Rattle.loads.proofs.States.{heads_are, sums-most, state-of, need-is, mended-of}
-use Rattle.loads.proofs.Turning.{low-yes, others, mend-narrow, mend-shown, mend-found, mend-upper, mend-less}
+use Rattle.loads.proofs.Settling.{carried_circ}
+use Rattle.loads.proofs.States.{heads_are, sums_most, state_of, need_is, mended_of}
+use Rattle.loads.proofs.Turning.{low_yes, others, mend_narrow, mend_shown, mend_found, mend_upper, mend_less}
 use Rattle.loads.proofs.mend.Statement.{statement}
 use Rattle.loads.proofs.mend.Tie as tie
 
@@ -48,11 +48,11 @@ module _ (p : tie.After-pick-q invariant-loop decreases-loop) (f : ℕ → ℕ)
       ap (λ (w : ℕ). bit w p.pick-q.result) (sym p.before.before.loop-low.invariant.0)
       ∙ (in_first _ _ p.pick-q.ensures.1 (λ q. absurd (false≢true (sym (bit_zero p.pick-q.result) ∙ q)))).0
 
-  set-in : p.pick-q.result < (entry p).args.size.sets
-  set-in = (low-yes now.compared p.pick-q.result lacking).0
+  set_in : p.pick-q.result < (entry p).args.size.sets
+  set_in = (low_yes now.compared p.pick-q.result lacking).0
 
   small : p.pick-q.result < 63
-  small = omega (arith, set-in, A.ends.spans.few_sets)
+  small = omega (arith, set_in, A.ends.spans.few_sets)
 
 loop-holds : tie.Need-loop-low-init invariant-loop decreases-loop
 loop-holds c = (refl, λ f A B. B)
@@ -88,7 +88,7 @@ narrow : (p : tie.After-pick-q invariant-loop decreases-loop) (f : ℕ → ℕ)
     })
 narrow p f A B =
     let M = now p f A B in
-    mend-narrow _ _ _ _ _ (at (entry p).args.head.now) f (heads_are A.ends) A.ends.spans A.parts
+    mend_narrow _ _ _ _ _ (at (entry p).args.head.now) f (heads_are A.ends) A.ends.spans A.parts
     p.before.before.loop-low.s.parted p.before.before.loop-low.s.top _ _ _ M.parted_is M.upper M.compared
     p.pick-q.result (small p f A B) (lacking p f A B)
 
@@ -96,7 +96,7 @@ find-way-requires : tie.Need-find_way-way-requires invariant-loop decreases-loop
 find-way-requires c κs =
     let p = c.before.before in
     let q = (entry p).requires in
-    let l = set-in p q.0 q.1 q.2 in (
+    let l = set_in p q.0 q.1 q.2 in (
       (entry p).args.size.rows,
       (entry p).args.size.sets,
       q.1.ends.wired,
@@ -108,7 +108,7 @@ find-way-requires c κs =
 compare-requires : tie.Need-compare-s-requires invariant-loop decreases-loop
 compare-requires c κs =
     let q = (entry c.before.before.before.before.before).requires in
-    (q.1.ends.spans.few_sets, q.1.parts.fits, sums-most q.1)
+    (q.1.ends.spans.few_sets, q.1.parts.fits, sums_most q.1)
 
 -- the way, and what it leaves
 module _ (w : tie.After-find_way-way invariant-loop decreases-loop) (f : ℕ → ℕ)
@@ -142,13 +142,13 @@ module _ (w : tie.After-find_way-way invariant-loop decreases-loop) (f : ℕ →
       let a = (entry p).args in
       let M = now p f A B in
       let S = A.ends.spans in
-      let l = set-in p f A B in
+      let l = set_in p f A B in
       let s = w.find_way-way.ensures a.size.rows a.size.sets _ _ _ A.ends.wired (narrow p f A B) (omega (arith, l))
       (omega (arith, l))
-      (mend-shown _ _ _ _ _ (at a.head.now) f (heads_are A.ends) S A.parts p.before.before.loop-low.s.parted
+      (mend_shown _ _ _ _ _ (at a.head.now) f (heads_are A.ends) S A.parts p.before.before.loop-low.s.parted
       p.before.before.loop-low.s.top _ _ _ M.parted_is M.upper M.compared p.pick-q.result (small p f A B) (lacking p f A B))
-      (carried-circ _ _ _ _ _ f S A.parts (digit p.before.before.loop-low.s.top)) in
-      mend-found _ _ _ _ _ (at a.head.now) f (heads_are A.ends) S A.parts p.before.before.loop-low.s.parted
+      (carried_circ _ _ _ _ _ f S A.parts (digit p.before.before.loop-low.s.top)) in
+      mend_found _ _ _ _ _ (at a.head.now) f (heads_are A.ends) S A.parts p.before.before.loop-low.s.parted
       p.before.before.loop-low.s.top _ _ _ M.parted_is M.upper M.compared p.pick-q.result (small p f A B) (lacking p f A B)
       w.find_way-way.result.rows w.find_way-way.result.found s
 
@@ -159,15 +159,15 @@ loop-less c =
     let q = (entry p).requires in
     let a = (entry p).args in
     let M = now p q.0 q.1 q.2 in
-    let t = mend-less _ _ _ _ _ (at a.head.now) q.0 (heads_are q.1.ends) q.1.ends.spans q.1.parts
+    let t = mend_less _ _ _ _ _ (at a.head.now) q.0 (heads_are q.1.ends) q.1.ends.spans q.1.parts
     p.before.before.loop-low.s.parted p.before.before.loop-low.s.top _ _ _ M.parted_is M.upper M.compared p.pick-q.result
     (small p q.0 q.1 q.2) (lacking p q.0 q.1 q.2) w.find_way-way.result.rows (sought w q.0 q.1 q.2) in
     let top' : ℕ = bit_xor p.before.before.loop-low.s.top w.find_way-way.result.rows in
     omega (
       arith,
       t,
-      need-is q.1 p.before.before.loop-low.s.top,
-      need-is q.1 top',
+      need_is q.1 p.before.before.loop-low.s.top,
+      need_is q.1 top',
       ap (λ (z : ℕ). sum a.size.sets (λ k. at a.sum.now k / a.size.hyper
           - ones (bit_and z (over (at a.out.now) (at a.into.now) (suc k))))) c.compare-s.ensures.1,
     )
@@ -180,9 +180,9 @@ loop-again c =
       refl,
       λ f A B.
           let M = now p f A B in
-          state-of A c.compare-s.result p.before.before.loop-low.s.parted
+          state_of A c.compare-s.result p.before.before.loop-low.s.parted
           (bit_xor p.before.before.loop-low.s.top w.find_way-way.result.rows) M.parted_is
-          (mend-upper _ _ _ _ _ (at a.head.now) f (heads_are A.ends) A.ends.spans A.parts
+          (mend_upper _ _ _ _ _ (at a.head.now) f (heads_are A.ends) A.ends.spans A.parts
           p.before.before.loop-low.s.parted p.before.before.loop-low.s.top _ _ _ M.parted_is M.upper M.compared
           p.pick-q.result
           (small p f A B) (lacking p f A B) w.find_way-way.result.rows (sought w f A B))
@@ -192,7 +192,7 @@ loop-again c =
 returns : tie.Need-returns invariant-loop decreases-loop
 returns c f A B =
     let u = c.before.loop-low in
-    mended-of A u.s (u.invariant.1 f A B) (sym u.invariant.0 ∙ omega arith)
+    mended_of A u.s (u.invariant.1 f A B) (sym u.invariant.0 ∙ omega arith)
 
 pub mend_spec : {M : Type 1} → statement M
 mend_spec =

@@ -9,12 +9,12 @@ use borrow.Author.Tests.{le-leb}
 use Rattle.numbers.specs.Lists.{at}
 use Rattle.numbers.specs.Word.{bit}
 use Rattle.loads.specs.Raised.{Settled}
-use Rattle.loads.proofs.Raising.{settle-start}
+use Rattle.loads.proofs.Raising.{settle_start}
 use Rattle.loads.specs.Loads.{last, digit}
 use Rattle.loads.specs.Line.{carried, line}
 use Rattle.loads.specs.State.{Asked, State, Mended, Turn}
-use Rattle.loads.proofs.Settling.{carried-circ, settled-greatest}
-use Rattle.loads.proofs.States.{sums-most, after_next, after_step, raised-next, raised-same}
+use Rattle.loads.proofs.Settling.{carried_circ, settled_greatest}
+use Rattle.loads.proofs.States.{sums_most, after_next, after_step, raised_next, raised_same}
 use Rattle.loads.proofs.raise_rows.Statement.{statement}
 use Rattle.loads.proofs.raise_rows.Tie as tie
 
@@ -45,7 +45,7 @@ loop-holds c = (
   λ j l. sym (ap (λ (b : Bool). b && bit c.args.start.parted j) (le-leb 0 j (omega arith))),
   λ f A M. (
     M.state,
-    settle-start _ _ (carried-circ _ _ _ _ _ f A.ends.spans A.parts (digit c.args.start.top))
+    settle_start _ _ (carried_circ _ _ _ _ _ f A.ends.spans A.parts (digit c.args.start.top))
         M.within,
   ),
 )
@@ -82,7 +82,7 @@ seek-requires c κs =
 compare-requires : tie.Need-compare-s-requires invariant-loop decreases-loop
 compare-requires c κs =
     let q = (entry c.before.before.before.before).requires in
-    (q.1.ends.spans.few_sets, q.1.parts.fits, sums-most q.1)
+    (q.1.ends.spans.few_sets, q.1.parts.fits, sums_most q.1)
 
 -- the rows that are left
 rest : (w : tie.After-without-later invariant-loop decreases-loop) (j : ℕ) → j < (entry w.before).args.size.rows
@@ -110,7 +110,7 @@ loop-again c =
       λ j l. rest w j l ∙ ap (λ (b : ℕ). leb (u.i + 1) j && bit b j) (sym z.2.ensures.0),
       λ f A M.
           let r = u.invariant.2 f A M in
-          raised-next A u.s k.seek-way.result u.i r.0 r.1 (k.seek-way.ensures _ _ _ f (turn w f A M)) z.2.result
+          raised_next A u.s k.seek-way.result u.i r.0 r.1 (k.seek-way.ensures _ _ _ f (turn w f A M)) z.2.result
           z.2.ensures.0 z.2.ensures.1 z.2.ensures.2,
     ))
     (λ z. rw z.1 (
@@ -118,7 +118,7 @@ loop-again c =
       rest w,
       λ f A M.
           let r = u.invariant.2 f A M in
-          raised-same A u.s k.seek-way.result u.i r.0 r.1 (k.seek-way.ensures _ _ _ f (turn w f A M)) (omega (arith, z.0.left)),
+          raised_same A u.s k.seek-way.result u.i r.0 r.1 (k.seek-way.ensures _ _ _ f (turn w f A M)) (omega (arith, z.0.left)),
     ))
     c.if-way-ne0.branch
 
@@ -127,7 +127,7 @@ returns c f A M =
     let u = c.before.before.loop-i in
     let r = u.invariant.2 f A M in
     let e : u.i ≡ c.before.before.before.args.size.rows = omega (arith, c.loop-i-test.false, u.invariant.0) in
-    settled-greatest _ _ _ _ _ f A.ends.spans A.parts (digit u.s.top) (rw e at r.1)
+    settled_greatest _ _ _ _ _ f A.ends.spans A.parts (digit u.s.top) (rw e at r.1)
 
 pub raise_rows_spec : {M : Type 1} → statement M
 raise_rows_spec =

@@ -1,7 +1,7 @@
 -- `maker::fault` meets its contract.
 use native.Mathlib.Omega.{arith}
 use borrow.Author.Rules.{rules}
-use Rattle.maker.proofs.Finding.{no-element, a-bad-word, a-short-plan, no-fault}
+use Rattle.maker.proofs.Finding.{no_element, a_bad_word, a_short_plan, no_fault}
 use Rattle.maker.proofs.fault.Statement.{statement}
 use Rattle.maker.proofs.fault.Tie as tie
 
@@ -10,14 +10,14 @@ at-requires c κs = search rules
 
 returns : tie.Need-returns-then-element-eq0
 returns c t plan m w h L =
-    no-element t plan c.before.before.args.element _ _ (λ q. omega (arith, c.before.if-element-eq0.true, q.0)) c.at.ensures
+    no_element t plan c.before.before.args.element _ _ (λ q. omega (arith, c.before.if-element-eq0.true, q.0)) c.at.ensures
 
 at-requires-2 : tie.Need-at-requires-then-element-elements
 at-requires-2 c κs = search rules
 
 returns-2 : tie.Need-returns-then-element-elements
 returns-2 c t plan m w h L =
-    no-element t plan c.before.before.before.args.element _ _ (λ q. omega (arith, c.before.if-element-elements.true, q.1)) c.at-then-element-elements.ensures
+    no_element t plan c.before.before.before.args.element _ _ (λ q. omega (arith, c.before.if-element-elements.true, q.1)) c.at-then-element-elements.ensures
 
 at-requires-3 : tie.Need-at-requires-then-slot-hyper
 at-requires-3 c κs = search rules
@@ -26,7 +26,7 @@ returns-3 : tie.Need-returns-then-slot-hyper
 returns-3 c t plan m w h L =
     let e = c.before.before in
     let a = e.before.before.args in
-    a-bad-word t plan a.element (omega (arith, e.before.if-element-eq0.false)) (omega (arith, e.if-element-elements.false)) a.slot (rw h at L) _ _
+    a_bad_word t plan a.element (omega (arith, e.before.if-element-eq0.false)) (omega (arith, e.if-element-elements.false)) a.slot (rw h at L) _ _
     (omega (arith, c.before.if-slot-hyper.true)) c.at-then-slot-hyper.ensures
 
 at-requires-4 : tie.Need-at-requires-then-words-hyper
@@ -37,7 +37,7 @@ returns-4 c t plan m w h L =
     let s = c.before.before in
     let e = s.before in
     let a = e.before.before.args in
-    a-short-plan t plan a.element (omega (arith, e.before.if-element-eq0.false)) (omega (arith, e.if-element-elements.false)) a.slot (rw h at L)
+    a_short_plan t plan a.element (omega (arith, e.before.if-element-eq0.false)) (omega (arith, e.if-element-elements.false)) a.slot (rw h at L)
     (omega (arith, s.if-slot-hyper.false)) _ _ (omega (arith, c.before.if-words-hyper.true)) c.at-then-words-hyper.ensures
 
 done-requires : tie.Need-done-requires
@@ -48,7 +48,7 @@ returns-5 c t plan m w h L =
     let s = c.before.before in
     let e = s.before in
     let a = e.before.before.args in
-    no-fault t plan a.element (omega (arith, e.before.if-element-eq0.false)) (omega (arith, e.if-element-elements.false)) a.slot (rw h at L)
+    no_fault t plan a.element (omega (arith, e.before.if-element-eq0.false)) (omega (arith, e.if-element-elements.false)) a.slot (rw h at L)
     (omega (arith, s.if-slot-hyper.false)) _ _ (omega (arith, c.before.if-words-hyper.false)) c.done.ensures
 
 pub fault_spec : {M : Type 1} → statement M

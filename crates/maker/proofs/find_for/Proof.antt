@@ -11,7 +11,7 @@ use Rattle.rules.specs.ElementList.{entry_size, moves_list}
 use Rattle.rules.specs.TableFile.{file_table}
 use Rattle.maker.specs.Finding.{Makeable}
 use Rattle.maker.proofs.Finding.{judged_numbered}
-use Rattle.maker.proofs.Answered.{fits_refused, fits-short, fits_all}
+use Rattle.maker.proofs.Answered.{fits_refused, fits_short, fits_all}
 use Rattle.maker.proofs.find_for.Statement.{statement}
 use Rattle.maker.proofs.find_for.Tie as tie
 
@@ -72,7 +72,7 @@ returns-2 c =
     let z = c.before.before.before.before in
     let f = found z in
     let a = (start f).args in
-    fits-short (one_ring_ask (bytes f)) (judged_numbered (bytes f)) a.plan.now a.element a.room (wants f)
+    fits_short (one_ring_ask (bytes f)) (judged_numbered (bytes f)) a.plan.now a.element a.room (wants f)
     f.find_in-found.ensures z.if-answer-ne-DONE.false _ _ (omega (arith, wanted z, c.before.before.if-room-head.true)) c.before.at.ensures
     c.nothing-then-room-head.ensures
 

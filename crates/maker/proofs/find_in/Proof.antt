@@ -5,8 +5,8 @@ use borrow.Author.Rules.{rules}
 use Rattle.rules.specs.Calls.{one_ring_ask}
 use Rattle.rules.proofs.Answers.{None}
 use Rattle.decoding.proofs.OneRing.{OtherMark}
-use Rattle.maker.proofs.Finding.{mark-stops, admitted-finds}
-use Rattle.maker.proofs.Judged.{judged_refused, judged-none, judged-table}
+use Rattle.maker.proofs.Finding.{mark_stops, admitted_finds}
+use Rattle.maker.proofs.Judged.{judged_refused, judged_none, judged_table}
 use Rattle.maker.proofs.find_in.Statement.{statement}
 use Rattle.maker.proofs.find_in.Tie as tie
 
@@ -33,7 +33,7 @@ returns : tie.Need-returns-then-has_other_mark
 returns c =
     let m = c.before.before in
     let a = m.before.before.before.before.args in
-    mark-stops a.file.now a.plan.now a.element c.before.at.result c.nothing.result c.nothing.ensures.answer
+    mark_stops a.file.now a.plan.now a.element c.before.at.result c.nothing.result c.nothing.ensures.answer
     c.before.at.ensures (m.before.has_other_mark.ensures.holds m.if-has_other_mark.true)
 
 judge-requires : tie.Need-judge-verdict-requires
@@ -71,7 +71,7 @@ admitted : (c : tie.After-decode-found)
     None (one_ring_ask (bytes j)).checks
 admitted c =
     let j = c.before.before.before.before in
-    judged-none (bytes j) j.judge-verdict.result _ _ _ _ _ _ (own j) j.judge-verdict.ensures c.before.before.verdict-1.given.1
+    judged_none (bytes j) j.judge-verdict.result _ _ _ _ _ _ (own j) j.judge-verdict.ensures c.before.before.verdict-1.given.1
 
 cast-find-on : tie.Need-overflow_cast-hyper
 cast-find-on c = search rules
@@ -79,7 +79,7 @@ cast-find-on c = search rules
 find-on-requires : tie.Need-find_on-requires
 find-on-requires c κs =
     let j = c.before.before.before.before in
-    judged-table (bytes j) j.judge-verdict.result _ _ _ _ _ _ (own j) j.judge-verdict.ensures
+    judged_table (bytes j) j.judge-verdict.result _ _ _ _ _ _ (own j) j.judge-verdict.ensures
     c.before.before.verdict-1.given.1 c.decode-found.result
     c.decode-found.ensures
 
@@ -88,7 +88,7 @@ returns-3 c =
     let d = c.before in
     let j = d.before.before.before.before in
     let a = (start j).args in
-    admitted-finds (bytes j) a.plan.now a.element (admitted d) d.decode-found.result d.decode-found.ensures c.find_on.result
+    admitted_finds (bytes j) a.plan.now a.element (admitted d) d.decode-found.result d.decode-found.ensures c.find_on.result
     c.find_on.ensures
 
 pub find_in_spec : {M : Type 1} → statement M

@@ -9,7 +9,7 @@ use Rattle.rules.proofs.Answers.{None}
 use Rattle.table.specs.Columns.{table_of}
 use Rattle.ring.proofs.Rows.{sound_routes}
 use Rattle.maker.specs.Finding.{early_checks}
-use Rattle.maker.proofs.Finding.{laid_of, found_none, found_refused, found-ready, clear_of, long_of}
+use Rattle.maker.proofs.Finding.{laid_of, found_none, found_refused, found_ready, clear_of, long_of}
 use Rattle.maker.proofs.find_on.Statement.{statement}
 use Rattle.maker.proofs.find_on.Tie as tie
 
@@ -74,7 +74,7 @@ returns-2 : tie.Need-returns
 returns-2 c =
     let e = c.before.before.before.before.before.before.before in
     let s = start (faulted e) in
-    found-ready s.requires.0 s.args.plan.now s.args.element _ s.requires.3 (none e) (checked (faulted e)) s.requires.1 s.requires.2
+    found_ready s.requires.0 s.args.plan.now s.args.element _ s.requires.3 (none e) (checked (faulted e)) s.requires.1 s.requires.2
     c.before.before.before.before.Ending-at.ensures c.before.ending_at-from.ensures c.count.ensures.0 c.count.ensures.1
 
 pub find_on_spec : {M : Type 1} → statement M

@@ -14,7 +14,7 @@ use Rattle.rules.proofs.Calls.{lent_headed}
 use Rattle.lists.proofs.RoundTrip.{bytes_length}
 use Rattle.maker.specs.Words.{flat}
 use Rattle.maker.specs.Finding.{Makeable}
-use Rattle.maker.proofs.Answered.{bytes-are, made-refused, made-done}
+use Rattle.maker.proofs.Answered.{bytes_are, made_refused, made_done}
 use Rattle.maker.proofs.make_file.Statement.{statement}
 use Rattle.maker.proofs.make_file.Tie as tie
 
@@ -49,7 +49,7 @@ returns : tie.Need-returns-then-answer-ne-DONE
 returns c =
     let f = c.before.before.before.before in
     let a = (start f).args in
-    made-refused (one_ring_ask (bytes f)) a.plan.now a.element list_bytes a.out-1.now (wanted f) f.find_for-found.ensures
+    made_refused (one_ring_ask (bytes f)) a.plan.now a.element list_bytes a.out-1.now (wanted f) f.find_for-found.ensures
     c.made_of.ensures c.before.if-answer-ne-DONE.true
 
 cast-put-head : tie.Need-overflow_cast-element
@@ -93,11 +93,11 @@ returns-2 c =
     let a = (start f).args in
     let t = file_table (bytes f) in
     let R = ready z in
-    made-done (one_ring_ask (bytes f)) a.plan.now a.element list_bytes a.out-1.now (wanted f) f.find_for-found.ensures
+    made_done (one_ring_ask (bytes f)) a.plan.now a.element list_bytes a.out-1.now (wanted f) f.find_for-found.ensures
     c.made_of-2.ensures z.if-answer-ne-DONE.false _
     (lent_headed a.out-1.now _ _ (file_head a.element (hyperperiod t)) (flat in_file (element_moves t a.element a.plan.now))
     list_header refl (omega (arith, room z)) (rw R.hyper at p.put_head.ensures) (rw R.moves at b.put_bytes.ensures)
-    ∙ ap (λ (xs : List ℕ). lent xs a.out-1.now) (bytes-are t a.element a.plan.now))
+    ∙ ap (λ (xs : List ℕ). lent xs a.out-1.now) (bytes_are t a.element a.plan.now))
 
 pub make_file_spec : {M : Type 1} → statement M
 make_file_spec =

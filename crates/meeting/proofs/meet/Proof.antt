@@ -2,7 +2,7 @@
 use mathlib.Core.List.{List}
 use Prim.Native.Nat.{ℕ}
 use borrow.Author.Rules.{rules}
-use Rattle.meeting.proofs.Asked.{met_refused, met-routes, no-first-row, no-second-row, met-done}
+use Rattle.meeting.proofs.Asked.{met_refused, met_routes, no_first_row, no_second_row, met_done}
 use Rattle.meeting.proofs.meet.Statement.{statement}
 use Rattle.meeting.proofs.meet.Tie as tie
 
@@ -30,7 +30,7 @@ returns-2 : tie.Need-returns-then-i-rows
 returns-2 c =
     let e = c.before.before in
     let d = decoded e in
-    no-first-row (bytes d) (entry d).args.i (entry d).args.j d.decode-found.result d.decode-found.ensures e.if-answer-ne-DONE.false _ _
+    no_first_row (bytes d) (entry d).args.i (entry d).args.j d.decode-found.result d.decode-found.ensures e.if-answer-ne-DONE.false _ _
     c.before.if-i-rows.true c.at.ensures
 
 at-requires-2 : tie.Need-at-requires-then-j-rows
@@ -41,7 +41,7 @@ returns-3 c =
     let l = c.before.before in
     let e = l.before in
     let d = decoded e in
-    no-second-row (bytes d) (entry d).args.i (entry d).args.j d.decode-found.result d.decode-found.ensures e.if-answer-ne-DONE.false l.if-i-rows.false _ _
+    no_second_row (bytes d) (entry d).args.i (entry d).args.j d.decode-found.result d.decode-found.ensures e.if-answer-ne-DONE.false l.if-i-rows.false _ _
     c.before.if-j-rows.true c.at-then-j-rows.ensures
 
 done-requires : tie.Need-done-requires
@@ -53,7 +53,7 @@ shared-requires c κs =
     let e = k.before.before in
     let d = decoded e in (
       d.decode-found.result.columns.rows,
-      met-routes (bytes d) (entry d).args.i (entry d).args.j d.decode-found.result d.decode-found.ensures e.if-answer-ne-DONE.false,
+      met_routes (bytes d) (entry d).args.i (entry d).args.j d.decode-found.result d.decode-found.ensures e.if-answer-ne-DONE.false,
       k.before.if-i-rows.false,
       k.if-j-rows.false,
     )
@@ -65,7 +65,7 @@ returns-4 c =
     let l = k.before in
     let e = l.before in
     let d = decoded e in
-    met-done (bytes d) (entry d).args.i (entry d).args.j d.decode-found.result d.decode-found.ensures e.if-answer-ne-DONE.false l.if-i-rows.false _ _ _
+    met_done (bytes d) (entry d).args.i (entry d).args.j d.decode-found.result d.decode-found.ensures e.if-answer-ne-DONE.false l.if-i-rows.false _ _ _
     k.if-j-rows.false n.done.ensures (c.shared.ensures _)
 
 pub meet_spec : {M : Type 1} → statement M

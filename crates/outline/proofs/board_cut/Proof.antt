@@ -1,7 +1,7 @@
 -- board_cut: no such ring, an idle one, or one whose cut is mirrored.
 use mathlib.Core.Path.{sym, ◌∙◌}
 use borrow.Author.Rules.{rules}
-use Rattle.outline.proofs.Cuts.{there, not_there, board-idle, board-busy}
+use Rattle.outline.proofs.Cuts.{there, not_there, board_idle, board_busy}
 use Rattle.outline.proofs.board_cut.Statement.{statement}
 use Rattle.outline.proofs.board_cut.Tie as tie
 
@@ -12,7 +12,7 @@ is-idle-requires : tie.Need-is_idle-requires
 is-idle-requires c κs = search rules
 
 returns-2 : tie.Need-returns-then-is_idle
-returns-2 c = board-idle _ _ (there c.before.before.if-d-rings.false) (sym c.before.is_idle.ensures ∙ c.if-is_idle.true)
+returns-2 c = board_idle _ _ (there c.before.before.if-d-rings.false) (sym c.before.is_idle.ensures ∙ c.if-is_idle.true)
 
 mirrored-requires : tie.Need-mirrored-requires
 mirrored-requires c κs = search rules
@@ -20,7 +20,7 @@ mirrored-requires c κs = search rules
 returns-3 : tie.Need-returns
 returns-3 c =
     let e = c.before in
-    c.mirrored.ensures.0 ∙ board-busy _ _ (there e.before.before.if-d-rings.false) (sym e.before.is_idle.ensures ∙ e.if-is_idle.false)
+    c.mirrored.ensures.0 ∙ board_busy _ _ (there e.before.before.if-d-rings.false) (sym e.before.is_idle.ensures ∙ e.if-is_idle.false)
 
 pub board_cut_spec : {M : Type 1} → statement M
 board_cut_spec = tie.close (tie.spec returns is-idle-requires returns-2 mirrored-requires returns-3)

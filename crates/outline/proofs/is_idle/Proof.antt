@@ -5,9 +5,9 @@ use lib.Dec.{eqb}
 use native.Mathlib.Omega.{arith}
 use borrow.Author.Tests.{ne_eqb}
 use Rattle.numbers.specs.Lists.{at}
-use Rattle.numbers.proofs.Finite.{Sought, sought-start, sought-next}
+use Rattle.numbers.proofs.Finite.{Sought, sought_start, sought_next}
 use Rattle.numbers.proofs.Truth.{eqb_of}
-use Rattle.outline.proofs.Cuts.{some-row, no_row}
+use Rattle.outline.proofs.Cuts.{some_row, no_row}
 use Rattle.outline.proofs.is_idle.Statement.{statement}
 use Rattle.outline.proofs.is_idle.Tie as tie
 
@@ -18,7 +18,7 @@ abbrev decreases-loop : tie.decreases-loop-i
 decreases-loop rows way d i₀ i = rows - i
 
 loop-holds : tie.Need-loop-i-init invariant-loop decreases-loop
-loop-holds c = sought-start
+loop-holds c = sought_start
 
 end-at-requires : tie.Need-end_at-requires invariant-loop decreases-loop
 end-at-requires c κs = omega arith
@@ -27,7 +27,7 @@ returns : tie.Need-returns-then-end_at-d invariant-loop decreases-loop
 returns c =
     let u = c.before.before.before in
     let z = u.before.args in
-    some-row z.rows (λ j. eqb (at z.way.now j) z.d) u.loop-i.i (omega arith)
+    some_row z.rows (λ j. eqb (at z.way.now j) z.d) u.loop-i.i (omega arith)
     (eqb_of _ _ (sym c.before.end_at.ensures ∙ c.if-end_at-d.true))
 
 add-i : tie.Need-overflow_add-i invariant-loop decreases-loop
@@ -39,7 +39,7 @@ loop-less c = omega arith
 loop-again : tie.Need-loop-i-preserved invariant-loop decreases-loop
 loop-again c =
     let u = c.before.before.before in
-    sought-next u.loop-i.invariant (omega arith) (ne_eqb _ _ (λ e. c.if-end_at-d.false (c.before.end_at.ensures ∙ e)))
+    sought_next u.loop-i.invariant (omega arith) (ne_eqb _ _ (λ e. c.if-end_at-d.false (c.before.end_at.ensures ∙ e)))
 
 returns-2 : tie.Need-returns invariant-loop decreases-loop
 returns-2 c = no_row _ _ c.before.loop-i.invariant (omega arith)

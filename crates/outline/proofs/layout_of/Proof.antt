@@ -7,12 +7,12 @@ use Rattle.rules.specs.Bus.{Table, clockwise, counterclockwise}
 use Rattle.rules.specs.Line.{cut, HasCuts}
 use Rattle.table.specs.Sound.{Sound}
 use Rattle.ring.specs.Route.{Element}
-use Rattle.ring.proofs.Rows.{sound_routes, sound_one_way, laid-first, laid-second}
+use Rattle.ring.proofs.Rows.{sound_routes, sound_one_way, laid_first, laid_second}
 use Rattle.ring.proofs.OnLine.{line_short}
 use Rattle.outline.specs.Layout.{table_with}
-use Rattle.time.proofs.Periods.{periods_of, clocks-timed, clocks-long}
-use Rattle.outline.proofs.Outlined.{long-refused, answers_at}
-use Rattle.outline.proofs.Cuts.{cut-searched, uncut-refused, all-cut, cut_element, other-element, cut-board}
+use Rattle.time.proofs.Periods.{periods_of, clocks_timed, clocks_long}
+use Rattle.outline.proofs.Outlined.{long_refused, answers_at}
+use Rattle.outline.proofs.Cuts.{cut_searched, uncut_refused, all_cut, cut_element, other_element, cut_board}
 use Rattle.outline.proofs.Laying.{laid_refused, laid_found}
 use Rattle.outline.proofs.layout_of.Statement.{statement}
 use Rattle.outline.proofs.layout_of.Tie as tie
@@ -29,10 +29,10 @@ entry u = u.before.before.before
 -- its cuts
 module _ (u : tie.After-lowest_uncut-uncut) (cost : ℕ → ℕ) (s : Sound (table (entry u) cost)) where
   is_cut : u.before.before.cut_on-cut.result ≡ cut (table (entry u) cost) clockwise
-  is_cut = cut-searched s clockwise u.before.before.cut_on-cut.ensures
+  is_cut = cut_searched s clockwise u.before.before.cut_on-cut.ensures
 
   is-other : u.before.cut_on-other.result ≡ cut (table (entry u) cost) counterclockwise
-  is-other = cut-searched s counterclockwise u.before.cut_on-other.ensures
+  is-other = cut_searched s counterclockwise u.before.cut_on-other.ensures
 
 cut-on-requires : tie.Need-cut_on-cut-requires
 cut-on-requires c κs = (sound_routes c.requires.1, sound_one_way c.requires.1)
@@ -55,7 +55,7 @@ returns c cost s =
     rw c.refused.ensures
     (laid_refused _ (λ q. omega (arith, c.before.at.ensures.0))
     (answers_at _ _ _ _ c.before.at.ensures
-    (uncut-refused s (is_cut u cost s) (is-other u cost s) u.lowest_uncut-uncut.ensures c.before.before.if-uncut-lt-RINGS.true)))
+    (uncut_refused s (is_cut u cost s) (is-other u cost s) u.lowest_uncut-uncut.ensures c.before.before.if-uncut-lt-RINGS.true)))
 
 of-requires : tie.Need-of-time-requires
 of-requires c κs = periods_of (entry c.before).requires.1
@@ -68,20 +68,20 @@ refused-requires-2 c κs = search rules
 
 -- past the first test each ring has a cut
 module _ (e : tie.Else-uncut-lt-RINGS) (cost : ℕ → ℕ) (s : Sound (table (entry e.before) cost)) where
-  has-cuts : HasCuts (table (entry e.before) cost)
-  has-cuts =
+  has_cuts : HasCuts (table (entry e.before) cost)
+  has_cuts =
       let u = e.before in
-      all-cut s (is_cut u cost s) (is-other u cost s) u.lowest_uncut-uncut.ensures e.if-uncut-lt-RINGS.false
+      all_cut s (is_cut u cost s) (is-other u cost s) u.lowest_uncut-uncut.ensures e.if-uncut-lt-RINGS.false
 
-  has-cut : Element (entry e.before).args.elements e.before.before.before.cut_on-cut.result
-  has-cut =
+  has_cut : Element (entry e.before).args.elements e.before.before.before.cut_on-cut.result
+  has_cut =
       let u = e.before in
       cut_element s (is_cut u cost s) (is-other u cost s) u.lowest_uncut-uncut.ensures e.if-uncut-lt-RINGS.left
 
   has_other : Element (entry e.before).args.elements e.before.before.cut_on-other.result
   has_other =
       let u = e.before in
-      other-element s (is_cut u cost s) (is-other u cost s) u.lowest_uncut-uncut.ensures e.if-uncut-lt-RINGS.left
+      other_element s (is_cut u cost s) (is-other u cost s) u.lowest_uncut-uncut.ensures e.if-uncut-lt-RINGS.left
 
 returns-2 : tie.Need-returns-then-time-eq0
 returns-2 c cost s =
@@ -90,7 +90,7 @@ returns-2 c cost s =
     rw c.refused-then-time-eq0.ensures
     (laid_refused _ (λ q. omega (arith, c.before.at-then-time-eq0.ensures.0))
     (answers_at _ _ _ _ c.before.at-then-time-eq0.ensures
-    (long-refused t (has-cuts h.before cost s) (clocks-long s h.of-time.ensures c.before.before.if-time-eq0.true))))
+    (long_refused t (has_cuts h.before cost s) (clocks_long s h.of-time.ensures c.before.before.if-time-eq0.true))))
 
 -- ---- past both tests all is found
 
@@ -106,7 +106,7 @@ done-requires c κs = search rules
 board-cut-requires : tie.Need-board_cut-requires
 board-cut-requires c κs =
     let p = (start c).requires in
-    (p.1.rows_high, p.1.elements_high, has-cut (asked c) p.0 p.1)
+    (p.1.rows_high, p.1.elements_high, has_cut (asked c) p.0 p.1)
 
 board-cut-requires-2 : tie.Need-board_cut-requires-2
 board-cut-requires-2 c κs =
@@ -120,13 +120,13 @@ mul-t19 : tie.Need-overflow_mul-result
 mul-t19 c =
     let d = c.before.before in
     let p = (start d).requires in
-    omega (arith, line_short (table (start d) p.0) p.1 (has-cuts (asked d) p.0 p.1))
+    omega (arith, line_short (table (start d) p.0) p.1 (has_cuts (asked d) p.0 p.1))
 
 lay-requires : tie.Need-lay-requires
 lay-requires c κs =
     let d = c.before.before in
     let p = (start d).requires in
-    (sound_routes p.1, sound_one_way p.1, has-cut (asked d) p.0 p.1, has_other (asked d) p.0 p.1)
+    (sound_routes p.1, sound_one_way p.1, has_cut (asked d) p.0 p.1, has_other (asked d) p.0 p.1)
 
 returns-3 : tie.Need-returns
 returns-3 c cost z =
@@ -137,13 +137,13 @@ returns-3 c cost z =
     let o = is-other u cost z in
     laid_found t _ d.done.ensures
     (record {
-      timed = clocks-timed z d.before.before.before.of-time.ensures d.before.if-time-eq0.false;
-      clear = has-cuts (asked d) cost z;
-      cut = cut-board z clockwise q c.before.before.board_cut.ensures;
-      other = cut-board z counterclockwise o c.before.board_cut-2.ensures;
+      timed = clocks_timed z d.before.before.before.of-time.ensures d.before.if-time-eq0.false;
+      clear = has_cuts (asked d) cost z;
+      cut = cut_board z clockwise q c.before.before.board_cut.ensures;
+      other = cut_board z counterclockwise o c.before.board_cut-2.ensures;
       top = refl;
-      first = laid-first t (sound_routes z).ways q o c.lay.ensures;
-      second = laid-second t (sound_routes z).ways q o c.lay.ensures;
+      first = laid_first t (sound_routes z).ways q o c.lay.ensures;
+      second = laid_second t (sound_routes z).ways q o c.lay.ensures;
     })
 
 pub layout_of_spec : {M : Type 1} → statement M

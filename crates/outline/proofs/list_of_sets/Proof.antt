@@ -1,7 +1,7 @@
 -- list_of_sets: the outline answers the file's checks up to 11.
 use borrow.Author.Rules.{rules}
 use Rattle.rules.specs.Calls.{line_ask}
-use Rattle.outline.proofs.Outlined.{outline-numbered}
+use Rattle.outline.proofs.Outlined.{outline_numbered}
 use Rattle.outline.proofs.Listed.{traced, list_asked}
 use Rattle.outline.proofs.list_of_sets.Statement.{statement}
 use Rattle.outline.proofs.list_of_sets.Tie as tie
@@ -20,7 +20,7 @@ returns c =
     let L = c.before.before in
     let O = L.before.before in
     let a = O.before.before.before.args in
-    list_asked (line_ask a.file.now) (outline-numbered a.file.now) O.outline_file.ensures L.list_on.result a.out-1.now _
+    list_asked (line_ask a.file.now) (outline_numbered a.file.now) O.outline_file.ensures L.list_on.result a.out-1.now _
     L.list_on.ensures
 
 pub list_of_sets_spec : {M : Type 1} → statement M

@@ -8,8 +8,8 @@ use Rattle.rules.specs.TableFile.{file_table}
 use Rattle.rules.specs.Refusals.{Answers, given_checks}
 use Rattle.table.specs.Sound.{Sound}
 use Rattle.table.specs.Columns.{table_of}
-use Rattle.pasted.proofs.AsGiven.{given-of}
-use Rattle.outline.proofs.Outlined.{answers_zero, outlined-given, outlined-past}
+use Rattle.pasted.proofs.AsGiven.{given_of}
+use Rattle.outline.proofs.Outlined.{answers_zero, outlined_given, outlined_past}
 use Rattle.outline.proofs.outline_file.Statement.{statement}
 use Rattle.outline.proofs.outline_file.Tie as tie
 
@@ -26,7 +26,7 @@ held : (c : tie.Else-answer-ne-DONE) → table_of (taken c).given-found.result.c
 held c = ((taken c).given-found.ensures.passed c.if-answer-ne-DONE.false).table
 
 sound : (c : tie.Else-answer-ne-DONE) → Sound (table_of (taken c).given-found.result.columns)
-sound c = rw (held c) (given-of (bytes c) _ (checked c)).sound
+sound c = rw (held c) (given_of (bytes c) _ (checked c)).sound
 
 given-requires : tie.Need-given-found-requires
 given-requires c κs = search rules
@@ -37,7 +37,7 @@ refused-requires c κs = search rules
 returns : tie.Need-returns-then-answer-ne-DONE
 returns c =
     let a = c.before.before.before.before.given in
-    rw c.refused.ensures (outlined-given _ a.result.answer c.before.if-answer-ne-DONE.true a.ensures.answers)
+    rw c.refused.ensures (outlined_given _ a.result.answer c.before.if-answer-ne-DONE.true a.ensures.answers)
 
 outline-of-requires : tie.Need-outline_of-requires
 outline-of-requires c κs = let e = c.before.before.before.before.before in (at (taken e).given-found.result.columns.cost, sound e)
@@ -45,7 +45,7 @@ outline-of-requires c κs = let e = c.before.before.before.before.before in (at 
 returns-2 : tie.Need-returns
 returns-2 c =
     let e = c.before.before.before.before.before.before in
-    outlined-past (bytes e) _ (checked e)
+    outlined_past (bytes e) _ (checked e)
     (rw (held e) at (c.outline_of.ensures (at (taken e).given-found.result.columns.cost) (sound e)))
 
 pub outline_file_spec : {M : Type 1} → statement M

@@ -4,7 +4,7 @@ use native.Mathlib.Omega.{arith}
 use borrow.Author.Rules.{rules}
 use Rattle.rules.specs.Bus.{Table}
 use Rattle.outline.specs.Layout.{table_with}
-use Rattle.outline.proofs.Laying.{outlined-unlaid, lies-on-line, outlined-laid}
+use Rattle.outline.proofs.Laying.{outlined_unlaid, lies_on_line, outlined_laid}
 use Rattle.outline.proofs.outline_of.Statement.{statement}
 use Rattle.outline.proofs.outline_of.Tie as tie
 
@@ -26,7 +26,7 @@ taken e = e.before.before.before
 returns : tie.Need-returns-then-answer-ne-DONE
 returns c cost s =
     let d = c.before.before.before.before in
-    rw c.refused.ensures (outlined-unlaid (d.layout_of-laid.ensures cost s) c.before.if-answer-ne-DONE.true)
+    rw c.refused.ensures (outlined_unlaid (d.layout_of-laid.ensures cost s) c.before.if-answer-ne-DONE.true)
 
 abbrev unrefused : tie.After-line_second-2-1 → tie.Else-answer-ne-DONE
 unrefused c = c.before.before.before.before
@@ -36,13 +36,13 @@ list-sets-requires c κs =
     let e = unrefused c in
     let d = taken e in
     let p = d.before.requires in
-    lies-on-line (d.layout_of-laid.ensures p.0 p.1) e.if-answer-ne-DONE.left
+    lies_on_line (d.layout_of-laid.ensures p.0 p.1) e.if-answer-ne-DONE.left
 
 returns-2 : tie.Need-returns
 returns-2 c cost s =
     let L = c.before.before in
     let e = unrefused L.before in
-    outlined-laid ((taken e).layout_of-laid.ensures cost s) e.if-answer-ne-DONE.left _ _ L.list_sets-list.ensures
+    outlined_laid ((taken e).layout_of-laid.ensures cost s) e.if-answer-ne-DONE.left _ _ L.list_sets-list.ensures
 
 pub outline_of_spec : {M : Type 1} → statement M
 outline_of_spec =

@@ -7,7 +7,7 @@ use Rattle.numbers.specs.Lists.{at}
 use Rattle.rules.specs.Bounds.{max_elements, max_rows}
 use Rattle.table.specs.declared.Answer.{Answer}
 use Rattle.table.specs.declared.columns.Columns.{Columns}
-use Rattle.pasted.proofs.AsGiven.{given-stopped, given-ends, given-pasted, given-whole, decodes_as, decodes_refusal}
+use Rattle.pasted.proofs.AsGiven.{given_stopped, given_ends, given_pasted, given_whole, decodes_as, decodes_refusal}
 use Rattle.pasted.proofs.given.Statement.{statement}
 use Rattle.pasted.proofs.given.Tie as tie
 
@@ -31,13 +31,13 @@ module _ (e : tie.Else-answer-ne-DONE) where
   ends : (columns.rows ≤ max_rows) × ((i : ℕ) → i < columns.rows → at columns.first i ≤ max_elements)
   ends =
       let d = (decoded e).decode-found.ensures in
-      given-ends (bytes (decoded e)) answer columns d.answers d.passed e.if-answer-ne-DONE.left
+      given_ends (bytes (decoded e)) answer columns d.answers d.passed e.if-answer-ne-DONE.left
 
 returns : tie.Need-returns-then-answer-ne-DONE
 returns c =
     let d = c.before.before.before.decode in
     let D = d.ensures in
-    decodes_as D (given-stopped _ d.result.answer d.result.columns D.answers D.passed c.if-answer-ne-DONE.true)
+    decodes_as D (given_stopped _ d.result.answer d.result.columns D.answers D.passed c.if-answer-ne-DONE.true)
 
 lowest-pasted-requires : tie.Need-lowest_pasted-row-requires
 lowest-pasted-requires c κs = ends c.before.before.before.before.before
@@ -58,7 +58,7 @@ returns-2 c =
     rw c.refused.ensures
     (decodes_refusal a.result (λ z. omega (arith, a.ensures.0))
     (rw (a.ensures.0, a.ensures.1)
-    (given-pasted (bytes (decoded e)) (answer e) k D.answers D.passed e.if-answer-ne-DONE.false _
+    (given_pasted (bytes (decoded e)) (answer e) k D.answers D.passed e.if-answer-ne-DONE.false _
     (p.lowest_pasted-row.ensures k.elements k.rings k.cost) c.before.before.if-row-found.true)))
 
 returns-3 : tie.Need-returns
@@ -68,7 +68,7 @@ returns-3 c =
     let D = (decoded e).decode-found.ensures in
     let k = columns e in
     decodes_as D
-    (given-whole (bytes (decoded e)) (answer e) k D.answers D.passed e.if-answer-ne-DONE.false _
+    (given_whole (bytes (decoded e)) (answer e) k D.answers D.passed e.if-answer-ne-DONE.false _
     (p.lowest_pasted-row.ensures k.elements k.rings k.cost) (omega (arith, c.if-row-found.false)))
 
 pub given_spec : {M : Type 1} → statement M

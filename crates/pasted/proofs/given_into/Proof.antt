@@ -7,7 +7,7 @@ use Rattle.numbers.specs.Lists.{at}
 use Rattle.rules.specs.Bounds.{max_elements, max_rows}
 use Rattle.table.specs.declared.columns.Columns.{Columns}
 use Rattle.decoding.specs.Decoded.{columns_by}
-use Rattle.pasted.proofs.AsGiven.{given-stopped, given-ends, given-pasted, given-whole, into-as, into-refusal}
+use Rattle.pasted.proofs.AsGiven.{given_stopped, given_ends, given_pasted, given_whole, into_as, into_refusal}
 use Rattle.pasted.proofs.given_into.Statement.{statement}
 use Rattle.pasted.proofs.given_into.Tie as tie
 
@@ -32,7 +32,7 @@ ends : (e : tie.Else-answer-ne-DONE)
 ends e =
     let d = decoded e in
     let D = d.decode_into-head.ensures in
-    given-ends (bytes d) d.decode_into-head.result.answer (columns d) D.answers D.passed e.if-answer-ne-DONE.false
+    given_ends (bytes d) d.decode_into-head.result.answer (columns d) D.answers D.passed e.if-answer-ne-DONE.false
 
 decode-into-requires : tie.Need-decode_into-head-requires
 decode-into-requires c κs = search rules
@@ -41,7 +41,7 @@ returns : tie.Need-returns-then-answer-ne-DONE
 returns c =
     let d = c.before.before.before in
     let D = d.decode_into-head.ensures in
-    into-as D (given-stopped (bytes d) d.decode_into-head.result.answer (columns d) D.answers D.passed c.if-answer-ne-DONE.true)
+    into_as D (given_stopped (bytes d) d.decode_into-head.result.answer (columns d) D.answers D.passed c.if-answer-ne-DONE.true)
 
 lowest-pasted-requires : tie.Need-lowest_pasted-row-requires
 lowest-pasted-requires c κs = ends c.before.before.before.before
@@ -62,9 +62,9 @@ returns-2 c =
     let k = columns d in
     let a = c.before.at in
     rw c.refused.ensures
-    (into-refusal a.result (λ z. omega (arith, a.ensures.0))
+    (into_refusal a.result (λ z. omega (arith, a.ensures.0))
     (rw (a.ensures.0, a.ensures.1)
-    (given-pasted (bytes d) d.decode_into-head.result.answer k D.answers D.passed e.if-answer-ne-DONE.left _
+    (given_pasted (bytes d) d.decode_into-head.result.answer k D.answers D.passed e.if-answer-ne-DONE.left _
     (p.lowest_pasted-row.ensures k.elements k.rings k.cost) t.if-row-head.true)))
 
 returns-3 : tie.Need-returns
@@ -74,8 +74,8 @@ returns-3 c =
     let d = decoded e in
     let D = d.decode_into-head.ensures in
     let k = columns d in
-    into-as D
-    (given-whole (bytes d) d.decode_into-head.result.answer k D.answers D.passed e.if-answer-ne-DONE.left _
+    into_as D
+    (given_whole (bytes d) d.decode_into-head.result.answer k D.answers D.passed e.if-answer-ne-DONE.left _
     (p.lowest_pasted-row.ensures k.elements k.rings k.cost) (omega (arith, c.if-row-head.false)))
 
 pub given_into_spec : {M : Type 1} → statement M

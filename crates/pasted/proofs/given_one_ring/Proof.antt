@@ -1,6 +1,6 @@
 -- given_one_ring: 2 for another mark; else the table as it is given.
 use borrow.Author.Rules.{rules}
-use Rattle.pasted.proofs.OneRing.{given-other, given-own}
+use Rattle.pasted.proofs.OneRing.{given_other, given_own}
 use Rattle.pasted.proofs.given_one_ring.Statement.{statement}
 use Rattle.pasted.proofs.given_one_ring.Tie as tie
 
@@ -17,7 +17,7 @@ returns : tie.Need-returns-then-has_other_mark
 returns c =
     let t = c.before.before in
     rw c.refused.ensures
-    (given-other _ c.before.at.result c.before.at.ensures (t.before.has_other_mark.ensures.holds t.if-has_other_mark.true))
+    (given_other _ c.before.at.result c.before.at.ensures (t.before.has_other_mark.ensures.holds t.if-has_other_mark.true))
 
 given-requires : tie.Need-given-requires
 given-requires c κs = search rules
@@ -25,7 +25,7 @@ given-requires c κs = search rules
 returns-2 : tie.Need-returns
 returns-2 c =
     let e = c.before in
-    given-own _ c.given.result (e.before.has_other_mark.ensures.fails e.if-has_other_mark.false) c.given.ensures
+    given_own _ c.given.result (e.before.has_other_mark.ensures.fails e.if-has_other_mark.false) c.given.ensures
 
 pub given_one_ring_spec : {M : Type 1} → statement M
 given_one_ring_spec =

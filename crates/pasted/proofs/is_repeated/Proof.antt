@@ -10,7 +10,7 @@ use Rattle.numbers.proofs.Truth.{both, fst, is_true, of_true, of_false}
 use Rattle.numbers.proofs.Finite.{any_of, any_none}
 use Rattle.numbers.proofs.Word.{bit_zero}
 use Rattle.rules.specs.Bounds.{max_rows}
-use Rattle.sets.proofs.Sums.{sum-without}
+use Rattle.sets.proofs.Sums.{sum_without}
 use Rattle.pasted.specs.Alike.{alike}
 use Rattle.pasted.proofs.AsGiven.{left_out}
 use Rattle.pasted.proofs.is_repeated.Statement.{statement}
@@ -49,7 +49,7 @@ loop-less : tie.Need-loop-left-smaller invariant-loop decreases-loop
 loop-less c =
     let d = c.before.before in
     let e = d.lowest_row-j.ensures in
-    let s = sum-without d.before.before.loop-left.left d.lowest_row-j.result e.0 (λ j. 1) 64 e.0 e.1 in
+    let s = sum_without d.before.before.loop-left.left d.lowest_row-j.result e.0 (λ j. 1) 64 e.0 e.1 in
     omega (arith, s)
 
 loop-again : tie.Need-loop-left-preserved invariant-loop decreases-loop

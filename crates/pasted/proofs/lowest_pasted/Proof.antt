@@ -6,7 +6,7 @@ use native.Mathlib.Omega.{arith}
 use lib.Dec.{eqb}
 use Rattle.numbers.specs.Lists.{at}
 use Rattle.numbers.specs.Word.{word}
-use Rattle.numbers.proofs.Finite.{Sought, sought-start, sought-next, sought-found, sought-end}
+use Rattle.numbers.proofs.Finite.{Sought, sought_start, sought_next, sought_found, sought_end}
 use Rattle.rules.specs.Bounds.{max_elements}
 use Rattle.rules.specs.Bus.{Table, pasted}
 use Rattle.table.specs.Columns.{column_table}
@@ -33,7 +33,7 @@ on-ring c =
     omega (arith, c.end_at-from.ensures, u.before.requires.1 u.loop-i.i (omega arith))
 
 loop-holds : tie.Need-loop-i-init invariant-loop decreases-loop
-loop-holds c = (sought-start, filling_start (max_elements + 1) _)
+loop-holds c = (sought_start, filling_start (max_elements + 1) _)
 
 end-at-requires : tie.Need-end_at-from-requires invariant-loop decreases-loop
 end-at-requires c κs = omega (arith, c.before.before.requires.0)
@@ -66,7 +66,7 @@ returns : tie.Need-returns-then-is_repeated invariant-loop decreases-loop
 unfolding pasted
 returns c elements rings cost =
     let d = c.before in
-    sought-found d.before.before.before.loop-i.invariant.0 (omega arith) (found d ∙ c.if-is_repeated.true)
+    sought_found d.before.before.before.loop-i.invariant.0 (omega arith) (found d ∙ c.if-is_repeated.true)
 
 shl-starts : tie.Need-overflow_shl-starts invariant-loop decreases-loop
 shl-starts c = omega (arith, c.before.before.before.before.before.requires.0)
@@ -87,13 +87,13 @@ loop-again : tie.Need-loop-i-preserved invariant-loop decreases-loop
 loop-again c =
     let d = c.before in
     let u = d.before.before.before in (
-      sought-next u.loop-i.invariant.0 (omega arith) (found d ∙ c.if-is_repeated.false),
+      sought_next u.loop-i.invariant.0 (omega arith) (found d ∙ c.if-is_repeated.false),
       filling_next _ u.loop-i.invariant.1 (omega (arith, u.before.requires.0)) d.before.end_at-from.ensures (on-ring d.before),
     )
 
 returns-2 : tie.Need-returns invariant-loop decreases-loop
 unfolding pasted
-returns-2 c elements rings cost = sought-end c.before.loop-i.invariant.0 (omega arith)
+returns-2 c elements rings cost = sought_end c.before.loop-i.invariant.0 (omega arith)
 
 pub lowest_pasted_spec : {M : Type 1} → statement M
 lowest_pasted_spec =

@@ -7,9 +7,9 @@ use Rattle.rules.specs.Bus.{Table}
 use Rattle.rules.specs.Loads.{intervals}
 use Rattle.verdict.specs.Analysed.{Accepted}
 use Rattle.planner.proofs.CourseNumbers.{hyper_is}
-use Rattle.planner.proofs.Checks.{plan-short, plan-done}
-use Rattle.planner.proofs.Laying.{whole-plannable}
-use Rattle.planner.proofs.Answering.{plan-own, plan-answer}
+use Rattle.planner.proofs.Checks.{plan_short, plan_done}
+use Rattle.planner.proofs.Laying.{whole_plannable}
+use Rattle.planner.proofs.Answering.{plan_own, plan_answer}
 use Rattle.planner.proofs.plan_on.Statement.{statement}
 use Rattle.planner.proofs.plan_on.Tie as tie
 
@@ -34,15 +34,15 @@ returns-2 c =
     let S = entry E in
     record {
       done = λ z t A.
-          plan-own t c.at.ensures (omega arith) S.args.plan-1.now
-          (plan-short t (length S.args.plan-1.now) (omega (arith, hyper_is A, c.before.if-plan-hyper.true)));
+          plan_own t c.at.ensures (omega arith) S.args.plan-1.now
+          (plan_short t (length S.args.plan-1.now) (omega (arith, hyper_is A, c.before.if-plan-hyper.true)));
       refused = λ h. absurd (h E.if-answer-ne-DONE.false);
     }
 
 plan-intervals-requires : tie.Need-plan_intervals-requires
 plan-intervals-requires c κs =
     let w = some c.before.before in
-    (w.0, 0, intervals w.0, whole-plannable w.1 _ c.before.if-plan-hyper.false)
+    (w.0, 0, intervals w.0, whole_plannable w.1 _ c.before.if-plan-hyper.false)
 
 done-requires : tie.Need-done-requires
 done-requires c κs = search rules
@@ -58,9 +58,9 @@ returns-3 c =
     let S = entry E in
     record {
       done = λ z t A.
-          plan-answer A _ c.done.ensures S.args.plan-1.now _ G.plan_intervals.result _
-          refl (G.plan_intervals.ensures t 0 (intervals t) (whole-plannable A _ N.if-plan-hyper.false))
-          (plan-done t (length S.args.plan-1.now) (omega (arith, hyper_is A, N.if-plan-hyper.false)));
+          plan_answer A _ c.done.ensures S.args.plan-1.now _ G.plan_intervals.result _
+          refl (G.plan_intervals.ensures t 0 (intervals t) (whole_plannable A _ N.if-plan-hyper.false))
+          (plan_done t (length S.args.plan-1.now) (omega (arith, hyper_is A, N.if-plan-hyper.false)));
       refused = λ h. absurd (h E.if-answer-ne-DONE.false);
     }
 

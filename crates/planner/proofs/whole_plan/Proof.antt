@@ -1,7 +1,7 @@
 -- `planner::whole_plan` meets its contract: the analysis answers the file's checks.
 use borrow.Author.Rules.{rules}
 use Rattle.rules.specs.Calls.{file_ask}
-use Rattle.planner.proofs.Asks.{file_proper, usable, plan-asked}
+use Rattle.planner.proofs.Asks.{file_proper, usable, plan_asked}
 use Rattle.planner.proofs.whole_plan.Statement.{statement}
 use Rattle.planner.proofs.whole_plan.Tie as tie
 
@@ -20,7 +20,7 @@ returns c =
     let A = O.before.before in
     let S = A.before.before.before in
     let f = S.args.file.now in
-    plan-asked (file_ask f) (file_proper f).numbered A.analyse.ensures O.plan_on.result S.args.plan-1.now _ O.plan_on.ensures
+    plan_asked (file_ask f) (file_proper f).numbered A.analyse.ensures O.plan_on.result S.args.plan-1.now _ O.plan_on.ensures
 
 pub whole_plan_spec : {M : Type 1} → statement M
 whole_plan_spec = tie.close (tie.spec analyse-requires plan-on-requires same_length returns)

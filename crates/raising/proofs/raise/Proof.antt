@@ -10,7 +10,7 @@ use Rattle.rules.specs.Bounds.{max_rows}
 use Rattle.rules.specs.TableFile.{row_numbers, numbers, file_labelled}
 use Rattle.rules.specs.Raising.{raised_labelled, before_13}
 use Rattle.rules.proofs.Answers.{None}
-use Rattle.raising.proofs.Writing.{raising_none, raise_refused, raise-written, few, long-enough, rows_are, elements-are, numbers-are}
+use Rattle.raising.proofs.Writing.{raising_none, raise_refused, raise_written, few, long_enough, rows_are, elements_are, numbers_are}
 use Rattle.raising.proofs.raise.Statement.{statement}
 use Rattle.raising.proofs.raise.Tie as tie
 
@@ -52,7 +52,7 @@ put-all-numbers-requires c κs =
 version-of-requires : tie.Need-version_of-requires
 version-of-requires c κs =
     let e = c.before.before.before.before.before.before.before.before.before.before.before in
-    omega (arith, long-enough (bytes (found e)) (none e))
+    omega (arith, long_enough (bytes (found e)) (none e))
 
 mul-numbers : tie.Need-overflow_mul-numbers
 mul-numbers c = omega (arith, rows c.before.before.before.before.before.before.before.before.before.before.before.before)
@@ -91,8 +91,8 @@ returns-2 c =
     let a = none e in
     let xs : take (row_numbers * x.given.columns-1.rows) v.before.before.put_all_numbers.new.1.1.1.1.1.1.0
     ≡ numbers (raised_labelled (file_labelled (bytes g))) =
-    ap (take (row_numbers * x.given.columns-1.rows)) v.before.before.put_all_numbers.ensures ∙ numbers-are (bytes g) a x R z _ in
-    raise-written (bytes g) a v.version_of.ensures (elements-are (bytes g) a x R z) (rows_are (bytes g) a x R z) xs
+    ap (take (row_numbers * x.given.columns-1.rows)) v.before.before.put_all_numbers.ensures ∙ numbers_are (bytes g) a x R z _ in
+    raise_written (bytes g) a v.version_of.ensures (elements_are (bytes g) a x R z) (rows_are (bytes g) a x R z) xs
     c.before.before.write_plain.ensures
 
 pub raise_spec : {M : Type 1} → statement M

@@ -5,7 +5,7 @@ use borrow.Author.Rules.{rules}
 use Rattle.numbers.specs.Lists.{at}
 use Rattle.table.specs.Columns.{table_of}
 use Rattle.outline.specs.Layout.{LaidOut}
-use Rattle.raising.proofs.Asked.{raising-given, raising-sound, raising-times, raising-line, raising-interval, raising-done}
+use Rattle.raising.proofs.Asked.{raising_given, raising_sound, raising_times, raising_line, raising_interval, raising_done}
 use Rattle.raising.proofs.raised_table.Statement.{statement}
 use Rattle.raising.proofs.raised_table.Tie as tie
 
@@ -26,7 +26,7 @@ laid o =
     let e = passed o in
     let g = taken e in
     o.layout_of-laid.ensures (at g.given_one_ring-found.result.columns.cost)
-    (raising-sound (bytes g) g.given_one_ring-found.result g.given_one_ring-found.ensures e.if-answer-ne-DONE.left)
+    (raising_sound (bytes g) g.given_one_ring-found.result g.given_one_ring-found.ensures e.if-answer-ne-DONE.left)
 
 given-one-ring-requires : tie.Need-given_one_ring-found-requires
 given-one-ring-requires c κs = search rules
@@ -37,14 +37,14 @@ refused-requires c κs = search rules
 returns : tie.Need-returns-then-answer-ne-DONE
 returns c =
     let g = c.before.before.before.before in
-    rw c.refused.ensures (raising-given (bytes g) g.given_one_ring-found.result g.given_one_ring-found.ensures c.before.if-answer-ne-DONE.true)
+    rw c.refused.ensures (raising_given (bytes g) g.given_one_ring-found.result g.given_one_ring-found.ensures c.before.if-answer-ne-DONE.true)
 
 layout-of-requires : tie.Need-layout_of-laid-requires
 layout-of-requires c κs =
     let e = c.before.before.before.before.before in
     let g = taken e in (
       at g.given_one_ring-found.result.columns.cost,
-      raising-sound (bytes g) g.given_one_ring-found.result g.given_one_ring-found.ensures e.if-answer-ne-DONE.false,
+      raising_sound (bytes g) g.given_one_ring-found.result g.given_one_ring-found.ensures e.if-answer-ne-DONE.false,
     )
 
 refused-requires-2 : tie.Need-refused-requires-then-placed-ne-DONE
@@ -56,7 +56,7 @@ returns-2 c =
     let e = passed o in
     let g = taken e in
     rw c.refused-then-placed-ne-DONE.ensures
-    (raising-line (bytes g) g.given_one_ring-found.result g.given_one_ring-found.ensures e.if-answer-ne-DONE.left
+    (raising_line (bytes g) g.given_one_ring-found.result g.given_one_ring-found.ensures e.if-answer-ne-DONE.left
     o.layout_of-laid.result (laid o) c.before.if-placed-ne-DONE.true)
 
 raised-costs-requires : tie.Need-raised_costs-cost-requires
@@ -65,9 +65,9 @@ raised-costs-requires c κs =
     let o = placed l in
     let e = passed o in
     let g = taken e in
-    let I = raising-interval (bytes g) g.given_one_ring-found.result g.given_one_ring-found.ensures e.if-answer-ne-DONE.left
+    let I = raising_interval (bytes g) g.given_one_ring-found.result g.given_one_ring-found.ensures e.if-answer-ne-DONE.left
     o.layout_of-laid.result (laid o) l.if-placed-ne-DONE.false in
-    (raising-times (bytes g) g.given_one_ring-found.result g.given_one_ring-found.ensures e.if-answer-ne-DONE.left, I.0, I.1)
+    (raising_times (bytes g) g.given_one_ring-found.result g.given_one_ring-found.ensures e.if-answer-ne-DONE.left, I.0, I.1)
 
 returns-3 : tie.Need-returns
 returns-3 c =
@@ -75,7 +75,7 @@ returns-3 c =
     let o = placed l in
     let e = passed o in
     let g = taken e in
-    raising-done (bytes g) g.given_one_ring-found.result g.given_one_ring-found.ensures e.if-answer-ne-DONE.left
+    raising_done (bytes g) g.given_one_ring-found.result g.given_one_ring-found.ensures e.if-answer-ne-DONE.left
     o.layout_of-laid.result (laid o) l.if-placed-ne-DONE.false _
     c.raised_costs-cost.ensures
 

@@ -1,5 +1,5 @@
 -- `reader::read_version_1` meets its contract.
-use Rattle.reader.proofs.Calls.{other-refused, version-1-refused, version-1-else}
+use Rattle.reader.proofs.Calls.{other_refused, version_1_refused, version_1_else}
 use borrow.Author.Rules.{rules}
 use Rattle.reader.proofs.read_version_1.Statement.{statement}
 use Rattle.reader.proofs.read_version_1.Tie as tie
@@ -18,7 +18,7 @@ returns c =
     let e = c.refuse_read.ensures in
     let a = c.before.at.ensures in
     let z = c.before.before in
-    rw (e.0, e.1, e.2, e.3, e.4, a.0, a.1) (other-refused _ _ (z.before.has_other_mark.ensures.holds z.if-has_other_mark.true))
+    rw (e.0, e.1, e.2, e.3, e.4, a.0, a.1) (other_refused _ _ (z.before.has_other_mark.ensures.holds z.if-has_other_mark.true))
 
 is-labelled-requires : tie.Need-is_labelled-requires
 is-labelled-requires c κs = search rules
@@ -34,7 +34,7 @@ returns-2 c =
     let e = c.refuse_read-then-is_labelled.ensures in
     let a = c.before.at-then-is_labelled.ensures in
     let z = c.before.before in
-    rw (e.0, e.1, e.2, e.3, e.4, a.0, a.1) (version-1-refused _ _ (z.before.is_labelled.ensures.holds z.if-is_labelled.true))
+    rw (e.0, e.1, e.2, e.3, e.4, a.0, a.1) (version_1_refused _ _ (z.before.is_labelled.ensures.holds z.if-is_labelled.true))
 
 read-requires : tie.Need-read-requires
 read-requires c κs = search rules
@@ -47,7 +47,7 @@ returns-3 c =
     let w = c.before.before in
     let z = w.before.before in
     let y = z.before.before in
-    version-1-else _ _ _ _ _ _ _ _ _ (y.before.has_other_mark.ensures.fails y.if-has_other_mark.false)
+    version_1_else _ _ _ _ _ _ _ _ _ (y.before.has_other_mark.ensures.fails y.if-has_other_mark.false)
     (z.before.is_labelled.ensures.fails z.if-is_labelled.false) w.read.ensures
 
 pub read_version_1_spec : {M : Type 1} → statement M

@@ -1,7 +1,7 @@
 -- `relay::goes` meets its contract.
 use native.Mathlib.Omega.{arith}
 use Rattle.table.specs.Columns.{table_of}
-use Rattle.relay.proofs.Columns.{through-is}
+use Rattle.relay.proofs.Columns.{through_is}
 use Rattle.relay.proofs.goes.Statement.{statement}
 use Rattle.relay.proofs.goes.Tie as tie
 
@@ -35,7 +35,7 @@ returns c =
     let from = c.before.before.before.before in
     let way = from.before.before.before in
     let a = way.before.before.before.args in
-    through-is (table_of a.t1) a.i a.relay way.end_at.ensures from.end_at-2.ensures c.before.end_at-3.ensures
+    through_is (table_of a.t1) a.i a.relay way.end_at.ensures from.end_at-2.ensures c.before.end_at-3.ensures
     c.Goes-through.ensures
 
 pub goes_spec : {M : Type 1} → statement M

@@ -2,7 +2,7 @@
 use Prim.Native.Nat.{◌≤◌}
 use native.Mathlib.Omega.{arith}
 use Rattle.table.specs.Columns.{table_of}
-use Rattle.relay.proofs.Given.{no-relay, too_many, right-relay}
+use Rattle.relay.proofs.Given.{no_relay, too_many, right_relay}
 use Rattle.relay.proofs.relay_fault.Statement.{statement}
 use Rattle.relay.proofs.relay_fault.Tie as tie
 
@@ -15,12 +15,12 @@ within z = (let n = z.before.before.if-relay-eq0.false in omega (arith, n), z.if
 returns : tie.Need-returns-then-relay-eq0
 returns c =
     let a = c.before.args in
-    no-relay (table_of a.given) a.relay (λ w. let z : ⊥ = omega (arith, c.if-relay-eq0.true, w.0) in z)
+    no_relay (table_of a.given) a.relay (λ w. let z : ⊥ = omega (arith, c.if-relay-eq0.true, w.0) in z)
 
 returns-2 : tie.Need-returns-then-relay-given
 returns-2 c =
     let a = c.before.before.before.args in
-    no-relay (table_of a.given) a.relay (λ w. let z : ⊥ = omega (arith, c.if-relay-given.true, w.1) in z)
+    no_relay (table_of a.given) a.relay (λ w. let z : ⊥ = omega (arith, c.if-relay-given.true, w.1) in z)
 
 rows-split-requires : tie.Need-rows_split-requires
 rows-split-requires c κs =
@@ -37,7 +37,7 @@ returns-4 : tie.Need-returns
 returns-4 c =
     let z = c.before.before in
     let a = z.before.before.before.args in
-    right-relay (table_of a.given) a.relay (within z) (omega (arith, c.if-rows_split-gt-ROWS.false, c.before.rows_split.ensures))
+    right_relay (table_of a.given) a.relay (within z) (omega (arith, c.if-rows_split-gt-ROWS.false, c.before.rows_split.ensures))
 
 pub relay_fault_spec : {M : Type 1} → statement M
 relay_fault_spec = tie.close (tie.spec returns returns-2 rows-split-requires returns-3 returns-4)

@@ -8,7 +8,7 @@ use Rattle.table.specs.Columns.{table_of, Holds}
 use Rattle.rules.specs.Relay.{Row, of_rows, split_rows}
 use Rattle.relay.specs.Splitting.{numbers_of}
 use Rattle.relay.proofs.Rows.{rows_none, rows_next}
-use Rattle.relay.proofs.Columns.{fits-row, room_for}
+use Rattle.relay.proofs.Columns.{fits_row, room_for}
 use Rattle.relay.proofs.split_at.Statement.{statement}
 use Rattle.relay.proofs.split_at.Tie as tie
 
@@ -50,7 +50,7 @@ with-parts-requires c κs =
     let t = table_of S.args.given in
     let row = numbers_of R.row_of-row.result in (
       room_for t S.args.relay L.loop-i.i row (omega arith) S.requires.2 c.goes-through.ensures L.loop-i.invariant.1,
-      fits-row t S.requires.0 {i = L.loop-i.i} (omega arith) R.row_of-row.ensures,
+      fits_row t S.requires.0 {i = L.loop-i.i} (omega arith) R.row_of-row.ensures,
       omega (arith, S.requires.0.elements_high, S.requires.1.high),
     )
 

@@ -8,8 +8,8 @@ use Rattle.rules.specs.Refusals.{one_ring_checks, given_checks, relay_checks}
 use Rattle.rules.proofs.Answers.{None}
 use Rattle.table.specs.Sound.{Sound}
 use Rattle.table.specs.Columns.{table_of}
-use Rattle.relay.proofs.Given.{given-zero, columns-sound, relay-zero, relay-element, few_rows, relay-held, none_held, split-held}
-use Rattle.relay.proofs.Given.{splits-given, splits-relay, splits-done}
+use Rattle.relay.proofs.Given.{given_zero, columns_sound, relay_zero, relay_element, few_rows, relay_held, none_held, split_held}
+use Rattle.relay.proofs.Given.{splits_given, splits_relay, splits_done}
 use Rattle.relay.proofs.split_file.Statement.{statement}
 use Rattle.relay.proofs.split_file.Tie as tie
 
@@ -23,19 +23,19 @@ abbrev relay : tie.Else-answer-ne-DONE → ℕ
 relay z = (taken z).before.before.args.relay
 
 none : (z : tie.Else-answer-ne-DONE) → None (one_ring_checks (bytes z) (given_checks (bytes z)))
-none z = given-zero (bytes z) (relay z) (taken z).given_one_ring-found.result.answer z.if-answer-ne-DONE.false (taken z).given_one_ring-found.ensures.answers
+none z = given_zero (bytes z) (relay z) (taken z).given_one_ring-found.result.answer z.if-answer-ne-DONE.false (taken z).given_one_ring-found.ensures.answers
 
 held : (z : tie.Else-answer-ne-DONE) → table_of (taken z).given_one_ring-found.result.columns ≡ file_table (bytes z)
 held z = ((taken z).given_one_ring-found.ensures.passed z.if-answer-ne-DONE.false).table
 
 sound : (z : tie.Else-answer-ne-DONE) → Sound (table_of (taken z).given_one_ring-found.result.columns)
-sound z = columns-sound (bytes z) (relay z) _ (none z) (held z)
+sound z = columns_sound (bytes z) (relay z) _ (none z) (held z)
 
 -- past 27 and 28
-none-relay : (z : tie.Else-number-ne-DONE)
+none_relay : (z : tie.Else-number-ne-DONE)
     → let e = z.before.before in
     None (relay_checks (table_of (taken e).given_one_ring-found.result.columns) (relay e))
-none-relay z = relay-zero _ _ _ z.if-number-ne-DONE.false z.before.relay_fault-number.ensures
+none_relay z = relay_zero _ _ _ z.if-number-ne-DONE.false z.before.relay_fault-number.ensures
 
 given-one-ring-requires : tie.Need-given_one_ring-found-requires
 given-one-ring-requires c κs = search rules
@@ -49,7 +49,7 @@ returns c =
     let a = g.before.before.args in
     let o = g.given-one-ring in
     rw c.refused.ensures
-    (splits-given a.file.now a.relay o.result.answer c.before.if-answer-ne-DONE.true o.ensures.answers)
+    (splits_given a.file.now a.relay o.result.answer c.before.if-answer-ne-DONE.true o.ensures.answers)
 
 relay-fault-requires : tie.Need-relay_fault-number-requires
 relay-fault-requires c κs = sound c
@@ -66,7 +66,7 @@ returns-2 c =
     let e = h.before in
     let r = relay e in
     rw c.refused-then-number-ne-DONE.ensures
-    (splits-relay (bytes e) r c.before.at.result (none e) (relay-held (bytes e) r _ (held e) _ h.relay_fault-number.ensures)
+    (splits_relay (bytes e) r c.before.at.result (none e) (relay_held (bytes e) r _ (held e) _ h.relay_fault-number.ensures)
     c.before.before.if-number-ne-DONE.true c.before.at.ensures)
 
 done-requires : tie.Need-done-requires
@@ -75,16 +75,16 @@ done-requires c κs = search rules
 split-at-requires : tie.Need-split_at-requires
 split-at-requires c κs =
     let z = c.before in
-    let n = none-relay z in
-    (sound z.before.before, relay-element _ _ n, few_rows _ _ n)
+    let n = none_relay z in
+    (sound z.before.before, relay_element _ _ n, few_rows _ _ n)
 
 returns-3 : tie.Need-returns
 returns-3 c =
     let z = c.before.before in
     let e = z.before.before in
     let r = relay e in
-    splits-done (bytes e) r c.before.done.result (none e) (none_held (bytes e) r _ (held e) (none-relay z)) c.before.done.ensures
-    (split-held (bytes e) r _ (held e) c.split_at.ensures)
+    splits_done (bytes e) r c.before.done.result (none e) (none_held (bytes e) r _ (held e) (none_relay z)) c.before.done.ensures
+    (split_held (bytes e) r _ (held e) c.split_at.ensures)
 
 pub split_file_spec : {M : Type 1} → statement M
 split_file_spec =

@@ -8,7 +8,7 @@ use Rattle.rules.proofs.Answers.{None}
 use Rattle.table.specs.Columns.{table_of}
 use Rattle.rules.specs.Relay.{split}
 use Rattle.rules.specs.Refusals.{split_checks}
-use Rattle.relayed.proofs.Checked.{relayed-stopped, split-zero, relayed-past, columns-sound}
+use Rattle.relayed.proofs.Checked.{relayed_stopped, split_zero, relayed_past, columns_sound}
 use Rattle.relayed.proofs.analyse.Statement.{statement}
 use Rattle.relayed.proofs.analyse.Tie as tie
 
@@ -22,7 +22,7 @@ abbrev relay : tie.Else-answer-ne-DONE → ℕ
 relay z = (taken z).before.before.args.relay
 
 none : (z : tie.Else-answer-ne-DONE) → None (split_checks (bytes z) (relay z))
-none z = split-zero (bytes z) (relay z) (taken z).split_file-found.result.answer z.if-answer-ne-DONE.false (taken z).split_file-found.ensures.answers
+none z = split_zero (bytes z) (relay z) (taken z).split_file-found.result.answer z.if-answer-ne-DONE.false (taken z).split_file-found.ensures.answers
 
 held : (z : tie.Else-answer-ne-DONE) → table_of (taken z).split_file-found.result.columns ≡ split (file_table (bytes z)) (relay z)
 held z = ((taken z).split_file-found.ensures.passed z.if-answer-ne-DONE.false).table
@@ -38,17 +38,17 @@ returns c =
     let s = c.before.before.before.before in
     let a = s.before.before.args in
     rw c.refused.ensures
-    (relayed-stopped a.file.now a.relay s.split_file-found.result.answer c.before.if-answer-ne-DONE.true s.split_file-found.ensures.answers)
+    (relayed_stopped a.file.now a.relay s.split_file-found.result.answer c.before.if-answer-ne-DONE.true s.split_file-found.ensures.answers)
 
 analysis-of-requires : tie.Need-analysis_of-requires
 analysis-of-requires c κs =
     let z = c.before.before.before.before.before.before in
-    columns-sound (bytes z) (relay z) (none z) _ (held z)
+    columns_sound (bytes z) (relay z) (none z) _ (held z)
 
 returns-2 : tie.Need-returns
 returns-2 c =
     let z = c.before.before.before.before.before.before.before in
-    relayed-past (bytes z) (relay z) (none z) _ (held z) c.analysis_of.ensures
+    relayed_past (bytes z) (relay z) (none z) _ (held z) c.analysis_of.ensures
 
 pub analyse_spec : {M : Type 1} → statement M
 analyse_spec = tie.close (tie.spec split-file-requires refused-requires returns analysis-of-requires returns-2)

@@ -3,7 +3,7 @@ use borrow.Author.Rules.{rules}
 use Rattle.rules.specs.TableFile.{file_table}
 use Rattle.rules.specs.Relay.{split}
 use Rattle.verdict.proofs.Judging.{judged_on}
-use Rattle.relayed.proofs.Checked.{relayed-numbered}
+use Rattle.relayed.proofs.Checked.{relayed_numbered}
 use Rattle.relayed.proofs.judge.Statement.{statement}
 use Rattle.relayed.proofs.judge.Tie as tie
 
@@ -18,7 +18,7 @@ verdict-of-requires c κs z =
 returns : tie.Need-returns
 returns c =
     let a = c.before.before.before.args in
-    judged_on (relayed-numbered a.file.now a.relay) c.before.analyse.ensures c.verdict_of.ensures
+    judged_on (relayed_numbered a.file.now a.relay) c.before.analyse.ensures c.verdict_of.ensures
 
 pub judge_spec : {M : Type 1} → statement M
 judge_spec = tie.close (tie.spec analyse-requires verdict-of-requires returns)

@@ -10,7 +10,7 @@ use Rattle.table.specs.Sound.{Sound}
 use Rattle.table.specs.Columns.{table_of}
 use Rattle.rules.specs.Relay.{split}
 use Rattle.rules.specs.Refusals.{split_checks}
-use Rattle.relayed.proofs.Checked.{line-stopped, split-zero, line-past, columns-sound}
+use Rattle.relayed.proofs.Checked.{line_stopped, split_zero, line_past, columns_sound}
 use Rattle.relayed.proofs.outline_file.Statement.{statement}
 use Rattle.relayed.proofs.outline_file.Tie as tie
 
@@ -24,13 +24,13 @@ abbrev relay : tie.Else-answer-ne-DONE → ℕ
 relay z = (taken z).before.before.args.relay
 
 none : (z : tie.Else-answer-ne-DONE) → None (split_checks (bytes z) (relay z))
-none z = split-zero (bytes z) (relay z) (taken z).split_file-found.result.answer z.if-answer-ne-DONE.false (taken z).split_file-found.ensures.answers
+none z = split_zero (bytes z) (relay z) (taken z).split_file-found.result.answer z.if-answer-ne-DONE.false (taken z).split_file-found.ensures.answers
 
 held : (z : tie.Else-answer-ne-DONE) → table_of (taken z).split_file-found.result.columns ≡ split (file_table (bytes z)) (relay z)
 held z = ((taken z).split_file-found.ensures.passed z.if-answer-ne-DONE.false).table
 
 sound : (z : tie.Else-answer-ne-DONE) → Sound (table_of (taken z).split_file-found.result.columns)
-sound z = columns-sound (bytes z) (relay z) (none z) _ (held z)
+sound z = columns_sound (bytes z) (relay z) (none z) _ (held z)
 
 split-file-requires : tie.Need-split_file-found-requires
 split-file-requires c κs = search rules
@@ -43,7 +43,7 @@ returns c =
     let s = c.before.before.before.before in
     let a = s.before.before.args in
     rw c.refused.ensures
-    (line-stopped a.file.now a.relay s.split_file-found.result.answer c.before.if-answer-ne-DONE.true s.split_file-found.ensures.answers)
+    (line_stopped a.file.now a.relay s.split_file-found.result.answer c.before.if-answer-ne-DONE.true s.split_file-found.ensures.answers)
 
 outline-of-requires : tie.Need-outline_of-requires
 outline-of-requires c κs =
@@ -53,7 +53,7 @@ outline-of-requires c κs =
 returns-2 : tie.Need-returns
 returns-2 c =
     let z = c.before.before.before.before.before.before in
-    line-past (bytes z) (relay z) (none z) _ (held z) (c.outline_of.ensures (at (taken z).split_file-found.result.columns.cost) (sound z))
+    line_past (bytes z) (relay z) (none z) _ (held z) (c.outline_of.ensures (at (taken z).split_file-found.result.columns.cost) (sound z))
 
 pub outline_file_spec : {M : Type 1} → statement M
 outline_file_spec = tie.close (tie.spec split-file-requires refused-requires returns outline-of-requires returns-2)

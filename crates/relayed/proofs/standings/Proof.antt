@@ -1,8 +1,8 @@
 -- `relayed::standings` meets its contract: the analysis answers the file's checks with a relay.
 use borrow.Author.Rules.{rules}
 use Rattle.rules.specs.Calls.{relayed_ask}
-use Rattle.planner.proofs.Asks.{usable, standings-asked}
-use Rattle.relayed.proofs.Checked.{relayed-numbered}
+use Rattle.planner.proofs.Asks.{usable, standings_asked}
+use Rattle.relayed.proofs.Checked.{relayed_numbered}
 use Rattle.relayed.proofs.standings.Statement.{statement}
 use Rattle.relayed.proofs.standings.Tie as tie
 
@@ -16,7 +16,7 @@ returns : tie.Need-returns
 returns c =
     let A = c.before.analyse in
     let a = c.before.before.before.args in
-    standings-asked (relayed_ask a.file.now a.relay) (relayed-numbered a.file.now a.relay) A.ensures a.p
+    standings_asked (relayed_ask a.file.now a.relay) (relayed_numbered a.file.now a.relay) A.ensures a.p
     c.standings_on.result c.standings_on.ensures
 
 pub standings_spec : {M : Type 1} → statement M

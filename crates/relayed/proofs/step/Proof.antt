@@ -4,8 +4,8 @@ use borrow.Author.Rules.{rules}
 use lib.ListN.{length}
 use Rattle.rules.specs.Bounds.{max_rows}
 use Rattle.rules.specs.Calls.{relayed_ask}
-use Rattle.planner.proofs.Asks.{usable, step-asked}
-use Rattle.relayed.proofs.Checked.{relayed-numbered}
+use Rattle.planner.proofs.Asks.{usable, step_asked}
+use Rattle.relayed.proofs.Checked.{relayed_numbered}
 use Rattle.relayed.proofs.step.Statement.{statement}
 use Rattle.relayed.proofs.step.Tie as tie
 
@@ -28,7 +28,7 @@ returns c =
     let S = A.before.before.before in
     let f = S.args.file.now in
     let r = S.args.relay in
-    step-asked (relayed_ask f r) (relayed-numbered f r) A.analyse.ensures S.args.p O.step_on.result
+    step_asked (relayed_ask f r) (relayed_numbered f r) A.analyse.ensures S.args.p O.step_on.result
     S.args.out-1.now _ (size S) O.step_on.ensures
 
 pub step_spec : {M : Type 1} → statement M

@@ -1,8 +1,8 @@
 -- `relayed::whole_plan` meets its contract: the analysis answers the file's checks with a relay.
 use borrow.Author.Rules.{rules}
 use Rattle.rules.specs.Calls.{relayed_ask}
-use Rattle.planner.proofs.Asks.{usable, plan-asked}
-use Rattle.relayed.proofs.Checked.{relayed-numbered}
+use Rattle.planner.proofs.Asks.{usable, plan_asked}
+use Rattle.relayed.proofs.Checked.{relayed_numbered}
 use Rattle.relayed.proofs.whole_plan.Statement.{statement}
 use Rattle.relayed.proofs.whole_plan.Tie as tie
 
@@ -22,7 +22,7 @@ returns c =
     let a = A.before.before.before.args in
     let f = a.file.now in
     let r = a.relay in
-    plan-asked (relayed_ask f r) (relayed-numbered f r) A.analyse.ensures O.plan_on.result a.plan-1.now _
+    plan_asked (relayed_ask f r) (relayed_numbered f r) A.analyse.ensures O.plan_on.result a.plan-1.now _
     O.plan_on.ensures
 
 pub whole_plan_spec : {M : Type 1} → statement M

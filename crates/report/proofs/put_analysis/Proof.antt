@@ -3,7 +3,7 @@ use borrow.Author.Rules.{rules}
 use native.Mathlib.Omega.{arith}
 use mathlib.Core.Path.{◌≡◌}
 use Rattle.planner.specs.Analysed.{Usable}
-use Rattle.report.proofs.Printed.{is-admitted, on-refused, on-admitted}
+use Rattle.report.proofs.Printed.{is_admitted, on_refused, on_admitted}
 use Rattle.report.proofs.put_analysis.Statement.{statement}
 use Rattle.report.proofs.put_analysis.Tie as tie
 
@@ -21,7 +21,7 @@ abbrev judged : tie.After-put_verdict-first → tie.After-verdict_of-answer
 judged v = v.before.before.before.before
 
 admitted : (d : tie.In-Admitted-2) → (entry (judged (written d))).args.table.outline.answer-1.number ≡ 0
-admitted d = let z = judged (written d) in is-admitted (usable z) z.verdict_of-answer.ensures _ _ _ _ _ _ d.answer-1.given.1
+admitted d = let z = judged (written d) in is_admitted (usable z) z.verdict_of-answer.ensures _ _ _ _ _ _ d.answer-1.given.1
 
 verdict-of-requires : tie.Need-verdict_of-answer-requires
 verdict-of-requires c κs = c.before.requires
@@ -50,7 +50,7 @@ returns c =
     let p = v.before.before in
     let n = p.before in
     let z = n.before in
-    on-refused (usable z) z.verdict_of-answer.ensures n.number.result p.place.result n.number.ensures p.place.ensures
+    on_refused (usable z) z.verdict_of-answer.ensures n.number.result p.place.result n.number.ensures p.place.ensures
     v.put_verdict-first.ensures _ c.enum_told-1.given.1
 
 put-cuts-requires : tie.Need-put_cuts-parted-requires
@@ -108,7 +108,7 @@ returns-2 c =
     let p = v.before.before in
     let n = p.before in
     let z = n.before in
-    on-admitted (usable z) z.verdict_of-answer.ensures n.number.result p.place.result n.number.ensures p.place.ensures
+    on_admitted (usable z) z.verdict_of-answer.ensures n.number.result p.place.result n.number.ensures p.place.ensures
     v.put_verdict-first.ensures _ _ _ _ _ _ d.answer-1.given.1 q.put_cuts-parted.ensures w.put_values-valued.ensures l.put_list-listed.ensures
     c.before.before.put_plan.ensures
 

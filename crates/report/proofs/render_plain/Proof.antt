@@ -12,8 +12,8 @@ use Rattle.verdict.proofs.Bound.{verdict_numbered}
 use Rattle.verdict.proofs.Judging.{judged_on}
 use Rattle.planner.specs.Analysed.{Usable}
 use Rattle.planner.proofs.Asks as asks
-use Rattle.report.proofs.Printed.{is-admitted}
-use Rattle.report.proofs.Plain.{rendered-refused, rendered-admitted}
+use Rattle.report.proofs.Printed.{is_admitted}
+use Rattle.report.proofs.Plain.{rendered_refused, rendered_admitted}
 use Rattle.report.proofs.render_plain.Statement.{statement}
 use Rattle.report.proofs.render_plain.Tie as tie
 
@@ -33,7 +33,7 @@ opened d = d.before.before
 zero_is : (d : tie.In-Admitted) → (opened d).before.analyse-table.result.outline.answer.number ≡ 0
 zero_is d =
     let z = opened d in
-    is-admitted (usable z.before) z.verdict_of-answer.ensures _ _ _ _ _ _ d.enum_told-1.given.1
+    is_admitted (usable z.before) z.verdict_of-answer.ensures _ _ _ _ _ _ d.enum_told-1.given.1
 
 accepted : (d : tie.In-Admitted) → Accepted (file_table (file (opened d).before)) (opened d).before.analyse-table.result
 accepted d = (opened d).before.analyse-table.ensures.found (zero_is d)
@@ -72,7 +72,7 @@ returns c =
     let p = v.before.before in
     let n = p.before in
     let z = n.before.before.before in
-    rendered-refused (file z.before) z.verdict_of-answer.result (judged z) n.number.result p.place.result
+    rendered_refused (file z.before) z.verdict_of-answer.result (judged z) n.number.result p.place.result
     n.number.ensures p.place.ensures _ n.before.enum_told-in_default-1.given.1 v.put_verdict.ensures
 
 put-plan-requires : tie.Need-put_plan-next-requires
@@ -93,7 +93,7 @@ returns-2 c =
     let l = m.before.before.before.before in
     let d = told l in
     let z = opened d in
-    rendered-admitted (file z.before) z.verdict_of-answer.result (judged z) _ _ _ _ _ _ d.enum_told-1.given.1
+    rendered_admitted (file z.before) z.verdict_of-answer.result (judged z) _ _ _ _ _ _ d.enum_told-1.given.1
     (l.put_plan-next.ensures _ (accepted d)) (m.put_plan.ensures _ (accepted d))
 
 pub render_plain_spec : {M : Type 1} → statement M

@@ -7,7 +7,7 @@ use Prim.Native.Nat.{ℕ}
 use lib.ListN.{take}
 use lib.Seq.{length-take-le}
 use Rattle.rules.specs.Calls.{relayed_ask}
-use Rattle.relayed.proofs.Checked.{relayed-numbered}
+use Rattle.relayed.proofs.Checked.{relayed_numbered}
 use Rattle.planner.proofs.Asks.{usable}
 use Rattle.report.specs.Rendered.{RenderedFor}
 use Rattle.report.proofs.Printed.{read_input, rendered_asked}
@@ -44,7 +44,7 @@ returns c =
     let w = P.put-analysis in
     subst (λ (f : List ℕ). RenderedFor (relayed_ask f a.relay) a.out-1.now w.new.1.0 w.result)
     (read_input a.input.now _ z.least-read.ensures)
-    (rendered_asked (relayed_ask (file z) a.relay) (relayed-numbered (file z) a.relay) A.analyse.ensures a.out-1.now _ _
+    (rendered_asked (relayed_ask (file z) a.relay) (relayed_numbered (file z) a.relay) A.analyse.ensures a.out-1.now _ _
     w.ensures)
 
 pub render_relayed_spec : {M : Type 1} → statement M

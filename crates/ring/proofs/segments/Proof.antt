@@ -4,7 +4,7 @@ use Prim.Native.Nat.{ℕ, ◌+◌, ◌/◌, ◌^◌}
 use native.Mathlib.Omega.{arith}
 use borrow.Author.Rules.{rules}
 use lib.Pow.{pow_mono}
-use Rattle.ring.proofs.Words.{segments-word, segments_fit}
+use Rattle.ring.proofs.Words.{segments_word, segments_fit}
 use Rattle.ring.proofs.segments.Statement.{statement}
 use Rattle.ring.proofs.segments.Tie as tie
 
@@ -25,13 +25,13 @@ cast-result c =
     let z = c.before.before.args in
     omega (
       arith,
-      segments-word z.m z.from z.to c.before.uses-word.ensures c.stretch.ensures,
+      segments_word z.m z.from z.to c.before.uses-word.ensures c.stretch.ensures,
       segments_fit z.m z.from z.to,
       pow_mono c.before.before.requires.0,
     )
 
 returns : tie.Need-returns
-returns c = segments-word _ _ _ c.before.uses-word.ensures c.stretch.ensures
+returns c = segments_word _ _ _ c.before.uses-word.ensures c.stretch.ensures
 
 pub segments_spec : {M : Type 1} → statement M
 segments_spec =

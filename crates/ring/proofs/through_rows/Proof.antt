@@ -6,13 +6,13 @@ use Rattle.numbers.specs.Finite.{any}
 use Rattle.numbers.specs.Lists.{at}
 use Rattle.ring.specs.Route.{Shows}
 use Rattle.ring.specs.Rows.{on_ring}
-use Rattle.ring.proofs.Cut.{ringThrough, shows_none, shows_next, shows_clear}
+use Rattle.ring.proofs.Cut.{ring_through, shows_none, shows_next, shows_clear}
 use Rattle.ring.proofs.through_rows.Statement.{statement}
 use Rattle.ring.proofs.through_rows.Tie as tie
 
 abbrev invariant-loop : tie.invariant-loop-i
 invariant-loop elements rows rings first second way d word₀ i₀ word i =
-    (i ≤ rows) × Shows elements word (λ e. any i (λ k. ringThrough (on_ring elements rows (at first) (at second) (at way)) d k e))
+    (i ≤ rows) × Shows elements word (λ e. any i (λ k. ring_through (on_ring elements rows (at first) (at second) (at way)) d k e))
 
 abbrev decreases-loop : tie.decreases-loop-i
 decreases-loop elements rows rings first second way d word₀ i₀ word i = rows - i
@@ -49,7 +49,7 @@ loop-again c =
     let loop = c.before.before.before.before.before.loop-i in
     let t = on_ring z.elements z.rows (at z.first.now) (at z.second.now) (at z.way.now) in (
       omega arith,
-      shows_next loop.i (ringThrough t z.d) loop.invariant.1
+      shows_next loop.i (ring_through t z.d) loop.invariant.1
           (rw (c.before.before.before.way_at.ensures, c.before.before.end_at.ensures, c.before.end_at-in-loop-i.ensures)
           at c.through_row-word.ensures),
     )

@@ -13,21 +13,21 @@ use Rattle.sets.proofs.Loops.{
   filling_start,
   filling_next,
   filling_end,
-  none-there,
-  some-there,
+  none_there,
+  some_there,
   across_start,
-  across-next,
+  across_next,
   Here,
   here,
   Walked,
   Ended,
   walked_start,
-  walked-room,
-  ended-put,
-  ended-none,
-  ended-still,
+  walked_room,
+  ended_put,
+  ended_none,
+  ended_still,
   ended_as,
-  walked-starts,
+  walked_starts,
   walked_on,
   walked_end,
 }
@@ -120,12 +120,12 @@ loop-again c =
 -- ---- the walk
 
 -- what stands at e, and the walk so far
-at-e : (c : tie.In-loop-e invariant-loop decreases-loop invariant-loop2 decreases-loop2)
+at_e : (c : tie.In-loop-e invariant-loop decreases-loop invariant-loop2 decreases-loop2)
     → let a = c.before.before.before.before.args in
     let l = c.before.loop-e in
     let f = at a.first.now in
     let s = at a.second.now in Here a.rows f s l.e (ends_at a.rows f l.e) (ends_at a.rows s l.e) l.across
-at-e c = here _ _ _ _ _ c.before.loop-e.invariant.2
+at_e c = here _ _ _ _ _ c.before.loop-e.invariant.2
 
 on_line : (c : tie.In-loop-e invariant-loop decreases-loop invariant-loop2 decreases-loop2) → c.before.loop-e.e < line_size
 on_line c = omega (arith, c.before.before.before.before.requires.short)
@@ -160,7 +160,7 @@ has_room : (c : tie.Then-started invariant-loop decreases-loop invariant-loop2 d
     → c.before.before.before.loop-e.count < c.before.before.before.before.before.before.args.rows
 has_room c =
     let d = c.before.before in
-    walked-room d.before.loop-e.invariant.1 (at-e d) (some-there (ends d) _ (on_line d) c.before.if-ending-ne0.true) c.if-started.true
+    walked_room d.before.loop-e.invariant.1 (at_e d) (some_there (ends d) _ (on_line d) c.before.if-ending-ne0.true) c.if-started.true
 
 mul_words : tie.Need-offset_bounds-words-count invariant-loop decreases-loop invariant-loop2 decreases-loop2
 mul_words c = omega (arith, has_room c)
@@ -182,22 +182,22 @@ loop2-again c =
     let d = c.before.before in
     let z = d.before.before.before.before in
     let W = d.before.loop-e.invariant.1 in
-    let H = at-e d in
+    let H = at_e d in
     let S = starts d in
-    let some = some-there (ends d) _ (on_line d) in
+    let some = some_there (ends d) _ (on_line d) in
     let ended : Ended _ _ _ _ _ _ _ _ =
     ⊎_elim
-    (λ w. ended_as w.2 w.3 w.4 (ended-put W H (some w.0.true) w.1.true z.requires.few))
+    (λ w. ended_as w.2 w.3 w.4 (ended_put W H (some w.0.true) w.1.true z.requires.few))
     (λ v. ⊎_elim
-    (λ w. ended_as w.2 w.3 w.4 (ended-none W H (some w.0.true) w.1.left))
-    (λ w. ended_as w.1 w.2 w.3 (ended-still W H (none-there (ends d) _ (on_line d) w.0.left)))
+    (λ w. ended_as w.2 w.3 w.4 (ended_none W H (some w.0.true) w.1.left))
+    (λ w. ended_as w.1 w.2 w.3 (ended_still W H (none_there (ends d) _ (on_line d) w.0.left)))
     v)
     c.before.if-ending-ne0.branch in (
       omega arith,
-      ⊎_elim (λ w. walked-starts ended H (some-there S _ (on_line d) w.0.true) w.1)
-          (λ w. walked_on ended H (none-there S _ (on_line d) w.0.left) w.1)
+      ⊎_elim (λ w. walked_starts ended H (some_there S _ (on_line d) w.0.true) w.1)
+          (λ w. walked_on ended H (none_there S _ (on_line d) w.0.left) w.1)
           c.if-starting-ne0.branch,
-      across-next z.requires.line S (ends d) _ _ (on_line d) d.before.loop-e.invariant.2,
+      across_next z.requires.line S (ends d) _ _ (on_line d) d.before.loop-e.invariant.2,
     )
 
 returns : tie.Need-returns invariant-loop decreases-loop invariant-loop2 decreases-loop2

@@ -16,10 +16,10 @@ use Rattle.placing.specs.Filled.{Kept, FilledSlots}
 use Rattle.stretches.specs.Stretches.{most_stretches}
 use Rattle.sets.proofs.Chained.{link_row, rest, rest_less}
 use Rattle.placing.proofs.Kept.{kept_none, kept_trans, kept_set, kept_cleared}
-use Rattle.stretches.proofs.Stretches.{Fitted, fitted_whole, fitted_parted, fitted-end}
-use Rattle.stretches.proofs.Stretched.{stretched-low, stretched-end}
-use Rattle.stretches.proofs.Course.{Coming, coming_start, coming-end, Along, along-start, along-end}
-use Rattle.stretches.proofs.Course.{Turning, turning-start, turning-skip, turning-take, turning-end}
+use Rattle.stretches.proofs.Stretches.{Fitted, fitted_whole, fitted_parted, fitted_end}
+use Rattle.stretches.proofs.Stretched.{stretched_low, stretched_end}
+use Rattle.stretches.proofs.Course.{Coming, coming_start, coming_end, Along, along_start, along_end}
+use Rattle.stretches.proofs.Course.{Turning, turning_start, turning_skip, turning_take, turning_end}
 use Rattle.slots.proofs.fill.Statement.{statement}
 use Rattle.slots.proofs.fill.Tie as tie
 
@@ -157,7 +157,7 @@ loop2-holds c =
     let l = c.before.before.loop-element in (
       kept_none _ _,
       λ n f O.
-          along-start (l.invariant.3 n f O) l.invariant.0 l.invariant.1
+          along_start (l.invariant.3 n f O) l.invariant.0 l.invariant.1
           (O.chained.heads l.element (omega (arith, O.low, c.before.loop-element-test.true))),
     )
 
@@ -188,7 +188,7 @@ slots-holds c =
       kept_none _ _,
       λ n f O.
           let A = l.invariant.1 n f O in
-          rw c.slots_at-left.ensures (turning-start A r.0 refl (O.line (l.r - 1) (omega (arith, link_row A.link))).1),
+          rw c.slots_at-left.ensures (turning_start A r.0 refl (O.line (l.r - 1) (omega (arith, link_row A.link))).1),
     )
 
 -- ---- a stretch
@@ -201,7 +201,7 @@ some c = omega (arith, c.if-left-eq0.false)
 
 -- it is one of those there can be
 low : (c : Loaded) → (slots_of c).slots.k < most_stretches
-low c = stretched-low ((slots_of c).slots.invariant.1 _ _ (start_slots (slots_of c)).requires.0.2).stretched (here c)
+low c = stretched_low ((slots_of c).slots.invariant.1 _ _ (start_slots (slots_of c)).requires.0.2).stretched (here c)
 
 sized : (c : Loaded) → (length (slots_of c).slots.end ≡ most_stretches) × (length (slots_of c).slots.after ≡ most_stretches)
 sized c = let S = ((slots_of c).slots.invariant.1 _ _ (start_slots (slots_of c)).requires.0.2).stretched in (S.end_size, S.after_size)
@@ -214,7 +214,7 @@ ends : (c : Loaded)
 ends c =
     let S = start_slots (slots_of c) in
     let T = ((slots_of c).slots.invariant.1 _ _ S.requires.0.2).stretched in
-    let e = stretched-end T (here c) in
+    let e = stretched_end T (here c) in
     (e.0, e.1, S.requires.1, T.room)
 
 mul-slot : tie.Need-offset_bounds-end-k invariant-slots decreases-slots invariant-loop2 decreases-loop2 invariant-loop decreases-loop
@@ -253,7 +253,7 @@ slots-again c =
       I.0,
       λ n f O.
           let T = I.1 n f O in
-          (turning-skip T (here L) (some L) (omega (arith, c.before.if-element-wide.true, W.wide.ensures, T.start)) W.before.slot-to.ensures
+          (turning_skip T (here L) (some L) (omega (arith, c.before.if-element-wide.true, W.wide.ensures, T.start)) W.before.slot-to.ensures
           c.wide-k.ensures).0,
     )
 
@@ -344,12 +344,12 @@ slots-again-2 c =
     fitted_parted (longer M) P refl in
     let away : at ws l.s ≡ at l.words l.s =
     get_or-set_other l.words (l.s + l.left) l.s (at l.words l.s) 0 (λ q. omega (arith, some L)) in
-    let fits = fitted-end F (ends L).0 (some L) (omega (arith, low L, sized L)) in
+    let fits = fitted_end F (ends L).0 (some L) (omega (arith, low L, sized L)) in
     let used : 0 ≡ l.left - l.left = omega arith in (
       kept_set l.s _ (kept_set (l.s + l.left) _ l.invariant.0 (middle M).0) (here L),
       λ n f O.
           let T = l.invariant.1 n f O in
-          (turning-take T (here L) (some L) F O.few
+          (turning_take T (here L) (some L) F O.few
           (omega (arith, M.before.before.if-element-wide.false, M.before.before.before.wide.ensures, T.start))
           (ap (bit_or (at l.words l.s)) (one_shl i (omega (arith, row_is (row_of L)))) ∙ ap (λ (v : ℕ). bit_or v (2 ^ i)) (sym away))
           (sym fits.2)
@@ -408,7 +408,7 @@ slots-again-3 c =
       kept_set l.s _ l.invariant.0 (here L),
       λ n f O.
           let T = l.invariant.1 n f O in
-          (turning-take T (here L) (some L) (fitted_whole (i + 1) (fitting S) (ap (λ (e : ℕ). e - l.s) to)) O.few
+          (turning_take T (here L) (some L) (fitted_whole (i + 1) (fitting S) (ap (λ (e : ℕ). e - l.s) to)) O.few
           (omega (arith, S.before.before.if-element-wide.false, S.before.before.before.wide.ensures, T.start))
           (ap (bit_or (at l.words l.s)) (one_shl i (omega (arith, row_is (row_of L)))))
           to c.wide-k-else-left-to.ensures refl).0,
@@ -434,7 +434,7 @@ loop2-again c =
       kept_trans I.before.loop-r.invariant.0 l.invariant.0,
       λ n f O.
           let T = l.invariant.1 n f O in
-          turning-end T (⊎_elim (λ z. inl z.left) (λ z. inr (omega (arith, z.1.true))) c.before.slots-test.branch)
+          turning_end T (⊎_elim (λ z. inl z.left) (λ z. inr (omega (arith, z.1.true))) c.before.slots-test.branch)
           (O.chained.nexts (I.before.loop-r.r - 1) (omega arith) T.row),
     )
 
@@ -452,7 +452,7 @@ loop-again c =
       refl,
       refl,
       kept_trans c.before.before.before.before.loop-element.invariant.2 l.invariant.0,
-      λ n f O. along-end (l.invariant.1 n f O) c.loop-r-test.false,
+      λ n f O. along_end (l.invariant.1 n f O) c.loop-r-test.false,
     )
 
 -- ---- the end
@@ -470,7 +470,7 @@ filled : (c : Done) → (n : ℕ) (f : ℕ → ℕ)
     (start (end_of c)).args.words-1.now c.before.before.spread.new.1.1.1.0
 filled c n f O =
     let L = end_of c in
-    coming-end (L.loop-element.invariant.3 n f O)
+    coming_end (L.loop-element.invariant.3 n f O)
     (λ j h. omega (arith, O.line j h, c.before.before.before.before.before.before.loop-element-test.false))
     (kept_trans (cleared L.before.before.before) L.loop-element.invariant.2)
     c.before.before.spread.ensures

@@ -1,7 +1,7 @@
 -- `supervisor::ring_plan_relayed` meets its contract: number and place are those of the whole plan with a relay, and so small that they fit
 -- one number.
 use borrow.Author.Rules.{rules}
-use Rattle.rules.proofs.Small.{relayed-small, plan_small}
+use Rattle.rules.proofs.Small.{relayed_small, plan_small}
 use Rattle.supervisor.proofs.ring_plan_relayed.Statement.{statement}
 use Rattle.supervisor.proofs.ring_plan_relayed.Tie as tie
 
@@ -9,7 +9,7 @@ whole-plan-requires : tie.Need-whole_plan-relays-requires
 whole-plan-requires c κs = search rules
 
 joined-requires : tie.Need-joined-requires
-joined-requires c κs = plan_small _ _ _ _ _ (relayed-small _ _ _ _) c.before.before.whole_plan-relays.ensures.planned.answers
+joined-requires c κs = plan_small _ _ _ _ _ (relayed_small _ _ _ _) c.before.before.whole_plan-relays.ensures.planned.answers
 
 same_length : tie.Need-shape_of-plan
 same_length c = search rules

@@ -1,6 +1,6 @@
 -- `supervisor::ring_raise` meets its contract: number and place are those of raising, and so small that they fit one number.
 use borrow.Author.Rules.{rules}
-use Rattle.supervisor.proofs.Small.{raise-small}
+use Rattle.supervisor.proofs.Small.{raise_small}
 use Rattle.supervisor.proofs.ring_raise.Statement.{statement}
 use Rattle.supervisor.proofs.ring_raise.Tie as tie
 
@@ -8,7 +8,7 @@ raise-requires : tie.Need-raise-raised-requires
 raise-requires c κs = search rules
 
 joined-requires : tie.Need-joined-requires
-joined-requires c κs = raise-small _ _ _ _ c.before.before.raise-raised.ensures.answers
+joined-requires c κs = raise_small _ _ _ _ c.before.before.raise-raised.ensures.answers
 
 same_length : tie.Need-shape_of-out
 same_length c = search rules

@@ -4,7 +4,7 @@ use native.Mathlib.Omega.{arith}
 use mathlib.Core.Path.{ap₂, ◌∙◌}
 use Rattle.rules.specs.Calls.{c_answer}
 use Rattle.rules.proofs.Small.{verdict_small}
-use Rattle.supervisor.proofs.Values.{values-refused, values-short, values-done}
+use Rattle.supervisor.proofs.Values.{values_refused, values_short, values_done}
 use Rattle.supervisor.proofs.ring_values.Statement.{statement}
 use Rattle.supervisor.proofs.ring_values.Tie as tie
 
@@ -35,7 +35,7 @@ returns c =
     record {
       number = _;
       place = _;
-      called = values-refused z.file.now z.out-1.now j.result _ j.ensures c.before.before.before.enum_told-1.given.1;
+      called = values_refused z.file.now z.out-1.now j.result _ j.ensures c.before.before.before.enum_told-1.given.1;
       as_one = c.joined.ensures ∙ ap₂ c_answer c.before.before.number.ensures c.before.place.ensures;
     }
 
@@ -50,7 +50,7 @@ returns-2 c =
       number = 17;
       place = 0;
       called =
-          values-short z.file.now z.out-1.now j.result _ _ _ _ _ _ j.ensures c.before.before.before.answer-1.given.1
+          values_short z.file.now z.out-1.now j.result _ _ _ _ _ _ j.ensures c.before.before.before.answer-1.given.1
           c.before.if-out-lt-VALUES.true;
       as_one = c.joined-then-out-lt-VALUES.ensures;
     }
@@ -74,7 +74,7 @@ returns-3 c =
       number = 0;
       place = 0;
       called =
-          values-done z.file.now z.out-1.now j.result _ _ _ _ _ _ j.ensures
+          values_done z.file.now z.out-1.now j.result _ _ _ _ _ _ j.ensures
           e.before.before.answer-1.given.1 _ e.if-out-lt-VALUES.false
           w.ensures;
       as_one = c.joined-2.ensures;

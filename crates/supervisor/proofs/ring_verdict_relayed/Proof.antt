@@ -4,7 +4,7 @@ use borrow.Author.Rules.{rules}
 use native.Mathlib.Omega.{arith}
 use mathlib.Core.Path.{ap₂, ◌∙◌}
 use Rattle.rules.specs.Calls.{c_answer}
-use Rattle.rules.proofs.Small.{relayed-small}
+use Rattle.rules.proofs.Small.{relayed_small}
 use Rattle.supervisor.proofs.ring_verdict_relayed.Statement.{statement}
 use Rattle.supervisor.proofs.ring_verdict_relayed.Tie as tie
 
@@ -19,7 +19,7 @@ place-requires c κs = search rules
 
 joined-requires : tie.Need-joined-requires
 joined-requires c κs =
-    let s = relayed-small _ _ _ _ c.before.before.judge-split.ensures.answers in
+    let s = relayed_small _ _ _ _ c.before.before.judge-split.ensures.answers in
     (omega (arith, s.0, c.before.number.ensures), omega (arith, s.1, c.place.ensures))
 
 returns : tie.Need-returns

@@ -4,7 +4,7 @@ use Prim.Native.Nat.{◌-◌}
 use native.Mathlib.Omega.{arith}
 use Rattle.rules.proofs.Answers.{answered}
 use Rattle.grammar.specs.TableText.{part}
-use Rattle.text_reader.proofs.Lines.{Celled, celled_start, celled-next, celled-stop, celled_all}
+use Rattle.text_reader.proofs.Lines.{Celled, celled_start, celled_next, celled_stop, celled_all}
 use Rattle.text_reader.proofs.first_cells.Statement.{statement}
 use Rattle.text_reader.proofs.first_cells.Tie as tie
 
@@ -25,7 +25,7 @@ returns c =
     let l = c.before.before in
     let u = l.before.before in
     record {
-      answers = celled-stop u.loop-k.invariant (omega arith) l.Cell-at.ensures c.if-cell-ne0.true;
+      answers = celled_stop u.loop-k.invariant (omega arith) l.Cell-at.ensures c.if-cell-ne0.true;
       value = λ z. absurd (c.if-cell-ne0.true z);
       size = u.loop-k.invariant.size;
     }
@@ -45,7 +45,7 @@ loop-less c = omega arith
 loop-again : tie.Need-loop-k-preserved invariant-loop decreases-loop
 loop-again c =
     let l = c.before.before in
-    celled-next l.before.before.loop-k.invariant (omega arith) l.Cell-at.ensures c.if-cell-ne0.false
+    celled_next l.before.before.loop-k.invariant (omega arith) l.Cell-at.ensures c.if-cell-ne0.false
 
 returns-2 : tie.Need-returns invariant-loop decreases-loop
 returns-2 c =

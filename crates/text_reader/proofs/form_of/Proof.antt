@@ -6,7 +6,7 @@ use borrow.Author.Rules.{rules}
 use Rattle.numbers.specs.Lists.{each}
 use Rattle.rules.proofs.Answers.{None, none_of, answered}
 use Rattle.grammar.specs.TableText.{part, field, last, number_checks}
-use Rattle.text_reader.proofs.Lines.{numbers_numbered, shape_numbered, cells_numbered, form-cells, form-last, form-ends}
+use Rattle.text_reader.proofs.Lines.{numbers_numbered, shape_numbered, cells_numbered, form_cells, form_last, form_ends}
 use Rattle.text_reader.proofs.form_of.Statement.{statement}
 use Rattle.text_reader.proofs.form_of.Tie as tie
 
@@ -33,7 +33,7 @@ returns c =
     let e = c.refuse_row.ensures in
     let h = c.before.if-cells-ne0.true in
     let f = c.before.before.before.first_cells-cells.ensures in
-    record { answers = rw (e.0, e.1) (form-cells _ _ _ _ h f.answers); row = λ z. absurd (h (sym e.0 ∙ z)) }
+    record { answers = rw (e.0, e.1) (form_cells _ _ _ _ h f.answers); row = λ z. absurd (h (sym e.0 ∙ z)) }
 
 cell-at-requires : tie.Need-cell_at-last-requires
 cell-at-requires c κs = search rules
@@ -47,7 +47,7 @@ returns-2 c =
     let h = c.before.if-last-ne0.true in
     let a = c.before.before.before in
     record {
-      answers = rw (e.0, e.1) (form-last _ _ (cells a.before) _ _ h a.Cell-at.ensures.answers);
+      answers = rw (e.0, e.1) (form_last _ _ (cells a.before) _ _ h a.Cell-at.ensures.answers);
       row = λ z. absurd (h (sym e.0 ∙ z));
     }
 
@@ -70,7 +70,7 @@ returns-3 c =
     record {
       answers =
           rw (e.0, e.1)
-          (form-ends _ _ (cells a.before) _ _ (lasts n.before) (rw n.needed.ensures at s.shape_fault-shape.ensures));
+          (form_ends _ _ (cells a.before) _ _ (lasts n.before) (rw n.needed.ensures at s.shape_fault-shape.ensures));
       row = λ z. absurd (h (sym e.0 ∙ z));
     }
 
@@ -101,7 +101,7 @@ returns-4 c =
     let v = f.first_cells-cells.ensures.value a.before.if-cells-ne0.false in
     record {
       answers =
-          form-ends _ _ (cells a.before) 0 0 (lasts n.before)
+          form_ends _ _ (cells a.before) 0 0 (lasts n.before)
           (answered _ (none_of _ _ (shape_numbered _ _) (rw (z.if-shape-ne0.false, n.needed.ensures) at s.shape_fault-shape.ensures)));
       row = λ e. record {
         cost = v 0 (omega arith);

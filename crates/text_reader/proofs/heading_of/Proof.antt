@@ -5,8 +5,8 @@ use native.Mathlib.Omega.{arith}
 use borrow.Author.Rules.{rules}
 use Rattle.rules.proofs.Answers.{None, none_of}
 use Rattle.grammar.specs.TableText.{part, field, no_heading, missing_field, spare_field, number_checks}
-use Rattle.text_reader.proofs.Lines.{numbers_numbered, shape_numbered, heading-none, heading-cell, heading-shape, heading-wrong}
-use Rattle.text_reader.proofs.Lines.{heading-right}
+use Rattle.text_reader.proofs.Lines.{numbers_numbered, shape_numbered, heading_none, heading_cell, heading_shape, heading_wrong}
+use Rattle.text_reader.proofs.Lines.{heading_right}
 use Rattle.text_reader.proofs.heading_of.Statement.{statement}
 use Rattle.text_reader.proofs.heading_of.Tie as tie
 
@@ -42,7 +42,7 @@ returns c =
     let w = p.before.before in
     record {
       answers =
-          heading-none _ _ _ e.0 (e.1 ∙ p.place_of.ensures)
+          heading_none _ _ _ e.0 (e.1 ∙ p.place_of.ensures)
           ((w.is_no_heading.ensures w.before.before.args.from).holds p.before.if-is_no_heading.true);
       elements = λ z. absurd (let y : ⊥ = omega (arith, e.0, z) in y);
       rings = λ z. absurd (let y : ⊥ = omega (arith, e.0, z) in y);
@@ -60,7 +60,7 @@ returns-2 c =
     let h = c.before.if-cell-ne0.true in
     let a = c.before.before.before in
     record {
-      answers = rw (e.0, e.1) (heading-cell _ (worded a.before) _ _ h a.Cell-at.ensures.answers);
+      answers = rw (e.0, e.1) (heading_cell _ (worded a.before) _ _ h a.Cell-at.ensures.answers);
       elements = λ z. absurd (h (sym e.0 ∙ z));
       rings = λ z. absurd (h (sym e.0 ∙ z));
     }
@@ -78,7 +78,7 @@ returns-3 c =
     let s = c.before.before.before in
     let a = s.before.before.before in
     record {
-      answers = rw (e.0, e.1) (heading-shape _ (worded a.before) (cell s.before) _ _ h s.shape_fault-shape.ensures);
+      answers = rw (e.0, e.1) (heading_shape _ (worded a.before) (cell s.before) _ _ h s.shape_fault-shape.ensures);
       elements = λ z. absurd (h (sym e.0 ∙ z));
       rings = λ z. absurd (h (sym e.0 ∙ z));
     }
@@ -101,7 +101,7 @@ returns-4 c =
     let a = s.before.before.before in
     record {
       answers =
-          heading-wrong _ (worded a.before) (cell s.before) (shape w.before) _
+          heading_wrong _ (worded a.before) (cell s.before) (shape w.before) _
           (a.Cell-at.ensures.value s.before.if-cell-ne0.false) _ _ e.0 (e.1 ∙ p.place_of-then-is_wrong_size.ensures)
           (w.is_wrong_size.ensures.holds p.before.if-is_wrong_size.true);
       elements = λ z. absurd (let y : ⊥ = omega (arith, e.0, z) in y);
@@ -119,7 +119,7 @@ returns-5 c =
     let v = a.Cell-at.ensures.value s.before.if-cell-ne0.false in
     record {
       answers =
-          heading-right _ (worded a.before) (cell s.before) (shape w.before) _ v
+          heading_right _ (worded a.before) (cell s.before) (shape w.before) _ v
           (w.is_wrong_size.ensures.fails c.before.if-is_wrong_size.false);
       elements = λ z. v;
       rings = λ z. c.rings_in.ensures _;

@@ -8,7 +8,7 @@ use lib.Seq.{length-take-le}
 use borrow.Author.Rules.{rules}
 use Rattle.rules.specs.Bounds.{max_rows}
 use Rattle.rules.specs.Calls.{lent}
-use Rattle.text_reader.proofs.Texts.{read-long, read_refused, read_short, read_done, front_of}
+use Rattle.text_reader.proofs.Texts.{read_long, read_refused, read_short, read_done, front_of}
 use Rattle.text_reader.proofs.read.Statement.{statement}
 use Rattle.text_reader.proofs.read.Tie as tie
 
@@ -16,7 +16,7 @@ refuse-text-requires : tie.Need-refuse_text-requires
 refuse-text-requires c κs = search rules
 
 returns : tie.Need-returns-then-text-gt-TEXT
-returns c = read-long _ _ _ (omega arith) c.refuse_text.ensures
+returns c = read_long _ _ _ (omega arith) c.refuse_text.ensures
 
 slice-aggregate-read-lines : tie.Need-slice_bounds-read_lines-end
 slice-aggregate-read-lines c = search rules

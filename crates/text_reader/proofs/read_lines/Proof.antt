@@ -4,8 +4,8 @@ use Prim.Native.Nat.{◌-◌}
 use native.Mathlib.Omega.{arith}
 use lib.ListN.{drop, length-take}
 use borrow.Author.Rules.{rules}
-use Rattle.text_reader.proofs.Texts.{here, heading-passes, elements-are, rings-are, rest, lines-heading, lines_rows, lines-empty}
-use Rattle.text_reader.proofs.Texts.{lines-done}
+use Rattle.text_reader.proofs.Texts.{here, heading_passes, elements_are, rings_are, rest, lines_heading, lines_rows, lines_empty}
+use Rattle.text_reader.proofs.Texts.{lines_done}
 use Rattle.text_reader.proofs.read_lines.Statement.{statement}
 use Rattle.text_reader.proofs.read_lines.Tie as tie
 
@@ -41,7 +41,7 @@ returns : tie.Need-returns-then-heading-ne0
 returns c =
     let h = c.before.before.before in
     let n = h.before.before in
-    lines-heading _ _ _ _ _ _ c.before.if-heading-ne0.true (here n.next_line-first.ensures h.heading_of-heading.ensures) c.refuse_text.ensures refl
+    lines_heading _ _ _ _ _ _ c.before.if-heading-ne0.true (here n.next_line-first.ensures h.heading_of-heading.ensures) c.refuse_text.ensures refl
 
 cast-elements : tie.Need-overflow_cast-elements
 cast-elements c = search rules
@@ -54,8 +54,8 @@ read-rows-requires c κs =
     let z = n.before.before.before in (
       z.requires.0,
       rest n.next_line-first.ensures h.heading_of-heading.ensures e.if-heading-ne0.false,
-      rings-are n.next_line-first.ensures h.heading_of-heading.ensures e.if-heading-ne0.false,
-      elements-are n.next_line-first.ensures h.heading_of-heading.ensures e.if-heading-ne0.false,
+      rings_are n.next_line-first.ensures h.heading_of-heading.ensures e.if-heading-ne0.false,
+      elements_are n.next_line-first.ensures h.heading_of-heading.ensures e.if-heading-ne0.false,
       z.requires.1,
     )
 
@@ -71,7 +71,7 @@ returns-2 c =
     let e = r.before.before.before in
     let h = e.before.before in
     let n = h.before.before in
-    lines_rows _ _ _ (heading-passes n.next_line-first.ensures h.heading_of-heading.ensures e.if-heading-ne0.false) r.read_rows-found.ensures _
+    lines_rows _ _ _ (heading_passes n.next_line-first.ensures h.heading_of-heading.ensures e.if-heading-ne0.false) r.read_rows-found.ensures _
     c.before.if-found-ne0.true c.refuse_text-then-found-ne0.ensures
 
 refuse-text-requires-3 : tie.Need-refuse_text-requires-then-found-eq0
@@ -87,7 +87,7 @@ returns-3 c =
     let e = r.before.before.before in
     let h = e.before.before in
     let n = h.before.before in
-    lines-empty _ _ _ (heading-passes n.next_line-first.ensures h.heading_of-heading.ensures e.if-heading-ne0.false) r.read_rows-found.ensures
+    lines_empty _ _ _ (heading_passes n.next_line-first.ensures h.heading_of-heading.ensures e.if-heading-ne0.false) r.read_rows-found.ensures
     f.if-found-ne0.false _ c.before.if-found-eq0.true c.refuse_text-then-found-eq0.ensures
 
 array-read-t21 : tie.Need-bounds-0
@@ -113,9 +113,9 @@ returns-4 c =
     let e = r.before.before.before in
     let h = e.before.before in
     let n = h.before.before in
-    lines-done _ _ _ (heading-passes n.next_line-first.ensures h.heading_of-heading.ensures e.if-heading-ne0.false) r.read_rows-found.ensures
-    f.if-found-ne0.false _ _ _ _ m.before.if-found-eq0.false (rings-are n.next_line-first.ensures h.heading_of-heading.ensures e.if-heading-ne0.false)
-    (elements-are n.next_line-first.ensures h.heading_of-heading.ensures e.if-heading-ne0.false) m.mark_byte.ensures c.version_for.ensures
+    lines_done _ _ _ (heading_passes n.next_line-first.ensures h.heading_of-heading.ensures e.if-heading-ne0.false) r.read_rows-found.ensures
+    f.if-found-ne0.false _ _ _ _ m.before.if-found-eq0.false (rings_are n.next_line-first.ensures h.heading_of-heading.ensures e.if-heading-ne0.false)
+    (elements_are n.next_line-first.ensures h.heading_of-heading.ensures e.if-heading-ne0.false) m.mark_byte.ensures c.version_for.ensures
 
 pub read_lines_spec : {M : Type 1} → statement M
 read_lines_spec =

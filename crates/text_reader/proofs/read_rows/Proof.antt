@@ -4,7 +4,7 @@ use native.Mathlib.Omega.{arith}
 use lib.ListN.{drop, length-take}
 use borrow.Author.Rules.{rules}
 use Rattle.rules.specs.Bounds.{max_rows}
-use Rattle.text_reader.proofs.RowByRow.{Reading, reading_start, reading-stop, reading-next, reading-end, reading_refused}
+use Rattle.text_reader.proofs.RowByRow.{Reading, reading_start, reading_stop, reading_next, reading_end, reading_refused}
 use Rattle.text_reader.proofs.read_rows.Statement.{statement}
 use Rattle.text_reader.proofs.read_rows.Tie as tie
 
@@ -49,7 +49,7 @@ returns c =
     let u = t.before.before in
     let z = u.before.before.before.before in
     reading_refused _ _ _ _ _ c.if-found-ne0.true
-    (reading-stop u.loop-line.invariant t.loop-line-test.true (rw (z.requires.2, z.requires.3) at r.row_at-found.ensures) c.if-found-ne0.true)
+    (reading_stop u.loop-line.invariant t.loop-line-test.true (rw (z.requires.2, z.requires.3) at r.row_at-found.ensures) c.if-found-ne0.true)
     u.loop-line.invariant.filled.same
 
 mul-put-numbers : tie.Need-overflow_mul-i invariant-loop decreases-loop
@@ -107,14 +107,14 @@ loop-again c =
     let t = r.before.before in
     let u = t.before.before in
     let z = u.before.before.before.before in
-    reading-next u.loop-line.invariant t.loop-line-test.true (rw (z.requires.2, z.requires.3) at r.row_at-found.ensures) e.if-found-ne0.false _ _ _ _ z.requires.4
+    reading_next u.loop-line.invariant t.loop-line-test.true (rw (z.requires.2, z.requires.3) at r.row_at-found.ensures) e.if-found-ne0.false _ _ _ _ z.requires.4
     p.put_numbers.ensures (h.has_field.ensures u.loop-line.line.start) c.before.either-labelled.ensures c.next_line-line-in-loop-line.ensures
 
 same-length-2 : tie.Need-shape_of-numbers invariant-loop decreases-loop
 same-length-2 c = c.before.before.loop-line.invariant.filled.same
 
 returns-2 : tie.Need-returns invariant-loop decreases-loop
-returns-2 c = reading-end c.before.before.loop-line.invariant (omega arith)
+returns-2 c = reading_end c.before.before.loop-line.invariant (omega arith)
 
 pub read_rows_spec : {M : Type 1} → statement M
 read_rows_spec =

@@ -3,7 +3,7 @@ use mathlib.Core.Path.{sym, ◌∙◌}
 use native.Mathlib.Omega.{arith}
 use borrow.Author.Rules.{rules}
 use Rattle.rules.proofs.Answers.{none_of}
-use Rattle.text_reader.proofs.Lines.{form-numbered, row-many, row-form, row-values, row_done}
+use Rattle.text_reader.proofs.Lines.{form_numbered, row_many, row_form, row_values, row_done}
 use Rattle.text_reader.proofs.row_at.Statement.{statement}
 use Rattle.text_reader.proofs.row_at.Tie as tie
 
@@ -18,7 +18,7 @@ returns c =
     let e = c.refuse_row.ensures in
     let p = c.before in
     record {
-      answers = row-many _ _ _ _ _ _ p.before.if-i-ge-ROWS.true e.0 (e.1 ∙ p.place_of.ensures);
+      answers = row_many _ _ _ _ _ _ p.before.if-i-ge-ROWS.true e.0 (e.1 ∙ p.place_of.ensures);
       row = λ z. absurd (let y : ⊥ = omega (arith, e.0, z) in y);
       few = λ z. absurd (let y : ⊥ = omega (arith, e.0, z) in y);
     }
@@ -30,7 +30,7 @@ returns-2 : tie.Need-returns-then-form-ne0
 returns-2 c =
     let f = c.before.before in
     record {
-      answers = row-form _ _ _ _ (omega arith) _ _ c.if-form-ne0.true f.form_of-form.ensures.answers;
+      answers = row_form _ _ _ _ (omega arith) _ _ c.if-form-ne0.true f.form_of-form.ensures.answers;
       row = f.form_of-form.ensures.row;
       few = λ z. omega arith;
     }
@@ -52,8 +52,8 @@ returns-3 c =
     record {
       answers =
           rw (e.0, e.1)
-          (row-values _ _ _ _ (omega arith) _ _
-          (none_of _ _ (form-numbered _ _) (rw v.before.if-form-ne0.false at f.form_of-form.ensures.answers))
+          (row_values _ _ _ _ (omega arith) _ _
+          (none_of _ _ (form_numbered _ _) (rw v.before.if-form-ne0.false at f.form_of-form.ensures.answers))
           v.value_fault-fault.ensures);
       row = λ z. absurd (h (sym e.0 ∙ z));
       few = λ z. omega arith;

@@ -2,7 +2,7 @@
 use mathlib.Core.Path.{refl}
 use borrow.Author.Rules.{rules}
 use Rattle.numbers.proofs.Truth.{denied, granted}
-use Rattle.text_reader.proofs.Lines.{shape-missing, shape-spare, shape-right}
+use Rattle.text_reader.proofs.Lines.{shape_missing, shape_spare, shape_right}
 use Rattle.text_reader.proofs.shape_fault.Statement.{statement}
 use Rattle.text_reader.proofs.shape_fault.Tie as tie
 
@@ -16,7 +16,7 @@ returns : tie.Need-returns-then-not-has_field
 returns c =
     let h = c.before.before in
     let from = h.before.before.args.from in
-    shape-missing _ _ _ _ refl c.place_of.ensures (denied (h.has_field.ensures from) c.before.if-not-has_field.true)
+    shape_missing _ _ _ _ refl c.place_of.ensures (denied (h.has_field.ensures from) c.before.if-not-has_field.true)
 
 has-field-requires-2 : tie.Need-has_field-requires-2
 has-field-requires-2 c κs = search rules
@@ -29,7 +29,7 @@ returns-2 c =
     let s = c.before.before in
     let h = s.before.before in
     let from = h.before.before.args.from in
-    shape-spare _ _ _ _ refl c.place_of-then-has_field.ensures (granted (h.has_field.ensures from) s.before.if-not-has_field.false)
+    shape_spare _ _ _ _ refl c.place_of-then-has_field.ensures (granted (h.has_field.ensures from) s.before.if-not-has_field.false)
     ((s.has_field-2.ensures from).holds c.before.if-has_field.true)
 
 returns-3 : tie.Need-returns
@@ -37,7 +37,7 @@ returns-3 c =
     let s = c.before in
     let h = s.before.before in
     let from = h.before.before.args.from in
-    shape-right _ _ (granted (h.has_field.ensures from) s.before.if-not-has_field.false) ((s.has_field-2.ensures from).fails c.if-has_field.false)
+    shape_right _ _ (granted (h.has_field.ensures from) s.before.if-not-has_field.false) ((s.has_field-2.ensures from).fails c.if-has_field.false)
 
 pub shape_fault_spec : {M : Type 1} → statement M
 shape_fault_spec =

@@ -1,7 +1,7 @@
 -- `text_reader::value_fault` meets its contract.
 use borrow.Author.Rules.{rules}
 use Rattle.rules.proofs.Answers.{answered}
-use Rattle.text_reader.proofs.Lines.{values-right, values-wrong}
+use Rattle.text_reader.proofs.Lines.{values_right, values_wrong}
 use Rattle.text_reader.proofs.value_fault.Statement.{statement}
 use Rattle.text_reader.proofs.value_fault.Tie as tie
 
@@ -16,7 +16,7 @@ returns c =
     let r = c.before in
     let n = r.before in
     let z = n.before.before in
-    answered _ (values-right _ _ _ _ z.requires.1 (rw (c.if-number-eq-DONE.true, n.in_ring.ensures) at r.row_fault-number.ensures))
+    answered _ (values_right _ _ _ _ z.requires.1 (rw (c.if-number-eq-DONE.true, n.in_ring.ensures) at r.row_fault-number.ensures))
 
 blamed-requires : tie.Need-blamed-requires
 blamed-requires c κs = search rules
@@ -31,7 +31,7 @@ returns-2 c =
     let n = r.before in
     let z = n.before.before in
     rw (c.place_of.ensures, b.blamed.ensures)
-    (values-wrong _ _ _ _ z.requires.1 _ b.before.if-number-eq-DONE.false (rw n.in_ring.ensures at r.row_fault-number.ensures))
+    (values_wrong _ _ _ _ z.requires.1 _ b.before.if-number-eq-DONE.false (rw n.in_ring.ensures at r.row_fault-number.ensures))
 
 pub value_fault_spec : {M : Type 1} → statement M
 value_fault_spec =

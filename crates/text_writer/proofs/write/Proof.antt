@@ -5,7 +5,7 @@ use native.Mathlib.Omega.{arith}
 use lib.ListN.{length}
 use Rattle.numbers.proofs.Truth.{le_or_lt}
 use Rattle.table.specs.declared.Answer.{Answer}
-use Rattle.text_writer.proofs.Written.{mark-refused, mark-known}
+use Rattle.text_writer.proofs.Written.{mark_refused, mark_known}
 use borrow.Author.Rules.{rules}
 use Rattle.text_writer.proofs.write.Statement.{statement}
 use Rattle.text_writer.proofs.write.Tie as tie
@@ -25,7 +25,7 @@ returns c =
     let e = c.refuse_write.ensures in
     let w = c.before.at.ensures in
     rw (ap (λ (w : Answer). w.number) e.0, ap (λ (w : Answer). w.place) e.0, w.0, w.1, e.1)
-    (mark-refused _ _ _ _ _ _ (z.before.is_no_mark.ensures.holds z.if-is_no_mark.true))
+    (mark_refused _ _ _ _ _ _ (z.before.is_no_mark.ensures.holds z.if-is_no_mark.true))
 
 rings-of-requires : tie.Need-rings_of-requires
 rings-of-requires c κs =
@@ -47,7 +47,7 @@ returns-2 c =
     let w = c.before.before in
     let r = w.before.before in
     let z = r.before in
-    mark-known _ _ _ _ _ _ _ _ _ _ (z.before.is_no_mark.ensures.fails z.if-is_no_mark.false)
+    mark_known _ _ _ _ _ _ _ _ _ _ (z.before.is_no_mark.ensures.fails z.if-is_no_mark.false)
     (rw r.rings_of.ensures at w.write_with.ensures)
 
 pub write_spec : {M : Type 1} → statement M

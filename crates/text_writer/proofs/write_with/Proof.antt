@@ -8,8 +8,8 @@ use Rattle.rules.specs.TableFile.{row_numbers}
 use Rattle.rules.specs.Refusals.{version_checks}
 use Rattle.rules.proofs.Answers.{None, none_of}
 use Rattle.table.specs.declared.Answer.{Answer}
-use Rattle.table.proofs.Faults.{memory-sizes, version-numbered, version_known}
-use Rattle.text_writer.proofs.Written.{put_front, write_refused, write-short, write_done}
+use Rattle.table.proofs.Faults.{memory_sizes, version_numbered, version_known}
+use Rattle.text_writer.proofs.Written.{put_front, write_refused, write_short, write_done}
 use borrow.Author.Rules.{rules}
 use Rattle.text_writer.proofs.write_with.Statement.{statement}
 use Rattle.text_writer.proofs.write_with.Tie as tie
@@ -18,13 +18,13 @@ use Rattle.text_writer.proofs.write_with.Tie as tie
 none : (z : tie.Else-answer-ne-DONE)
     → let a = z.before.before.before.before.before.args in
     None (version_checks a.rings a.version a.elements a.rows a.numbers.now)
-none z = none_of _ _ (version-numbered _ _ _ _ _) (rw z.if-answer-ne-DONE.false at z.before.before.check_version-answer.ensures)
+none z = none_of _ _ (version_numbered _ _ _ _ _) (rw z.if-answer-ne-DONE.false at z.before.before.check_version-answer.ensures)
 
 -- and holds its rows
 rows : (z : tie.Else-answer-ne-DONE)
     → let a = z.before.before.before.before.before.args in
     (a.rows ≤ max_rows) × (row_numbers * a.rows ≤ length a.numbers.now)
-rows z = let s = memory-sizes _ _ _ _ (version_known _ _ _ _ _ (none z)).1 in (s.0, omega (arith, s.1))
+rows z = let s = memory_sizes _ _ _ _ (version_known _ _ _ _ _ (none z)).1 in (s.0, omega (arith, s.1))
 
 check-version-requires : tie.Need-check_version-answer-requires
 check-version-requires c κs = search rules
@@ -54,7 +54,7 @@ returns-2 c =
     let e = c.refuse_write-then-out-size.ensures in
     let w = c.before.at.ensures in
     rw (ap (λ (w : Answer). w.number) e.0, ap (λ (w : Answer). w.place) e.0, w.0, w.1, e.1)
-    (write-short _ _ _ _ _ _ (none t.before) (omega (arith, t.text_size-size.ensures, c.before.before.if-out-size.true)))
+    (write_short _ _ _ _ _ _ (none t.before) (omega (arith, t.text_size-size.ensures, c.before.before.if-out-size.true)))
 
 put-text-requires : tie.Need-put_text-requires
 put-text-requires c κs = rows c.before.before.before

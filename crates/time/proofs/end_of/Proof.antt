@@ -5,7 +5,7 @@ use native.Mathlib.Omega.{arith}
 use borrow.Author.Rules.{rules}
 use lib.Dec.{T}
 use Rattle.numbers.proofs.Truth.{of_true}
-use Rattle.lags.proofs.Intervals.{end-le}
+use Rattle.lags.proofs.Intervals.{end_le}
 use Rattle.time.proofs.Even.{even_is, past_fits, past_is}
 use Rattle.time.proofs.end_of.Statement.{statement}
 use Rattle.time.proofs.end_of.Tie as tie
@@ -18,7 +18,7 @@ add-result c =
       fits = omega (
         arith,
         even_is P.3 (of_true (sym z.requires.1 ∙ c.if-even.true)) P.4,
-        end-le P.3.sound P.1 P.4.in_range,
+        end_le P.3.sound P.1 P.4.in_range,
         P.3.short,
       );
     }

@@ -6,7 +6,7 @@ use lib.Dec.{eqb}
 use borrow.Author.Tests.{ne_eqb}
 use Rattle.numbers.specs.Lists.{at}
 use Rattle.numbers.proofs.Truth.{is_true, eqb_of}
-use Rattle.numbers.proofs.Finite.{any_of, any_none, Sought, sought-start, sought-next}
+use Rattle.numbers.proofs.Finite.{any_of, any_none, Sought, sought_start, sought_next}
 use Rattle.time.proofs.has_shortest.Statement.{statement}
 use Rattle.time.proofs.has_shortest.Tie as tie
 
@@ -17,7 +17,7 @@ abbrev decreases-loop : tie.decreases-loop-k
 decreases-loop period count interval k₀ k = count - k
 
 loop-holds : tie.Need-loop-k-init invariant-loop decreases-loop
-loop-holds c = sought-start
+loop-holds c = sought_start
 
 slots-at-requires : tie.Need-slots_at-requires invariant-loop decreases-loop
 slots-at-requires c κs = omega arith
@@ -39,7 +39,7 @@ loop-again : tie.Need-loop-k-preserved invariant-loop decreases-loop
 loop-again c =
     let u = c.before.before.before in
     let a = u.before.args in
-    sought-next u.loop-k.invariant (omega arith)
+    sought_next u.loop-k.invariant (omega arith)
     (ne_eqb (at a.period.now u.loop-k.k) a.interval (rw c.before.slots_at.ensures at c.if-slots_at-interval.false))
 
 returns-2 : tie.Need-returns invariant-loop decreases-loop

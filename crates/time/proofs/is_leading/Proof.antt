@@ -5,7 +5,7 @@ use native.Mathlib.Omega.{arith}
 use borrow.Author.Tests.{ne_eqb}
 use Rattle.numbers.specs.Divisors.{divides}
 use Rattle.numbers.specs.Lists.{at}
-use Rattle.numbers.proofs.Finite.{Sought, sought-start, sought-next}
+use Rattle.numbers.proofs.Finite.{Sought, sought_start, sought_next}
 use Rattle.time.proofs.Periods.{divided, undivided}
 use Rattle.time.proofs.is_leading.Statement.{statement}
 use Rattle.time.proofs.is_leading.Tie as tie
@@ -17,7 +17,7 @@ abbrev decreases-loop : tie.decreases-loop-k
 decreases-loop kept count next k₀ k = count - k
 
 loop-holds : tie.Need-loop-k-init invariant-loop decreases-loop
-loop-holds c = sought-start
+loop-holds c = sought_start
 
 slots-at-requires : tie.Need-slots_at-requires invariant-loop decreases-loop
 slots-at-requires c κs = omega (arith, c.before.before.requires.0)
@@ -44,7 +44,7 @@ loop-again : tie.Need-loop-k-preserved invariant-loop decreases-loop
 loop-again c =
     let u = c.before.before.before in
     let a = u.before.args in
-    sought-next u.loop-k.invariant (omega arith)
+    sought_next u.loop-k.invariant (omega arith)
     (ne_eqb (a.next % at a.kept.now u.loop-k.k) 0 (rw c.before.slots_at.ensures at c.if-next-slots_at-eq0.false))
 
 returns-2 : tie.Need-returns invariant-loop decreases-loop

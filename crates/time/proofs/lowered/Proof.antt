@@ -4,7 +4,7 @@ use native.Mathlib.Omega.{arith}
 use borrow.Author.Rules.{rules}
 use Rattle.numbers.specs.Lists.{at}
 use Rattle.time.specs.Time.{Periods, Nearing}
-use Rattle.time.proofs.Periods.{nearing-next, nearing-row}
+use Rattle.time.proofs.Periods.{nearing_next, nearing_row}
 use Rattle.time.proofs.lowered.Statement.{statement}
 use Rattle.time.proofs.lowered.Tie as tie
 
@@ -42,14 +42,14 @@ loop-again c =
       omega arith,
       λ n P N l.
           rw c.lower-least.ensures
-          (nearing-next P (u.loop-j.invariant.1 n P N l) l (omega arith)
+          (nearing_next P (u.loop-j.invariant.1 n P N l) l (omega arith)
           (rw (u.before.slots_at-own.ensures, c.before.before.slots_at.ensures) at c.before.gcd_of.ensures)),
     )
 
 returns : tie.Need-returns invariant-loop decreases-loop
 returns c n P N l =
     let u = c.before in
-    nearing-row P (u.loop-j.invariant.1 n P N l) l (omega arith)
+    nearing_row P (u.loop-j.invariant.1 n P N l) l (omega arith)
 
 pub lowered_spec : {M : Type 1} → statement M
 lowered_spec =

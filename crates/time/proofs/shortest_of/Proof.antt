@@ -3,7 +3,7 @@ use Prim.Native.Nat.{◌-◌, ◌≤◌}
 use native.Mathlib.Omega.{arith}
 use Rattle.numbers.specs.Lists.{at}
 use Rattle.time.specs.Time.{Nearing}
-use Rattle.time.proofs.Periods.{nearing-start, nearing_end}
+use Rattle.time.proofs.Periods.{nearing_start, nearing_end}
 use Rattle.time.proofs.shortest_of.Statement.{statement}
 use Rattle.time.proofs.shortest_of.Tie as tie
 
@@ -17,7 +17,7 @@ slots-at-requires : tie.Need-slots_at-l-requires invariant-loop decreases-loop
 slots-at-requires c κs = omega arith
 
 loop-holds : tie.Need-loop-i-init invariant-loop decreases-loop
-loop-holds c = (c.before.requires.some, rw c.slots_at-l.ensures (nearing-start c.before.requires))
+loop-holds c = (c.before.requires.some, rw c.slots_at-l.ensures (nearing_start c.before.requires))
 
 lowered-requires : tie.Need-lowered-l-requires invariant-loop decreases-loop
 lowered-requires c κs =

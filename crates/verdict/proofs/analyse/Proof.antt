@@ -9,9 +9,9 @@ use Rattle.table.specs.Sound.{Sound}
 use Rattle.table.specs.Columns.{table_of}
 use Rattle.table.specs.declared.columns.Columns.{Columns}
 use Rattle.decoding.specs.Decoded.{columns_by}
-use Rattle.pasted.proofs.AsGiven.{given-of}
+use Rattle.pasted.proofs.AsGiven.{given_of}
 use Rattle.outline.proofs.Outlined.{answers_zero}
-use Rattle.verdict.proofs.Analysing.{analysed-given, analysed-past}
+use Rattle.verdict.proofs.Analysing.{analysed_given, analysed_past}
 use Rattle.verdict.proofs.analyse.Statement.{statement}
 use Rattle.verdict.proofs.analyse.Tie as tie
 
@@ -37,7 +37,7 @@ held : (c : tie.Else-answer-ne-DONE) → table_of (columns c) ≡ file_table (by
 held c = ((taken c).given_into-head.ensures.passed c.if-answer-ne-DONE.false).table
 
 sound : (c : tie.Else-answer-ne-DONE) → Sound (table_of (columns c))
-sound c = rw (held c) (given-of (bytes c) _ (checked c)).sound
+sound c = rw (held c) (given_of (bytes c) _ (checked c)).sound
 
 given-into-requires : tie.Need-given_into-head-requires
 given-into-requires c κs = search rules
@@ -48,7 +48,7 @@ refused-requires c κs = search rules
 returns : tie.Need-returns-then-answer-ne-DONE
 returns c =
     let a = c.before.before.before.before.given-into in
-    rw c.refused.ensures (analysed-given _ a.result.answer c.before.if-answer-ne-DONE.true a.ensures.answers)
+    rw c.refused.ensures (analysed_given _ a.result.answer c.before.if-answer-ne-DONE.true a.ensures.answers)
 
 analysis-of-requires : tie.Need-analysis_of-requires
 analysis-of-requires c κs = sound c.before.before.before.before.before
@@ -56,7 +56,7 @@ analysis-of-requires c κs = sound c.before.before.before.before.before
 returns-2 : tie.Need-returns
 returns-2 c =
     let e = c.before.before.before.before.before.before in
-    analysed-past (bytes e) _ (checked e) (rw (held e) at c.analysis_of.ensures)
+    analysed_past (bytes e) _ (checked e) (rw (held e) at c.analysis_of.ensures)
 
 pub analyse_spec : {M : Type 1} → statement M
 analyse_spec = tie.close (tie.spec given-into-requires refused-requires returns analysis-of-requires returns-2)

@@ -9,7 +9,7 @@ use Rattle.table.specs.Sound.{Sound}
 use Rattle.table.specs.Columns.{table_of}
 use Rattle.table.specs.declared.columns.Columns.{Columns}
 use Rattle.decoding.specs.Decoded.{columns_by}
-use Rattle.pasted.proofs.AsGiven.{given-of}
+use Rattle.pasted.proofs.AsGiven.{given_of}
 use Rattle.outline.proofs.Outlined.{answers_zero}
 use Rattle.verdict.proofs.Bound.{given_stops}
 use Rattle.verdict.proofs.Judging.{judged_refused, judged_past}
@@ -38,7 +38,7 @@ held : (c : tie.Else-answer-ne-DONE) → table_of (columns c) ≡ file_table (by
 held c = ((taken c).given_into-head.ensures.passed c.if-answer-ne-DONE.false).table
 
 sound : (c : tie.Else-answer-ne-DONE) → Sound (table_of (columns c))
-sound c = rw (held c) (given-of (bytes c) _ (checked c)).sound
+sound c = rw (held c) (given_of (bytes c) _ (checked c)).sound
 
 given-into-requires : tie.Need-given_into-head-requires
 given-into-requires c κs = search rules

@@ -7,12 +7,12 @@ use Rattle.rules.specs.Bounds.{max_rows}
 use Rattle.rules.specs.Bus.{Table, clockwise, counterclockwise}
 use Rattle.table.specs.Columns.{column_table}
 use Rattle.outline.specs.Layout.{Lies, LaidOut}
-use Rattle.outline.proofs.Cuts.{board-high}
-use Rattle.lags.proofs.Intervals.{shortest-le}
+use Rattle.outline.proofs.Cuts.{board_high}
+use Rattle.lags.proofs.Intervals.{shortest_le}
 use Rattle.verdict.proofs.Weighing.{times_of}
-use Rattle.verdict.proofs.Weighed.{rows-weighed}
+use Rattle.verdict.proofs.Weighed.{rows_weighed}
 use Rattle.verdict.specs.Weighing.{Weighable, Weighs}
-use Rattle.verdict.proofs.Judging.{judged-first, judged-next, judged-admitted, values-small}
+use Rattle.verdict.proofs.Judging.{judged_first, judged_next, judged_admitted, values_small}
 use Rattle.verdict.proofs.judge_table.Statement.{statement}
 use Rattle.verdict.proofs.judge_table.Tie as tie
 
@@ -30,7 +30,7 @@ layout-of-requires c κs = (at c.args.cost.now, c.requires)
 returns : tie.Need-returns-then-answer-ne-DONE
 returns c =
     let d = c.before.before.before in
-    judged-first (laid d) c.if-answer-ne-DONE.true
+    judged_first (laid d) c.if-answer-ne-DONE.true
 
 -- the way back from the rates to the first refusal, and from the weights to the rates
 abbrev asked : tie.Else-answer-ne-DONE → tie.After-layout_of-laid
@@ -52,7 +52,7 @@ ready d =
     let F = (laid (asked e)).found e.if-answer-ne-DONE.left in
     record {
       rows_is = refl;
-      weighed = rows-weighed F.timed d.put_rates-light.ensures;
+      weighed = rows_weighed F.timed d.put_rates-light.ensures;
       timed = F.timed;
       clear = F.clear;
       top_is = F.top;
@@ -67,7 +67,7 @@ put-rates-requires : tie.Need-put_rates-light-requires
 put-rates-requires c κs =
     let e = c.before.before in
     let T = ((laid (asked e)).found e.if-answer-ne-DONE.false).timed in
-    (times_of T.sound, omega (arith, T.hyper, T.short), omega (arith, T.interval, shortest-le T.sound), refl)
+    (times_of T.sound, omega (arith, T.hyper, T.short), omega (arith, T.interval, shortest_le T.sound), refl)
 
 weigh-requires : tie.Need-weigh-weighing-requires
 weigh-requires c κs =
@@ -78,7 +78,7 @@ returns-2 : tie.Need-returns-then-next-ne-DONE
 returns-2 c =
     let w = c.before.before.before in
     let e = unrefused (rated w) in
-    judged-next (laid (asked e)) e.if-answer-ne-DONE.left _ (weighed w) c.if-next-ne-DONE.true
+    judged_next (laid (asked e)) e.if-answer-ne-DONE.left _ (weighed w) c.if-next-ne-DONE.true
 
 -- past the second refusal it is admitted
 abbrev passed : tie.Else-next-ne-DONE → tie.After-weigh-weighing
@@ -90,24 +90,24 @@ lies e = let u = unrefused (rated (passed e)) in (laid (asked u)).found u.if-ans
 small : (e : tie.Else-next-ne-DONE) → let r = (passed e).weigh-weighing.result in (r.load ≤ 1000) × (r.sets ≤ max_rows)
 small e =
     let u = unrefused (rated (passed e)) in
-    values-small (laid (asked u)) u.if-answer-ne-DONE.left _ (weighed (passed e)) e.if-next-ne-DONE.false
+    values_small (laid (asked u)) u.if-answer-ne-DONE.left _ (weighed (passed e)) e.if-next-ne-DONE.false
 
 cast-t23 : tie.Need-overflow_cast-result
 cast-t23 c =
     let L = lies c in
     let s = L.timed.sound in
-    omega (arith, L.cut, board-high s L.clear clockwise)
+    omega (arith, L.cut, board_high s L.clear clockwise)
 
 cast-t25 : tie.Need-overflow_cast-result-2
 cast-t25 c =
     let L = lies c in
     let s = L.timed.sound in
-    omega (arith, L.other, board-high s L.clear counterclockwise)
+    omega (arith, L.other, board_high s L.clear counterclockwise)
 
 cast-t26 : tie.Need-overflow_cast-result-3
 cast-t26 c =
     let T = (lies c.before).timed in
-    omega (arith, T.interval, shortest-le T.sound)
+    omega (arith, T.interval, shortest_le T.sound)
 
 cast-t27 : tie.Need-overflow_cast-result-4
 cast-t27 c =
@@ -124,7 +124,7 @@ returns-3 : tie.Need-returns
 returns-3 c =
     let e = c.before.before.before.before in
     let u = unrefused (rated (passed e)) in
-    judged-admitted (laid (asked u)) u.if-answer-ne-DONE.left _ (weighed (passed e)) e.if-next-ne-DONE.false
+    judged_admitted (laid (asked u)) u.if-answer-ne-DONE.left _ (weighed (passed e)) e.if-next-ne-DONE.false
 
 pub judge_table_spec : {M : Type 1} → statement M
 judge_table_spec =

@@ -3,8 +3,8 @@ use mathlib.Core.Path.{◌≡◌, refl, ap, ◌∙◌}
 use native.Mathlib.Omega.{arith}
 use borrow.Author.Rules.{rules}
 use Rattle.table.specs.declared.Answer.{Answer}
-use Rattle.lags.proofs.Intervals.{hyperperiod-positive, shortest-positive, shortest-le}
-use Rattle.verdict.proofs.Weighed.{weighable-on-line, weighable-rates, weighs-light, weighs-over, weighs-done}
+use Rattle.lags.proofs.Intervals.{hyperperiod_positive, shortest_positive, shortest_le}
+use Rattle.verdict.proofs.Weighed.{weighable_on_line, weighable_rates, weighs_light, weighs_over, weighs_done}
 use Rattle.verdict.proofs.weigh.Statement.{statement}
 use Rattle.verdict.proofs.weigh.Tie as tie
 
@@ -20,7 +20,7 @@ unweighed-requires c κs = search rules
 returns : tie.Need-returns-then-light-rows
 returns c t A =
     let e = c.unweighed.ensures in
-    weighs-light A c.before.before.if-light-rows.true _
+    weighs_light A c.before.before.if-light-rows.true _
     (ap (λ (r : Answer). r.number) e ∙ c.before.at.ensures.0, ap (λ (r : Answer). r.place) e ∙ c.before.at.ensures.1)
 
 weigh-line-requires : tie.Need-weigh_line-found-requires
@@ -28,11 +28,11 @@ weigh-line-requires c κs =
     let A = c.before.requires.1 in
     let T = A.timed in
     let s = T.sound in (
-      weighable-on-line A,
-      weighable-rates A,
+      weighable_on_line A,
+      weighable_rates A,
       omega (arith, T.hyper, T.short),
-      omega (arith, T.interval, shortest-positive s),
-      omega (arith, T.interval, shortest-le s),
+      omega (arith, T.interval, shortest_positive s),
+      omega (arith, T.interval, shortest_le s),
     )
 
 at-requires-2 : tie.Need-at-requires-then-found
@@ -50,7 +50,7 @@ returns-2 c t A =
     let w = c.before.before.before.before in
     let e = c.unweighed-then-found.ensures in
     let v = w.weigh_line-found.ensures in
-    weighs-over A w.before.if-light-rows.false v.1 v.2 c.before.before.if-found.true _
+    weighs_over A w.before.if-light-rows.false v.1 v.2 c.before.before.if-found.true _
     (ap (λ (r : Answer). r.number) e ∙ c.before.at-then-found.ensures.0, ap (λ (r : Answer). r.place) e ∙ c.before.at-then-found.ensures.1)
 
 done-requires : tie.Need-done-requires
@@ -60,13 +60,13 @@ thousandths-requires : tie.Need-thousandths-requires
 thousandths-requires c κs =
     let w = c.before.before.before in
     let T = w.before.before.requires.1.timed in
-    (w.weigh_line-found.ensures.2.small, omega (arith, T.hyper, hyperperiod-positive T.sound), omega (arith, T.hyper, T.short))
+    (w.weigh_line-found.ensures.2.small, omega (arith, T.hyper, hyperperiod_positive T.sound), omega (arith, T.hyper, T.short))
 
 returns-3 : tie.Need-returns
 returns-3 c t A =
     let w = c.before.before.before.before in
     let v = w.weigh_line-found.ensures in
-    weighs-done A w.before.if-light-rows.false v.1 v.2 c.before.before.if-found.false _
+    weighs_done A w.before.if-light-rows.false v.1 v.2 c.before.before.if-found.false _
     c.before.done.ensures refl c.thousandths.ensures
 
 pub weigh_spec : {M : Type 1} → statement M

@@ -5,7 +5,7 @@ use mathlib.Core.Path.{◌≡◌, ap}
 use mathlib.Core.Logic.{⊎_elim}
 use Rattle.numbers.proofs.Truth.{le_or_lt}
 use Rattle.rules.proofs.Rings.{rings_few}
-use Rattle.writer.proofs.Calls.{mark-refused, mark-known}
+use Rattle.writer.proofs.Calls.{mark_refused, mark_known}
 use borrow.Author.Rules.{rules}
 use Rattle.writer.proofs.write.Statement.{statement}
 use Rattle.writer.proofs.write.Tie as tie
@@ -19,7 +19,7 @@ at-requires c κs = search rules
 returns : tie.Need-returns-then-is_no_mark
 returns c =
     let z = c.before in
-    rw (c.at.ensures.0, c.at.ensures.1) (mark-refused _ _ _ _ _ _ (z.before.is_no_mark.ensures.holds z.if-is_no_mark.true))
+    rw (c.at.ensures.0, c.at.ensures.1) (mark_refused _ _ _ _ _ _ (z.before.is_no_mark.ensures.holds z.if-is_no_mark.true))
 
 rings-of-requires : tie.Need-rings_of-requires
 rings-of-requires c κs =
@@ -41,7 +41,7 @@ returns-2 c =
     let w = c.before.before in
     let r = w.before.before in
     let z = r.before in
-    mark-known _ _ _ _ _ _ _ _ _ (z.before.is_no_mark.ensures.fails z.if-is_no_mark.false)
+    mark_known _ _ _ _ _ _ _ _ _ (z.before.is_no_mark.ensures.fails z.if-is_no_mark.false)
     (rw r.rings_of.ensures at w.write_with.ensures)
 
 pub write_spec : {M : Type 1} → statement M

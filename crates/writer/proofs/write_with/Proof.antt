@@ -10,10 +10,10 @@ use Rattle.rules.specs.TableFile.{header_size, last_size, row_numbers, memory_wi
 use Rattle.rules.specs.Refusals.{version_checks}
 use Rattle.rules.proofs.Answers.{None, none_of}
 use Rattle.table.specs.Sound.{Sound}
-use Rattle.table.proofs.Faults.{memory-sound, ends-fit, version-numbered, version_known}
+use Rattle.table.proofs.Faults.{memory_sound, ends_fit, version_numbered, version_known}
 use Rattle.rules.specs.Calls.{lent}
 use Rattle.rules.proofs.Calls.{lent_headed}
-use Rattle.writer.proofs.Calls.{written-refused, written-short, written-done}
+use Rattle.writer.proofs.Calls.{written_refused, written_short, written_done}
 use borrow.Author.Rules.{rules}
 use Rattle.writer.proofs.write_with.Statement.{statement}
 use Rattle.writer.proofs.write_with.Tie as tie
@@ -26,12 +26,12 @@ mark last = 0x52 ∷ 0x42 ∷ last ∷ []
 none : (z : tie.Else-answer-ne-DONE)
     → let a = z.before.before.before.before.before.args in
     None (version_checks a.rings a.version a.elements a.rows a.numbers.now)
-none z = none_of _ _ (version-numbered _ _ _ _ _) (rw z.if-answer-ne-DONE.false at z.before.before.check_version-answer.ensures)
+none z = none_of _ _ (version_numbered _ _ _ _ _) (rw z.if-answer-ne-DONE.false at z.before.before.check_version-answer.ensures)
 
 sound : (z : tie.Else-answer-ne-DONE)
     → let a = z.before.before.before.before.before.args in
     Sound (memory_with a.rings a.elements a.rows a.numbers.now) × (length a.numbers.now ≡ row_numbers * a.rows)
-sound z = memory-sound _ _ _ _ z.before.before.before.before.before.requires (version_known _ _ _ _ _ (none z)).1
+sound z = memory_sound _ _ _ _ z.before.before.before.before.before.requires (version_known _ _ _ _ _ (none z)).1
 
 -- the version fits 16 bits
 small : (z : tie.Else-answer-ne-DONE) → z.before.before.before.before.before.args.version < 65536
@@ -41,7 +41,7 @@ check-version-requires : tie.Need-check_version-answer-requires
 check-version-requires c κs = search rules
 
 returns : tie.Need-returns-then-answer-ne-DONE
-returns c = written-refused _ _ _ _ _ _ _ _ c.before.before.check_version-answer.ensures c.if-answer-ne-DONE.true
+returns c = written_refused _ _ _ _ _ _ _ _ c.before.before.check_version-answer.ensures c.if-answer-ne-DONE.true
 
 row-place-requires : tie.Need-row_place-requires
 row-place-requires c κs = (sound c).0.rows_high
@@ -53,7 +53,7 @@ returns-2 : tie.Need-returns-then-out-row_place
 returns-2 c =
     let y = c.before.before in
     rw (c.at.ensures.0, c.at.ensures.1)
-    (written-short _ _ _ _ _ _ (none y.before) (omega (arith, y.row_place.ensures, c.before.if-out-row_place.true)))
+    (written_short _ _ _ _ _ _ (none y.before) (omega (arith, y.row_place.ensures, c.before.if-out-row_place.true)))
 
 mark-byte-requires : tie.Need-mark_byte-requires
 mark-byte-requires c κs = search rules
@@ -82,7 +82,7 @@ put-all-bytes-requires c κs =
       s.0.rows_high,
       omega (arith, s.1),
       omega (arith, e, y.if-out-row_place.false, y.before.row_place.ensures),
-      ends-fit a.rings a.elements a.rows a.numbers.now s.0,
+      ends_fit a.rings a.elements a.rows a.numbers.now s.0,
     )
 
 same_length : tie.Need-shape_of-out
@@ -97,7 +97,7 @@ returns-3 c =
     let a = z.before.before.before.before.before.args in
     let rows = row_bytes (last_size a.rings a.version) (memory_labelled_with a.rings 0 a.rows a.numbers.now) in
     let room = y.before.row_place.ensures in
-    written-done _ _ _ _ _ _ _ _ _ z.before.before.check_version-answer.ensures z.if-answer-ne-DONE.false
+    written_done _ _ _ _ _ _ _ _ _ z.before.before.check_version-answer.ensures z.if-answer-ne-DONE.false
     (λ l. let q : ⊥ = omega (arith, room, y.if-out-row_place.false) in q)
     (lent_headed a.out-1.now _ _ (file_header (mark m.mark_byte.result) a.version a.elements a.rows) rows header_size refl
     (omega (arith, room, y.if-out-row_place.false))

@@ -4,7 +4,7 @@ use borrow.Author.Rules.{rules}
 use Rattle.rules.specs.Text.{text}
 use Rattle.decimal.proofs.Puts.{puts_none, puts_more}
 use Rattle.decimal.proofs.Text.{text_first}
-use Rattle.file_report.proofs.Shown.{read_refused, read_fits, read-shown}
+use Rattle.file_report.proofs.Shown.{read_refused, read_fits, read_shown}
 use Rattle.file_report.proofs.listing.show.Statement.{statement}
 use Rattle.file_report.proofs.listing.show.Tie as tie
 
@@ -78,7 +78,7 @@ returns-2 c =
     let P = p.put_entries.ensures in
     record {
       lines = _;
-      printed = read-shown _ _ _ _ _ _ _ _ r (omega arith) z.if-found-ne-DONE.false;
+      printed = read_shown _ _ _ _ _ _ _ _ r (omega arith) z.if-found-ne-DONE.false;
       puts = rw (text_first, text_first, text_first) (puts_more A.0 (puts_more E.0 (puts_more H.0 P.0)));
       fits = omega (arith, l, A.1, E.1, H.1, P.1);
     }

@@ -7,14 +7,14 @@ use lib.ListN.{length-take}
 use lib.Seq.{length-take-le}
 use Rattle.rules.specs.Bounds.{max_rows}
 use Rattle.rules.specs.TableFile.{header_size, row_size}
-use Rattle.file_report.proofs.Answers.{front, text-refused, text-few, text-marked, text-made}
+use Rattle.file_report.proofs.Answers.{front, text_refused, text_few, text_marked, text_made}
 use borrow.Author.Rules.{rules}
 use Rattle.file_report.proofs.texts.make.Statement.{statement}
 use Rattle.file_report.proofs.texts.make.Tie as tie
 
 -- the rows that were read have room
 few : (z : tie.Else-found-ne-DONE) → z.before.before.before.read-found.result.table.rows ≤ max_rows
-few z = text-few _ _ _ _ _ _ _ _ _ z.before.before.before.read-found.ensures (omega arith) z.if-found-ne-DONE.false
+few z = text_few _ _ _ _ _ _ _ _ _ z.before.before.before.read-found.ensures (omega arith) z.if-found-ne-DONE.false
 
 -- so has the file
 sized : (z : tie.After-row_bytes)
@@ -47,7 +47,7 @@ returns c =
     record {
       bytes = _;
       allowed =
-          text-refused _ _ _ _ _ _ _ _ _ t.before.before.before.read-found.ensures (omega arith) _ _ t.if-found-ne-DONE.true
+          text_refused _ _ _ _ _ _ _ _ _ t.before.before.before.read-found.ensures (omega arith) _ _ t.if-found-ne-DONE.true
           p.spot_of_lem.ensures.line p.spot_of_lem.ensures.column;
       puts = A.0;
       fits = A.1;
@@ -77,7 +77,7 @@ slice-aggregate-rings-of c = search rules
 rings-of-requires : tie.Need-rings_of-requires
 rings-of-requires c κs =
     let e = c.before.before.before.before.before.before.before in
-    text-marked _ _ _ _ _ _ _ _ _ e.before.before.before.read-found.ensures (omega arith) e.if-found-ne-DONE.false
+    text_marked _ _ _ _ _ _ _ _ _ e.before.before.before.read-found.ensures (omega arith) e.if-found-ne-DONE.false
 
 row-bytes-requires : tie.Need-row_bytes-requires
 row-bytes-requires c κs = search rules
@@ -109,7 +109,7 @@ returns-2 c =
     let r = e.before.before.before in
     let size : ℕ = header_size + b.row_bytes.result * r.read-found.result.table.rows in
     front size _
-    (text-made _ _ _ _ _ _ _ _ _ r.read-found.ensures (omega arith) e.if-found-ne-DONE.false size _ _ _ _
+    (text_made _ _ _ _ _ _ _ _ _ r.read-found.ensures (omega arith) e.if-found-ne-DONE.false size _ _ _ _
     (ap (λ (k : ℕ). header_size + k * r.read-found.result.table.rows)
     (b.row_bytes.ensures.0 ∙ ap (λ (g : ℕ). row_size g r.read-found.result.version) o.rings_of.ensures))
     (omega (arith, sized b)) w.write.ensures)

@@ -6,14 +6,14 @@ use lib.ListN.{length-take}
 use lib.Seq.{length-take-le}
 use Rattle.rules.specs.Bounds.{max_rows}
 use Rattle.grammar.specs.Reports.{longest_text}
-use Rattle.file_report.proofs.Answers.{front, file-refused, file-few, file-made}
+use Rattle.file_report.proofs.Answers.{front, file_refused, file_few, file_made}
 use borrow.Author.Rules.{rules}
 use Rattle.file_report.proofs.texts.show.Statement.{statement}
 use Rattle.file_report.proofs.texts.show.Tie as tie
 
 -- the rows that were read have room
 few : (z : tie.Else-found-ne-DONE) → z.before.before.before.read-found.result.table.rows ≤ max_rows
-few z = file-few _ _ _ _ _ _ _ _ _ z.before.before.before.read-found.ensures (omega arith) z.if-found-ne-DONE.false
+few z = file_few _ _ _ _ _ _ _ _ _ z.before.before.before.read-found.ensures (omega arith) z.if-found-ne-DONE.false
 
 slice-aggregate-read : tie.Need-slice_bounds-read-end
 slice-aggregate-read c = search rules
@@ -33,7 +33,7 @@ returns c =
     let t = c.before.before.before.before in
     record {
       bytes = _;
-      allowed = file-refused _ _ _ _ _ _ _ _ _ t.before.before.before.read-found.ensures (omega arith) t.if-found-ne-DONE.true;
+      allowed = file_refused _ _ _ _ _ _ _ _ _ t.before.before.before.read-found.ensures (omega arith) t.if-found-ne-DONE.true;
       puts = A.0;
       fits = A.1;
     }
@@ -62,7 +62,7 @@ sized z =
     let e = z.before.before.before.before.before.before in
     let r = e.before.before.before in
     let f = r.before.before.before.shared-slice-known in
-    (file-made _ _ _ _ _ _ _ _ _ r.read-found.ensures (omega arith) e.if-found-ne-DONE.false _ _ _ _ _ (λ i. omega (arith, f.given i)) (omega arith)
+    (file_made _ _ _ _ _ _ _ _ _ r.read-found.ensures (omega arith) e.if-found-ne-DONE.false _ _ _ _ _ (λ i. omega (arith, f.given i)) (omega arith)
     z.write-written.ensures).0
 
 array-share-prefix-text : tie.Need-slice_bounds-text-end
@@ -84,7 +84,7 @@ returns-2 c =
     let r = e.before.before.before in
     let f = r.before.before.before.shared-slice-known in
     front _ _
-    (file-made _ _ _ _ _ _ _ _ _ r.read-found.ensures (omega arith) e.if-found-ne-DONE.false _ _ _ _ _ (λ i. omega (arith, f.given i)) (omega arith)
+    (file_made _ _ _ _ _ _ _ _ _ r.read-found.ensures (omega arith) e.if-found-ne-DONE.false _ _ _ _ _ (λ i. omega (arith, f.given i)) (omega arith)
     w.write-written.ensures).1
     (sized w) c.before.before.put_bytes.ensures
 

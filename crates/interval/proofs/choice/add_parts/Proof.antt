@@ -11,7 +11,7 @@ use Rattle.numbers.proofs.Word.{bit_zero}
 use Rattle.rules.specs.Bounds.{max_elements}
 use Rattle.loads.proofs.Words.{bit_one_more, in_first, fewer, one_of}
 use Rattle.loads.specs.Loads.{last, among, Spans, Summed}
-use Rattle.interval.proofs.Filling.{row_span, summed_none, summed_next, summed-room}
+use Rattle.interval.proofs.Filling.{row_span, summed_none, summed_next, summed_room}
 use Rattle.interval.proofs.choice.add_parts.Statement.{statement}
 use Rattle.interval.proofs.choice.add_parts.Tie as tie
 
@@ -85,7 +85,7 @@ lift-requires c κs =
       u.invariant.0,
       λ k g v.
           let r = row_span (start p).args.tail.now (start p).args.head.now q.3 i (here p) H in
-          summed-room q.0 q.1 _ _ _ _ u.done _ i (here p) (picked p).1 (λ j. bit_one_more u.done i j l)
+          summed_room q.0 q.1 _ _ _ _ u.done _ i (here p) (picked p).1 (λ j. bit_one_more u.done i j l)
           (u.invariant.2 _ _ q.3 q.4 q.6) q.2 q.5 q.3.few_rows k (omega (arith, r)) g (omega (arith, r)),
     )
 

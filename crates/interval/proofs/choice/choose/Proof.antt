@@ -8,12 +8,12 @@ use borrow.Author.Tests.{lt-ltb}
 use Rattle.numbers.specs.Lists.{at}
 use Rattle.numbers.proofs.Lists.{zeros_at}
 use Rattle.rules.specs.Bounds.{max_elements}
-use Rattle.loads.proofs.States.{sums-most, state-of}
+use Rattle.loads.proofs.States.{sums_most, state_of}
 use Rattle.loads.specs.Loads.{last, among, none, Parts, Summed}
 use Rattle.loads.specs.State.{Asked, State}
 use Rattle.interval.specs.Taken.{Uneven, Taken}
 use Rattle.interval.proofs.Filling.{among_parts, among_uneven, summed_none}
-use Rattle.interval.proofs.Taking.{tried-start, tried-end, taken-greatest, taken-upper}
+use Rattle.interval.proofs.Taking.{tried_start, tried_end, taken_greatest, taken_upper}
 use Rattle.interval.proofs.choice.choose.Statement.{statement}
 use Rattle.interval.proofs.choice.choose.Tie as tie
 
@@ -21,8 +21,8 @@ use Rattle.interval.proofs.choice.choose.Tie as tie
 abbrev parts : tie.Start → ℕ → ℕ
 parts z = among z.args.rows (at z.args.part.now)
 
-are-parts : (z : tie.Start) → Parts z.args.size.rows z.args.size.hyper (parts z)
-are-parts z = among_parts z.args.rows z.requires.1
+are_parts : (z : tie.Start) → Parts z.args.size.rows z.args.size.hyper (parts z)
+are_parts z = among_parts z.args.rows z.requires.1
 
 uneven : (z : tie.Start) → Uneven z.args.size.rows (parts z) z.args.rows
 uneven z = among_uneven _ z.args.rows (at z.args.part.now) z.requires.2
@@ -31,13 +31,13 @@ returns : tie.Need-returns-then-rows-eq0
 returns c =
     let z = c.before in
     let E = z.requires.0 in
-    let P = are-parts z in
+    let P = are_parts z in
     let U = uneven z in
     let e = c.if-rows-eq0.true in
     let s : Summed z.args.size.rows z.args.size.sets (at z.args.tail.now) (last z.args.head.now) (parts z) none =
     rw e (summed_none _ _ _ _ _ none (λ k. refl)) in
-    taken-greatest _ _ _ _ _ _ E.spans P 0 none
-    (tried-end _ _ _ _ _ _ E.spans P _ U (tried-start _ _ _ _ _ _ E.spans P _ U none s) (sym e)) (λ k l. P.some)
+    taken_greatest _ _ _ _ _ _ E.spans P 0 none
+    (tried_end _ _ _ _ _ _ E.spans P _ U (tried_start _ _ _ _ _ _ E.spans P _ U none s) (sym e)) (λ k l. P.some)
 
 cast-h : tie.Need-overflow_cast-h
 cast-h c = omega (arith, c.before.before.requires.1.fits)
@@ -66,7 +66,7 @@ take-rows-requires : tie.Need-take_rows-top-requires
 take-rows-requires c κs =
     let a = c.before in
     let z = entry a in
-    ((_, _, parts z, z.requires.0.spans, z.requires.0.heads, are-parts z, uneven z, sums a), a.add_parts.ensures.0)
+    ((_, _, parts z, z.requires.0.spans, z.requires.0.heads, are_parts z, uneven z, sums a), a.add_parts.ensures.0)
 
 -- the rows in turn
 taken : (t : tie.After-take_rows-top) → let z = entry (summing t) in
@@ -75,7 +75,7 @@ taken : (t : tie.After-take_rows-top) → let z = entry (summing t) in
 taken t =
     let a = summing t in
     let z = entry a in
-    t.take_rows-top.ensures.1 _ _ (parts z) z.requires.0.spans z.requires.0.heads (are-parts z) (uneven z) (sums a)
+    t.take_rows-top.ensures.1 _ _ (parts z) z.requires.0.spans z.requires.0.heads (are_parts z) (uneven z) (sums a)
 
 all-less-requires : tie.Need-all_less-requires
 all-less-requires c κs = let z = entry (summing c.before) in z.requires.0.spans.few_sets
@@ -85,7 +85,7 @@ returns-2 c =
     let d = c.before in
     let t = d.before.before in
     let z = entry (summing t) in
-    taken-greatest _ _ _ _ _ _ z.requires.0.spans (are-parts z) _ _ (taken t) (d.all_less.ensures c.if-all_less.true)
+    taken_greatest _ _ _ _ _ _ z.requires.0.spans (are_parts z) _ _ (taken t) (d.all_less.ensures c.if-all_less.true)
 
 -- ---- where the rows in turn have left a set too low
 
@@ -114,12 +114,12 @@ Given w =
     w.before.add_parts-2.new.1.1.1.1.0 (parts (entry (summing (settling w))))
 
 given : (w : tie.After-sum-2-1) → Given w
-given w = let z = entry (summing (settling w)) in record { ends = z.requires.0; parts = are-parts z; summed = sums-again w }
+given w = let z = entry (summing (settling w)) in record { ends = z.requires.0; parts = are_parts z; summed = sums-again w }
 
 compare-requires : tie.Need-compare-start-requires
 compare-requires c κs =
     let p = (entry (summing (settling c))).requires in
-    (p.0.spans.few_sets, p.1.fits, sums-most (given c))
+    (p.0.spans.few_sets, p.1.fits, sums_most (given c))
 
 -- where the settling starts
 started : (k : tie.After-compare-start) → let z = entry (summing (settling k.before)) in
@@ -130,9 +130,9 @@ started k =
     let t = settling w in
     let z = entry (summing t) in
     let e = k.compare-start.ensures in
-    state-of (given w) k.compare-start.result z.args.rows t.take_rows-top.result
+    state_of (given w) k.compare-start.result z.args.rows t.take_rows-top.result
     (λ i l. uneven z i ∙ ap (λ (b : Bool). b && ltb 0 (parts z i)) (lt-ltb i z.args.size.rows l))
-    (taken-upper _ _ _ _ _ _ z.requires.0.spans (are-parts z) _ _ (taken t)) e.0 e.1 e.2
+    (taken_upper _ _ _ _ _ _ z.requires.0.spans (are_parts z) _ _ (taken t)) e.0 e.1 e.2
 
 mend-requires : tie.Need-mend-mended-requires
 mend-requires c κs =

@@ -13,7 +13,7 @@ use Rattle.loads.proofs.Words.{bit_one_more, fewer}
 use Rattle.loads.specs.Loads.{last, Spans, Parts, Summed}
 use Rattle.interval.specs.Taken.{Uneven}
 use Rattle.interval.proofs.Filling.{row_span}
-use Rattle.interval.proofs.Taking.{taken-full, taken-up, Tried, tried-start, tried-row, tried-new, tried-to, tried-next, tried-end}
+use Rattle.interval.proofs.Taking.{taken_full, taken_up, Tried, tried_start, tried_row, tried_new, tried_to, tried_next, tried_end}
 use Rattle.interval.proofs.choice.take_rows.Statement.{statement}
 use Rattle.interval.proofs.choice.take_rows.Tie as tie
 
@@ -37,7 +37,7 @@ abbrev passed : (p : tie.After-pick-i invariant-loop decreases-loop) → let z =
 passed p = let q = (start p).requires.0 in p.before.before.loop-done.invariant.1 _ _ _ q.3 q.4 q.5 q.6 q.7
 
 here : (p : tie.After-pick-i invariant-loop decreases-loop) → p.pick-i.result < (start p).requires.0.0
-here p = (tried-row _ _ _ _ _ _ _ _ _ _ (passed p) p.pick-i.result p.pick-i.ensures.1 p.pick-i.ensures.2).0
+here p = (tried_row _ _ _ _ _ _ _ _ _ _ (passed p) p.pick-i.result p.pick-i.ensures.1 p.pick-i.ensures.2).0
 
 -- its sets
 span : (p : tie.After-pick-i invariant-loop decreases-loop) → let a = (start p).args in
@@ -49,7 +49,7 @@ span p =
     (r.0, r.1)
 
 loop-holds : tie.Need-loop-done-init invariant-loop decreases-loop
-loop-holds c = (c.requires.1, λ n K f S H P U s. tried-start _ _ _ _ _ _ S P _ U _ s)
+loop-holds c = (c.requires.1, λ n K f S H P U s. tried_start _ _ _ _ _ _ S P _ U _ s)
 
 pick-requires : tie.Need-pick-i-requires invariant-loop decreases-loop
 pick-requires c κs = λ q. c.loop-done-test.true (sym q)
@@ -85,7 +85,7 @@ loop-less c =
     let p = c.before.before.before.before.before in
     let l = p.pick-i.ensures.0 in
     let d = p.before.before.loop-done.done in
-    fewer d _ p.pick-i.result l (tried-new _ _ _ _ _ _ _ _ _ _ (passed p) p.pick-i.result p.pick-i.ensures.1 p.pick-i.ensures.2)
+    fewer d _ p.pick-i.result l (tried_new _ _ _ _ _ _ _ _ _ _ (passed p) p.pick-i.result p.pick-i.ensures.1 p.pick-i.ensures.2)
     (λ v. bit_one_more d p.pick-i.result v l)
 
 loop-again : tie.Need-loop-done-preserved invariant-loop decreases-loop
@@ -100,9 +100,9 @@ loop-again c =
       w.2.ensures.0,
       λ n K f S H P U s.
           let q = u.invariant.1 n K f S H P U s in
-          let r = tried-row _ _ _ _ _ _ S P _ U q i e.1 e.2 in
-          tried-next _ _ _ _ _ _ S P _ U q i e.1 e.2 _ _ _ (λ j. bit_one_more u.done i j e.0)
-          (taken-up _ _ _ _ _ _ S P i u.top _ r.0 (tried-to _ _ _ _ _ _ S P _ U q i e.1 e.2) _ _ _
+          let r = tried_row _ _ _ _ _ _ S P _ U q i e.1 e.2 in
+          tried_next _ _ _ _ _ _ S P _ U q i e.1 e.2 _ _ _ (λ j. bit_one_more u.done i j e.0)
+          (taken_up _ _ _ _ _ _ S P i u.top _ r.0 (tried_to _ _ _ _ _ _ S P _ U q i e.1 e.2) _ _ _
           (row_span a.tail.now a.head.now S i r.0 (H i r.0)).3 r.1 (rw w.0.true at c.before.has_room.ensures)
           (λ j. bit_one_more u.top i j e.0) w.2.ensures.1),
     ))
@@ -110,9 +110,9 @@ loop-again c =
       u.invariant.0,
       λ n K f S H P U s.
           let q = u.invariant.1 n K f S H P U s in
-          let r = tried-row _ _ _ _ _ _ S P _ U q i e.1 e.2 in
-          tried-next _ _ _ _ _ _ S P _ U q i e.1 e.2 _ _ _ (λ j. bit_one_more u.done i j e.0)
-          (taken-full _ _ _ _ _ _ S P i u.top _ r.0 (tried-to _ _ _ _ _ _ S P _ U q i e.1 e.2) _
+          let r = tried_row _ _ _ _ _ _ S P _ U q i e.1 e.2 in
+          tried_next _ _ _ _ _ _ S P _ U q i e.1 e.2 _ _ _ (λ j. bit_one_more u.done i j e.0)
+          (taken_full _ _ _ _ _ _ S P i u.top _ r.0 (tried_to _ _ _ _ _ _ S P _ U q i e.1 e.2) _
           (row_span a.tail.now a.head.now S i r.0 (H i r.0)).3 (rw w.0.left at c.before.has_room.ensures)),
     ))
     c.if-has_room.branch
@@ -121,7 +121,7 @@ returns : tie.Need-returns invariant-loop decreases-loop
 returns c =
     let u = c.before.loop-done in
     let e : u.done ≡ c.before.before.args.rows = omega arith in
-    (u.invariant.0, λ n K f S H P U s. tried-end _ _ _ _ _ _ S P _ U (u.invariant.1 n K f S H P U s) e)
+    (u.invariant.0, λ n K f S H P U s. tried_end _ _ _ _ _ _ S P _ U (u.invariant.1 n K f S H P U s) e)
 
 pub take_rows_spec : {M : Type 1} → statement M
 take_rows_spec =

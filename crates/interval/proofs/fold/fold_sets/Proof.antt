@@ -8,7 +8,7 @@ use lib.ListN.{length-set}
 use Rattle.numbers.specs.Lists.{at}
 use Rattle.numbers.specs.Word.{bit}
 use Rattle.loads.proofs.Network.{put_set}
-use Rattle.interval.proofs.Folding.{low_le, Folding, folding-start, folding-next, folded-all, folded-none}
+use Rattle.interval.proofs.Folding.{low_le, Folding, folding_start, folding_next, folded_all, folded_none}
 use Rattle.interval.proofs.fold.fold_sets.Statement.{statement}
 use Rattle.interval.proofs.fold.fold_sets.Tie as tie
 
@@ -25,7 +25,7 @@ returns : tie.Need-returns-then-upper-eq0 invariant-loop decreases-loop
 returns c =
     let u = c.before in
     let z = u.before in
-    folded-none z.args.rows z.args.bound z.args.sets _ z.args.words.now z.requires.2 z.requires.1 u.upper_rows-upper.result
+    folded_none z.args.rows z.args.bound z.args.sets _ z.args.words.now z.requires.2 z.requires.1 u.upper_rows-upper.result
     u.upper_rows-upper.ensures c.if-upper-eq0.true
 
 low-sets-requires : tie.Need-low_sets-low-requires invariant-loop decreases-loop
@@ -51,7 +51,7 @@ larger-requires c κs = search rules
 loop-holds : tie.Need-loop-k-init invariant-loop decreases-loop
 loop-holds c =
     let z = c.before.before.before.before.before in
-    (omega arith, folding-start _ _ _ z.args.words.now z.requires.2 z.requires.1)
+    (omega arith, folding_start _ _ _ z.args.words.now z.requires.2 z.requires.1)
 
 -- the word is one of the list
 within : (l : tie.In-loop-k invariant-loop decreases-loop) → l.before.loop-k.k < l.before.before.before.before.before.before.before.args.sets
@@ -98,7 +98,7 @@ loop-again c =
     let z = l.before.before.before.before.before.before.before in
     let w = l.before.before.before.before.before.before.upper_rows-upper.result in (
       omega (arith, l.loop-k-test.true),
-      folding-next _ _ _ z.args.words.now z.requires.2 z.requires.1 u.k c.merge.result u.words _ u.invariant.1 (within l)
+      folding_next _ _ _ z.args.words.now z.requires.2 z.requires.1 u.k c.merge.result u.words _ u.invariant.1 (within l)
           (put_set u.words u.k c.merge.result (omega (arith, low l, u.invariant.1.size)))
           (simp length-set u.invariant.1.size)
           (λ i. c.merge.ensures i ∙ ap (λ (v : ℕ). cond (bit w i) (bit v i) (bit (at u.words u.k) i)) h.set_at-high.ensures),
@@ -111,7 +111,7 @@ returns-2 c =
     let f = g.before in
     let z = f.before.before.before.before in
     let e : u.k ≡ g.larger-count.result = omega (arith, u.invariant.0) in
-    folded-all z.args.rows z.args.bound z.args.sets _ z.args.words.now z.requires.2 z.requires.1 _
+    folded_all z.args.rows z.args.bound z.args.sets _ z.args.words.now z.requires.2 z.requires.1 _
     f.before.before.before.upper_rows-upper.ensures f.low_sets-low.result _ u.words f.low_sets-low.ensures g.larger-count.ensures
     (rw e at u.invariant.1)
 

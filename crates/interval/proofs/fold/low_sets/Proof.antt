@@ -8,7 +8,7 @@ use lib.Bits.{bit_and}
 use lib.Dec.{eqb}
 use borrow.Author.Tests.{eq-eqb, ne_eqb}
 use Rattle.numbers.specs.Lists.{at}
-use Rattle.numbers.proofs.Finite.{Sought, sought-start, sought-next, sought-found, sought-end}
+use Rattle.numbers.proofs.Finite.{Sought, sought_start, sought_next, sought_found, sought_end}
 use Rattle.interval.proofs.Folding.{low_front}
 use Rattle.interval.proofs.fold.low_sets.Statement.{statement}
 use Rattle.interval.proofs.fold.low_sets.Tie as tie
@@ -20,7 +20,7 @@ abbrev decreases-loop : tie.decreases-loop-k
 decreases-loop words sets upper k₀ k = sets - k
 
 loop-holds : tie.Need-loop-k-init invariant-loop decreases-loop
-loop-holds c = sought-start
+loop-holds c = sought_start
 
 mul-if1 : tie.Need-offset_bounds-words-k invariant-loop decreases-loop
 mul-if1 c = search rules
@@ -32,7 +32,7 @@ returns : tie.Need-returns-then-words-k-ne0 invariant-loop decreases-loop
 returns c =
     let k = c.before.before in
     let z = k.before.before in
-    sought-found k.before.loop-k.invariant k.loop-k-test.true (ap not (ne_eqb _ 0 c.if-words-k-ne0.true))
+    sought_found k.before.loop-k.invariant k.loop-k-test.true (ap not (ne_eqb _ 0 c.if-words-k-ne0.true))
     ∙ low_front z.args.sets z.args.upper z.args.words.now (omega (arith, z.requires))
 
 add-k : tie.Need-overflow_add-k invariant-loop decreases-loop
@@ -44,14 +44,14 @@ loop-less c = search rules
 loop-again : tie.Need-loop-k-preserved invariant-loop decreases-loop
 loop-again c =
     let k = c.before.before in
-    sought-next k.before.loop-k.invariant k.loop-k-test.true (ap not (eq-eqb _ 0 c.if-words-k-ne0.false))
+    sought_next k.before.loop-k.invariant k.loop-k-test.true (ap not (eq-eqb _ 0 c.if-words-k-ne0.false))
 
 returns-2 : tie.Need-returns invariant-loop decreases-loop
 returns-2 c =
     let z = c.before.before in
     let u = c.before.loop-k in
     let e : u.k ≡ z.args.sets = omega (arith, u.invariant.within) in
-    rw e at (sought-end u.invariant (omega arith)) ∙ low_front z.args.sets z.args.upper z.args.words.now (omega (arith, z.requires))
+    rw e at (sought_end u.invariant (omega arith)) ∙ low_front z.args.sets z.args.upper z.args.words.now (omega (arith, z.requires))
 
 pub low_sets_spec : {M : Type 1} → statement M
 low_sets_spec =

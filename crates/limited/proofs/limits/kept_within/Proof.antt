@@ -3,7 +3,7 @@ use mathlib.Core.Bool.{true, false}
 use native.Mathlib.Omega.{arith}
 use borrow.Author.Rules.{rules}
 use Rattle.limited.specs.Limits.{labelled}
-use Rattle.limited.proofs.Within.{limited_small, limit-answers, both-answer}
+use Rattle.limited.proofs.Within.{limited_small, limit_answers, both_answer}
 use Rattle.limited.proofs.limits.kept_within.Statement.{statement}
 use Rattle.limited.proofs.limits.kept_within.Tie as tie
 
@@ -43,9 +43,9 @@ returns c t L =
     let our = their.before in
     let a = our.before.args in
     let label = a.label.now in
-    both-answer (labelled t label) a.limits.ours a.limits.theirs
-    (limit-answers L label false a.limits.ours 21 _ our.lowest_over-our.ensures (omega arith) _ first.over_at-of_ours.ensures)
-    (limit-answers L label true a.limits.theirs 22 _ their.lowest_over-their.ensures (omega arith) _ second.over_at-of_theirs.ensures)
+    both_answer (labelled t label) a.limits.ours a.limits.theirs
+    (limit_answers L label false a.limits.ours 21 _ our.lowest_over-our.ensures (omega arith) _ first.over_at-of_ours.ensures)
+    (limit_answers L label true a.limits.theirs 22 _ their.lowest_over-their.ensures (omega arith) _ second.over_at-of_theirs.ensures)
     c.first_of.ensures
 
 pub kept_within_spec : {M : Type 1} → statement M

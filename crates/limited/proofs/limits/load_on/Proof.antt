@@ -8,7 +8,7 @@ use Rattle.numbers.specs.Lists.{at}
 use Rattle.numbers.specs.Word.{bit}
 use Rattle.rules.specs.Parties.{owns}
 use Rattle.limited.specs.Limits.{party, weight_on}
-use Rattle.limited.proofs.Weighing.{weight_none, weight-more, weight-same, weight_small}
+use Rattle.limited.proofs.Weighing.{weight_none, weight_more, weight_same, weight_small}
 use Rattle.limited.proofs.limits.load_on.Statement.{statement}
 use Rattle.limited.proofs.limits.load_on.Tie as tie
 
@@ -67,9 +67,9 @@ loop-again c =
       omega arith,
       ⊎_elim
           (λ t. t.2 ∙ ap₂ (λ (x y : ℕ). x + y) u.loop-i.invariant.1 t.1.ensures
-          ∙ sym (weight-more a.rate.now a.segments.now a.label.now a.theirs a.s i (sym counted ∙ t.0.true)))
+          ∙ sym (weight_more a.rate.now a.segments.now a.label.now a.theirs a.s i (sym counted ∙ t.0.true)))
           (λ t. t.1 ∙ u.loop-i.invariant.1
-          ∙ sym (weight-same a.rate.now a.segments.now a.label.now a.theirs a.s i (sym counted ∙ t.0.left)))
+          ∙ sym (weight_same a.rate.now a.segments.now a.label.now a.theirs a.s i (sym counted ∙ t.0.left)))
           c.if-counts.branch,
     )
 

@@ -5,7 +5,7 @@ use native.Mathlib.Nat.{mul-le-mul}
 use native.Mathlib.Omega.{arith}
 use borrow.Author.Tests.{lt-ltb, le-ltb}
 use lib.Dec.{ltb}
-use Rattle.numbers.proofs.Finite.{Sought, sought-start, sought-next, sought-found, sought-end}
+use Rattle.numbers.proofs.Finite.{Sought, sought_start, sought_next, sought_found, sought_end}
 use Rattle.limited.specs.Limits.{weight_on}
 use Rattle.limited.proofs.limits.lowest_over.Statement.{statement}
 use Rattle.limited.proofs.limits.lowest_over.Tie as tie
@@ -21,7 +21,7 @@ mul_most : tie.Need-overflow_mul-most invariant-loop decreases-loop
 mul_most c = omega (arith, mul-le-mul c.requires.3 c.requires.2)
 
 loop-holds : tie.Need-loop-s-init invariant-loop decreases-loop
-loop-holds c = sought-start
+loop-holds c = sought_start
 
 load-on-requires : tie.Need-load_on-requires invariant-loop decreases-loop
 load-on-requires c κs = (c.before.before.requires.0, omega (arith, c.before.before.requires.1))
@@ -38,7 +38,7 @@ compared : (c : tie.After-load_on invariant-loop decreases-loop)
 compared c = let a = c.before.before.before.args in ap (λ (x : ℕ). ltb (a.limit * a.hyper) (1000 * x)) (sym c.load_on.ensures.0)
 
 returns : tie.Need-returns-then-most-load_on invariant-loop decreases-loop
-returns c = sought-found c.before.before.before.loop-s.invariant (omega arith) (compared c.before ∙ lt-ltb _ _ c.if-most-load_on.true)
+returns c = sought_found c.before.before.before.loop-s.invariant (omega arith) (compared c.before ∙ lt-ltb _ _ c.if-most-load_on.true)
 
 add-s : tie.Need-overflow_add-s invariant-loop decreases-loop
 add-s c = omega (arith, c.before.before.before.before.requires.1)
@@ -47,10 +47,10 @@ loop-less : tie.Need-loop-s-smaller invariant-loop decreases-loop
 loop-less c = omega arith
 
 loop-again : tie.Need-loop-s-preserved invariant-loop decreases-loop
-loop-again c = sought-next c.before.before.before.loop-s.invariant (omega arith) (compared c.before ∙ le-ltb _ _ c.if-most-load_on.false)
+loop-again c = sought_next c.before.before.before.loop-s.invariant (omega arith) (compared c.before ∙ le-ltb _ _ c.if-most-load_on.false)
 
 returns-2 : tie.Need-returns invariant-loop decreases-loop
-returns-2 c = sought-end c.before.loop-s.invariant (omega arith)
+returns-2 c = sought_end c.before.loop-s.invariant (omega arith)
 
 pub lowest_over_spec : {M : Type 1} → statement M
 lowest_over_spec =

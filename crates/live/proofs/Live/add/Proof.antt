@@ -19,8 +19,8 @@ use Rattle.table.proofs.Faults.{faults_numbered, row_sound}
 use Rattle.live.specs.Seats.{equal}
 use Rattle.live.specs.State.{live_of, entry_of, row_of, PutIn}
 use Rattle.live.specs.Answers.{Sized}
-use Rattle.live.proofs.Answering.{answer_done, some_free, SeatNumber, add-off, add-fault, add-found, add-clear, add-long, add_done}
-use Rattle.live.proofs.Answering.{put-long, put-short}
+use Rattle.live.proofs.Answering.{answer_done, some_free, SeatNumber, add_off, add_fault, add_found, add_clear, add_long, add_done}
+use Rattle.live.proofs.Answering.{put_long, put_short}
 use Rattle.live.proofs.Live.add.Statement.{statement}
 use Rattle.live.proofs.Live.add.Tie as tie
 
@@ -81,7 +81,7 @@ clear : (c : tie.Else-other-ne-DONE)
 clear c =
     let b = c.before in
     let z = start b in
-    add-clear z.args.self z.args.entry (sized z) (ordered (sound b).before.before.before) (clean (sound b))
+    add_clear z.args.self z.args.entry (sized z) (ordered (sound b).before.before.before) (clean (sound b))
     b.earlier_of-other.result (found b b.earlier_of-other.ensures) c.if-other-ne-DONE.false
 
 -- the place that is found is the lowest free one
@@ -104,7 +104,7 @@ returns : tie.Need-returns-then-not-is_in_order
 returns c =
     let z = c.before.before.before in
     rw c.refused.ensures
-    (add-off z.args.self z.args.entry (sized z) (denied c.before.before.is_in_order.ensures c.before.if-not-is_in_order.true))
+    (add_off z.args.self z.args.entry (sized z) (denied c.before.before.is_in_order.ensures c.before.if-not-is_in_order.true))
 
 clockwise-requires : tie.Need-clockwise-row-requires
 clockwise-requires c κs = search rules
@@ -120,7 +120,7 @@ returns-2 c =
     let r = c.before.before in
     let z = r.before.before.before.before in
     rw c.refused-then-number-ne-DONE.ensures
-    (add-fault z.args.self z.args.entry (sized z) (ordered r.before.before) _ c.before.if-number-ne-DONE.true
+    (add_fault z.args.self z.args.entry (sized z) (ordered r.before.before) _ c.before.if-number-ne-DONE.true
     (rw r.before.clockwise-row.ensures at r.row_fault-number.ensures))
 
 has-row-requires : tie.Need-has_row-pasted-requires
@@ -140,7 +140,7 @@ returns-3 c =
     let b = c.before.before in
     let z = start b in
     rw c.refused-then-other-ne-DONE.ensures
-    (add-found z.args.self z.args.entry (sized z) (ordered (sound b).before.before.before) (clean (sound b))
+    (add_found z.args.self z.args.entry (sized z) (ordered (sound b).before.before.before) (clean (sound b))
     b.earlier_of-other.result (found b b.earlier_of-other.ensures) c.before.if-other-ne-DONE.true)
 
 put-requires : tie.Need-put-after-requires
@@ -158,8 +158,8 @@ returns-4 c =
     let b = e.before in
     let z = start b in
     rw c.refused-then-after-eq0.ensures
-    (add-long z.args.self z.args.entry (sized z) (ordered (sound b).before.before.before) (clean (sound b)) (clear e).0
-    (some_free (live_of z.args.self) (clear e).1) (put-long (sized z) (clear e).1 (placed p) c.before.if-after-eq0.true))
+    (add_long z.args.self z.args.entry (sized z) (ordered (sound b).before.before.before) (clean (sound b)) (clear e).0
+    (some_free (live_of z.args.self) (clear e).1) (put_long (sized z) (clear e).1 (placed p) c.before.if-after-eq0.true))
 
 done-requires : tie.Need-done-requires
 done-requires c κs = search rules
@@ -176,7 +176,7 @@ returns-5 c =
     rw (answer_done _ c.done.ensures, same e)
     (add_done z.args.self z.args.entry (sized z) (ordered (sound b).before.before.before) (clean (sound b)) (clear e).0
     (some_free (live_of z.args.self) (clear e).1) (clear e).1
-    (put-short (sized z) (clear e).1 (placed p) c.before.if-after-eq0.false) (placed p))
+    (put_short (sized z) (clear e).1 (placed p) c.before.if-after-eq0.false) (placed p))
 
 pub add_spec : {M : Type 1} → statement M
 add_spec =

@@ -4,7 +4,7 @@ use Rattle.numbers.proofs.Truth.{denied, granted, decides_no}
 use Rattle.rules.specs.Live.{Seated}
 use Rattle.live.specs.State.{live_of}
 use Rattle.live.proofs.State.{live_passing, passing_periods, capped_small}
-use Rattle.live.proofs.Order.{seated_with, none-short, another, sums-decide}
+use Rattle.live.proofs.Order.{seated_with, none_short, another, sums_decide}
 use Rattle.live.proofs.Live.is_in_order.Statement.{statement}
 use Rattle.live.proofs.Live.is_in_order.Tie as tie
 
@@ -26,7 +26,7 @@ denominator-of-requires c κs =
     passing_periods _ (live_passing (live_of (start c.before.before.before).args.self) S.high S.place)
 
 returns-2 : tie.Need-returns-then-d-eq0
-returns-2 c = decides_no (none-short (start c.before.before.before.before.before).args.self c.before.denominator_of-d.ensures c.if-d-eq0.true)
+returns-2 c = decides_no (none_short (start c.before.before.before.before.before).args.self c.before.denominator_of-d.ensures c.if-d-eq0.true)
 
 returns-3 : tie.Need-returns-then-d-live
 returns-3 c =
@@ -49,7 +49,7 @@ returns-4 c =
     let e = s.before.before.before.before.before.before in
     let d = e.before.before in
     let live = (start d.before.before.before.before).args.self in
-    sums-decide live d.denominator_of-d.ensures e.before.if-d-eq0.false e.if-d-live.false (seated d.before.before.before)
+    sums_decide live d.denominator_of-d.ensures e.before.if-d-eq0.false e.if-d-live.false (seated d.before.before.before)
     s.sums_of-sums.result
     (s.sums_of-sums.ensures.1 live.label) c.are_same.ensures
 

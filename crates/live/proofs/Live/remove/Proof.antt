@@ -9,7 +9,7 @@ use Rattle.numbers.proofs.Truth.{denied, granted}
 use Rattle.rules.specs.Live.{InOrder}
 use Rattle.live.specs.State.{live_of}
 use Rattle.live.specs.Answers.{Sized}
-use Rattle.live.proofs.Answering.{answer_done, remove-off, remove-none, remove-done}
+use Rattle.live.proofs.Answering.{answer_done, remove_off, remove_none, remove_done}
 use Rattle.live.proofs.Live.remove.Statement.{statement}
 use Rattle.live.proofs.Live.remove.Tie as tie
 
@@ -36,7 +36,7 @@ returns : tie.Need-returns-then-not-is_in_order
 returns c =
     let z = c.before.before.before in
     rw c.refused.ensures
-    (remove-off z.args.self z.args.k (sized z) (denied c.before.before.is_in_order.ensures c.before.if-not-is_in_order.true))
+    (remove_off z.args.self z.args.k (sized z) (denied c.before.before.is_in_order.ensures c.before.if-not-is_in_order.true))
 
 refused-requires-2 : tie.Need-refused-requires-then-k-ge-ROWS
 refused-requires-2 c κs = search rules
@@ -45,7 +45,7 @@ returns-2 : tie.Need-returns-then-k-ge-ROWS
 returns-2 c =
     let z = c.before.before.before.before in
     rw c.refused-then-k-ge-ROWS.ensures
-    (remove-none z.args.self z.args.k (sized z) (ordered c.before.before) (inl (omega (arith, c.before.if-k-ge-ROWS.true))))
+    (remove_none z.args.self z.args.k (sized z) (ordered c.before.before) (inl (omega (arith, c.before.if-k-ge-ROWS.true))))
 
 slots-at-requires : tie.Need-slots_at-requires
 slots-at-requires c κs = search rules
@@ -58,7 +58,7 @@ returns-3 c =
     let z = c.before.before.before.before.before.before.before.before in
     let p = at z.args.self.period z.args.k in
     rw c.refused-then-slots_at-eq0.ensures
-    (remove-none z.args.self z.args.k (sized z) (ordered c.before.before.before.before.before.before)
+    (remove_none z.args.self z.args.k (sized z) (ordered c.before.before.before.before.before.before)
     (inr (λ t. omega (arith, ltb→lt 0 p t, c.before.before.slots_at.ensures, c.before.if-slots_at-eq0.true))))
 
 done-requires : tie.Need-done-requires
@@ -76,7 +76,7 @@ returns-4 c =
     let z = c.before.before.before.before.before.before.before.before.before in
     let p = at z.args.self.period z.args.k in
     rw (answer_done _ c.before.done.ensures)
-    (remove-done z.args.self z.args.k (sized z) (ordered c.before.before.before.before.before.before.before) (omega (
+    (remove_done z.args.self z.args.k (sized z) (ordered c.before.before.before.before.before.before.before) (omega (
       arith,
       c.before.before.before.before.before.before.if-k-ge-ROWS.false,
     ))

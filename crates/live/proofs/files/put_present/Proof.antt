@@ -5,7 +5,7 @@ use Prim.Native.Nat.{◌-◌}
 use native.Mathlib.Omega.{arith}
 use borrow.Author.Rules.{rules}
 use Rattle.rules.specs.Bounds.{max_rows}
-use Rattle.live.proofs.Present.{Packing, packing-start, packing-free, packing-held, packing-end}
+use Rattle.live.proofs.Present.{Packing, packing_start, packing_free, packing_held, packing_end}
 use Rattle.live.proofs.files.put_present.Statement.{statement}
 use Rattle.live.proofs.files.put_present.Tie as tie
 
@@ -16,7 +16,7 @@ abbrev decreases-loop : tie.decreases-loop-i
 decreases-loop cost period first second label out₀ rows₀ i₀ out rows i = max_rows - i
 
 loop-holds : tie.Need-loop-i-init invariant-loop decreases-loop
-loop-holds c = packing-start _
+loop-holds c = packing_start _
 
 slots-at-requires : tie.Need-slots_at-requires invariant-loop decreases-loop
 slots-at-requires c κs = search rules
@@ -52,16 +52,16 @@ loop-again c =
     let s = c.before in
     let u = s.before.before in
     ⊎_elim
-    (λ w. rw (w.7, w.8) (packing-held u.loop-i.invariant (omega arith) (λ e. w.0.true (s.slots_at.ensures ∙ e)) u.before.before.requires
+    (λ w. rw (w.7, w.8) (packing_held u.loop-i.invariant (omega arith) (λ e. w.0.true (s.slots_at.ensures ∙ e)) u.before.before.requires
     w.2.ensures w.4.ensures))
-    (λ w. rw (w.1, w.2) (packing-free u.loop-i.invariant (omega arith) (sym s.slots_at.ensures ∙ w.0.left)))
+    (λ w. rw (w.1, w.2) (packing_free u.loop-i.invariant (omega arith) (sym s.slots_at.ensures ∙ w.0.left)))
     c.if-slots_at-ne0.branch
 
 same_length : tie.Need-shape_of-out invariant-loop decreases-loop
 same_length c = c.before.loop-i.invariant.filled.same
 
 returns : tie.Need-returns invariant-loop decreases-loop
-returns c = packing-end c.before.loop-i.invariant (omega arith)
+returns c = packing_end c.before.loop-i.invariant (omega arith)
 
 pub put_present_spec : {M : Type 1} → statement M
 put_present_spec =

@@ -8,7 +8,7 @@ use Rattle.rules.specs.Bounds.{max_rows}
 use Rattle.live.specs.Tally.{column_live}
 use Rattle.live.proofs.Sums.{place_row}
 use Rattle.live.specs.Seats.{Seat}
-use Rattle.live.proofs.Seated.{Upto, upto-start, upto_next, upto-end, upto-stop, seat-of, of-seat}
+use Rattle.live.proofs.Seated.{Upto, upto_start, upto_next, upto_end, upto_stop, seat_of, of_seat}
 use Rattle.live.proofs.seats.are_seats.Statement.{statement}
 use Rattle.live.proofs.seats.are_seats.Tie as tie
 
@@ -19,7 +19,7 @@ abbrev decreases-loop : tie.decreases-loop-i
 decreases-loop elements cost period first second label i₀ i = max_rows - i
 
 loop-holds : tie.Need-loop-i-init invariant-loop decreases-loop
-loop-holds c = upto-start
+loop-holds c = upto_start
 
 mul-row-at : tie.Need-offset_bounds-label-i invariant-loop decreases-loop
 mul-row-at c = search rules
@@ -38,9 +38,9 @@ returns c =
     let s = c.before in
     let r = s.before in
     let u = r.before.before.before in
-    upto-stop u.loop-i.i (omega arith)
+    upto_stop u.loop-i.i (omega arith)
     (λ q. denied s.is_seat.ensures c.if-not-is_seat.true
-    (of-seat (place_row u.before.args.elements (at u.before.args.label.now) r.row_at.ensures) q))
+    (of_seat (place_row u.before.args.elements (at u.before.args.label.now) r.row_at.ensures) q))
 
 add-i : tie.Need-overflow_add-i invariant-loop decreases-loop
 add-i c = search rules
@@ -54,11 +54,11 @@ loop-again c =
     let r = s.before in
     let u = r.before.before.before in
     upto_next u.loop-i.invariant (omega arith)
-    (seat-of (place_row u.before.args.elements (at u.before.args.label.now) r.row_at.ensures)
+    (seat_of (place_row u.before.args.elements (at u.before.args.label.now) r.row_at.ensures)
     (granted s.is_seat.ensures c.if-not-is_seat.false))
 
 returns-2 : tie.Need-returns invariant-loop decreases-loop
-returns-2 c = upto-end c.before.loop-i.invariant (omega arith)
+returns-2 c = upto_end c.before.loop-i.invariant (omega arith)
 
 pub are_seats_spec : {M : Type 1} → statement M
 are_seats_spec =

@@ -10,7 +10,7 @@ use Rattle.numbers.proofs.Truth.{both, of_true, of_false, fst, snd}
 use Rattle.rules.specs.Bounds.{max_rows}
 use Rattle.rules.specs.Bus.{pasted}
 use Rattle.live.specs.Tally.{column_places}
-use Rattle.live.proofs.Seated.{Upto, upto-start, upto_next, upto-end, upto-stop}
+use Rattle.live.proofs.Seated.{Upto, upto_start, upto_next, upto_end, upto_stop}
 use Rattle.live.proofs.seats.are_single.Statement.{statement}
 use Rattle.live.proofs.seats.are_single.Tie as tie
 
@@ -25,7 +25,7 @@ abbrev decreases-loop : tie.decreases-loop-i
 decreases-loop cost period first second i₀ i = max_rows - i
 
 loop-holds : tie.Need-loop-i-init invariant-loop decreases-loop
-loop-holds c = upto-start
+loop-holds c = upto_start
 
 is-repeated-requires : tie.Need-is_repeated-requires invariant-loop decreases-loop
 is-repeated-requires c κs = search rules
@@ -37,7 +37,7 @@ returns c elements =
     let u = d.before.before in
     let z = u.before.args in
     let t = of_true (sym (d.is_repeated.ensures 0) ∙ c.if-is_repeated.true) in
-    upto-stop u.loop-i.i (omega arith)
+    upto_stop u.loop-i.i (omega arith)
     (λ n. n (fst (ltb 0 (at z.period.now u.loop-i.i)) _ t) (snd (ltb 0 (at z.period.now u.loop-i.i)) _ t))
 
 add-i : tie.Need-overflow_add-i invariant-loop decreases-loop
@@ -56,7 +56,7 @@ loop-again c =
 
 returns-2 : tie.Need-returns invariant-loop decreases-loop
 unfolding pasted
-returns-2 c elements = upto-end c.before.loop-i.invariant (omega arith)
+returns-2 c elements = upto_end c.before.loop-i.invariant (omega arith)
 
 pub are_single_spec : {M : Type 1} → statement M
 are_single_spec =

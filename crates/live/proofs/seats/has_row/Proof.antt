@@ -5,7 +5,7 @@ use native.Mathlib.Omega.{arith}
 use borrow.Author.Rules.{rules}
 use Rattle.numbers.specs.Lists.{at}
 use Rattle.numbers.proofs.Truth.{is_true, of_true}
-use Rattle.numbers.proofs.Finite.{any_of, any_none, Sought, sought-start, sought-next}
+use Rattle.numbers.proofs.Finite.{any_of, any_none, Sought, sought_start, sought_next}
 use Rattle.live.specs.Seats.{equal}
 use Rattle.live.proofs.seats.has_row.Statement.{statement}
 use Rattle.live.proofs.seats.has_row.Tie as tie
@@ -17,7 +17,7 @@ abbrev decreases-loop : tie.decreases-loop-j
 decreases-loop count period first second row j₀ j = count - j
 
 loop-holds : tie.Need-loop-j-init invariant-loop decreases-loop
-loop-holds c = sought-start
+loop-holds c = sought_start
 
 is-equal-requires : tie.Need-is_equal-requires invariant-loop decreases-loop
 is-equal-requires c κs = search rules
@@ -37,7 +37,7 @@ loop-less c = search rules
 loop-again : tie.Need-loop-j-preserved invariant-loop decreases-loop
 loop-again c =
     let d = c.before in
-    sought-next d.before.before.loop-j.invariant (omega arith) (sym d.is_equal.ensures ∙ c.if-is_equal.false)
+    sought_next d.before.before.loop-j.invariant (omega arith) (sym d.is_equal.ensures ∙ c.if-is_equal.false)
 
 returns-2 : tie.Need-returns invariant-loop decreases-loop
 returns-2 c =

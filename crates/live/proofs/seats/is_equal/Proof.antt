@@ -4,7 +4,7 @@ use Prim.Native.Nat.{ℕ}
 use borrow.Author.Rules.{rules}
 use lib.Dec.{eqb}
 use Rattle.numbers.specs.Lists.{at}
-use Rattle.live.proofs.Seated.{first-differs, second-differs, third-decides}
+use Rattle.live.proofs.Seated.{first_differs, second_differs, third_decides}
 use Rattle.live.proofs.seats.is_equal.Statement.{statement}
 use Rattle.live.proofs.seats.is_equal.Tie as tie
 
@@ -18,7 +18,7 @@ returns : tie.Need-returns-then-end_at-row
 returns c =
     let d = c.before.before in
     let z = d.before.args in
-    first-differs (at z.first.now z.j) (at z.second.now z.j) (at z.period.now z.j) z.row.first z.row.second
+    first_differs (at z.first.now z.j) (at z.second.now z.j) (at z.period.now z.j) z.row.first z.row.second
     z.row.period (λ e. c.if-end_at-row.true (d.end_at.ensures ∙ e))
 
 end-at-requires-2 : tie.Need-end_at-requires-2
@@ -32,7 +32,7 @@ returns-2 c =
     let s = c.before.before in
     let d = s.before.before.before in
     let z = d.before.args in
-    second-differs (at z.first.now z.j) (at z.second.now z.j) (at z.period.now z.j) z.row.first z.row.second
+    second_differs (at z.first.now z.j) (at z.second.now z.j) (at z.period.now z.j) z.row.first z.row.second
     z.row.period (sym d.end_at.ensures ∙ s.before.if-end_at-row.false) (λ e. c.if-end_at-row-2.true (s.end_at-2.ensures ∙ e))
 
 slots-at-requires : tie.Need-slots_at-requires
@@ -48,7 +48,7 @@ returns-3 c =
     let d = s.before.before.before in
     let z = d.before.args in
     ap (λ (p : ℕ). eqb p z.row.period) c.before.slots_at.ensures
-    ∙ third-decides (at z.first.now z.j) (at z.second.now z.j) (at z.period.now z.j) z.row.first z.row.second
+    ∙ third_decides (at z.first.now z.j) (at z.second.now z.j) (at z.period.now z.j) z.row.first z.row.second
     z.row.period (sym d.end_at.ensures ∙ s.before.if-end_at-row.false) (sym s.end_at-2.ensures ∙ e.if-end_at-row-2.false)
 
 pub is_equal_spec : {M : Type 1} → statement M

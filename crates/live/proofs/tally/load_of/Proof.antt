@@ -3,7 +3,7 @@ use Prim.Native.Nat.{◌*◌, ◌/◌, ◌≤◌, ◌<◌}
 use native.Mathlib.Omega.{arith}
 use borrow.Author.Rules.{rules}
 use Rattle.table.specs.Rows.{single}
-use Rattle.live.proofs.Sums.{free-adds, apart-adds, row-adds, adds_little}
+use Rattle.live.proofs.Sums.{free_adds, apart_adds, row_adds, adds_little}
 use Rattle.live.proofs.tally.load_of.Statement.{statement}
 use Rattle.live.proofs.tally.load_of.Tie as tie
 
@@ -19,7 +19,7 @@ small c = adds_little _ _ _ ((start c).requires.3 (present c)).cost_high
 returns : tie.Need-returns-then-row-eq0
 returns c =
     let z = c.before.before.args in
-    (free-adds z.d (single z.elements 1 z.row) z.s c.if-row-eq0.true, omega arith)
+    (free_adds z.d (single z.elements 1 z.row) z.s c.if-row-eq0.true, omega arith)
 
 cast-segments : tie.Need-overflow_cast-row
 cast-segments c = search rules
@@ -46,7 +46,7 @@ shr-if2 c = search rules
 returns-2 : tie.Need-returns-then-word-s-eq0
 returns-2 c =
     let z = c.before.before.before.before.before.before in (
-      apart-adds z.args.d (single z.args.elements 1 z.args.row) z.args.s z.requires.2
+      apart_adds z.args.d (single z.args.elements 1 z.args.row) z.args.s z.requires.2
           (omega (arith, (z.requires.3 (omega (arith, c.before.before.before.before.if-row-eq0.false))).way_known)) _
           c.before.segments-word.ensures c.if-word-s-eq0.true,
       omega arith,
@@ -68,7 +68,7 @@ returns-3 : tie.Need-returns
 returns-3 c =
     let b = c.before.before in
     let z = start c in (
-      row-adds z.args.d (single z.args.elements 1 z.args.row) z.args.s z.requires.2
+      row_adds z.args.d (single z.args.elements 1 z.args.row) z.args.s z.requires.2
           (omega (arith, (z.requires.3 (present c)).way_known)) _ b.before.segments-word.ensures (
           present c)
           b.if-word-s-eq0.false,

@@ -6,7 +6,7 @@ use borrow.Author.Rules.{rules}
 use Rattle.rules.specs.Bounds.{max_rows}
 use Rattle.rules.specs.Live.{sum_over}
 use Rattle.live.specs.Tally.{column_places}
-use Rattle.live.proofs.Sums.{Adding, adding-start, adding-next, adding_end, place_row, row_alone, load_alone}
+use Rattle.live.proofs.Sums.{Adding, adding_start, adding_next, adding_end, place_row, row_alone, load_alone}
 use Rattle.live.proofs.tally.sum_of.Statement.{statement}
 use Rattle.live.proofs.tally.sum_of.Tie as tie
 
@@ -17,7 +17,7 @@ abbrev decreases-loop : tie.decreases-loop-i
 decreases-loop elements d cost period first second s total₀ i₀ total i = max_rows - i
 
 loop-holds : tie.Need-loop-i-init invariant-loop decreases-loop
-loop-holds c = adding-start
+loop-holds c = adding_start
 
 row-at-requires : tie.Need-row_at-requires invariant-loop decreases-loop
 row-at-requires c κs = search rules
@@ -42,7 +42,7 @@ loop-again : tie.Need-loop-i-preserved invariant-loop decreases-loop
 loop-again c =
     let u = c.before.before.before in
     let z = u.before.args in
-    adding-next _ u.loop-i.invariant (omega arith)
+    adding_next _ u.loop-i.invariant (omega arith)
     (c.load_of-total.ensures.0 ∙ load_alone z.d z.s (place_row z.elements (λ j. 0) c.before.row_at.ensures))
     c.load_of-total.ensures.1
 

@@ -13,8 +13,8 @@ use Rattle.numbers.proofs.Word.{bit_shr, bit_zero}
 use Rattle.loads.specs.Network.{nodes_most, Net, Circulation}
 use Rattle.loads.specs.Way.{WaysFrom, Done, Wired, Narrow, Shown}
 use Rattle.loads.proofs.Words.{bit_one_more, bit_first, bit_odd, in_first, fewer}
-use Rattle.loads.proofs.Ways.{reached-start, done-start, done-shut, out-node, into-node}
-use Rattle.loads.proofs.Ways.{leave-line, leave-reached, leave-done, leave_within}
+use Rattle.loads.proofs.Ways.{reached_start, done_start, done_shut, out_node, into_node}
+use Rattle.loads.proofs.Ways.{leave_line, leave_reached, leave_done, leave_within}
 use Rattle.loads.proofs.flow.find_way.Statement.{statement}
 use Rattle.loads.proofs.flow.find_way.Tie as tie
 
@@ -61,8 +61,8 @@ loop-holds c =
       λ v q. absurd (false≢true (sym (bit_zero v) ∙ q)),
       λ n K W N sK v q. let e : v ≡ s = eqb-true v s (sym (bit_first s v l) ∙ q) in omega arith,
       λ n K G may x W N sK S circ. (
-        reached-start n G may x s _ _ circ (λ v. bit_first s v l) (zeros_at nodes_most s),
-        done-start G may x _,
+        reached_start n G may x s _ _ circ (λ v. bit_first s v l) (zeros_at nodes_most s),
+        done_start G may x _,
       ),
     )
 
@@ -103,7 +103,7 @@ visit-requires c κs =
     let q = (entry p).requires in (
       λ i b. omega (
         arith,
-        q.2.ends i (out-node _ _ _ _ _ _ q.2 p.pick-u.result i (entry p).args.arcs.up (on_line p) b).0,
+        q.2.ends i (out_node _ _ _ _ _ _ q.2 p.pick-u.result i (entry p).args.arcs.up (on_line p) b).0,
         q.2.few_nodes,
       ),
       (state p).loop-seen.invariant.0,
@@ -122,7 +122,7 @@ visit-requires-2 c κs =
     let q = (entry p).requires in (
       λ i b. omega (
         arith,
-        q.2.ends i (into-node _ _ _ _ _ _ q.2 p.pick-u.result i (entry p).args.arcs.down (on_line p) b).0,
+        q.2.ends i (into_node _ _ _ _ _ _ q.2 p.pick-u.result i (entry p).args.arcs.down (on_line p) b).0,
         q.2.few_nodes,
       ),
       v.visit-ahead.ensures.0,
@@ -179,14 +179,14 @@ loop-again c =
       leave_within u L.seen c.step_up-seen.result L.done _ wider (picked p).0 (λ v. bit_one_more L.done u v l) L.invariant.1,
       λ n K W N sK.
           let line = L.invariant.2 n K W N sK in
-          leave-line n K _ _ _ _ W i.arcs N u _ L.seen _ _ _ c.step_up-seen.result _ _ _ _ _ (line u (picked p).0) a b d e.1 line,
+          leave_line n K _ _ _ _ W i.arcs N u _ L.seen _ _ _ c.step_up-seen.result _ _ _ _ _ (line u (picked p).0) a b d e.1 line,
       λ n K G may x W N sK S circ.
           let R = L.invariant.3 n K G may x W N sK S circ in
           let ul = L.invariant.2 n K W N sK u (picked p).0 in (
-            leave-reached n K _ _ _ _ W i.arcs N G may x S i.s u _ L.seen _ _ _ c.step_up-seen.result _ _ _ _ _ ul (picked p).0
+            leave_reached n K _ _ _ _ W i.arcs N G may x S i.s u _ L.seen _ _ _ c.step_up-seen.result _ _ _ _ _ ul (picked p).0
                 refl
                 a b d e.1 R.0,
-            leave-done n K _ _ _ _ W i.arcs N G may x S i.s u _ L.seen _ _ _ c.step_up-seen.result _ _ _ _ _ ul (picked p).0 refl
+            leave_done n K _ _ _ _ W i.arcs N G may x S i.s u _ L.seen _ _ _ c.step_up-seen.result _ _ _ _ _ ul (picked p).0 refl
                 a b d e.1 L.done _ (λ v. bit_one_more L.done u v l) R.1,
           ),
     )
@@ -209,7 +209,7 @@ returns-2 c n K G may x W N sK tK S circ =
       found = λ q.
           let w = R.0.way t (sym (bit_shr u.seen t) ∙ q) in
           (bit u.seen, w.0, w.1, w.2);
-      none = λ q. (bit u.seen, R.0.start, sym (bit_shr u.seen t) ∙ q, done-shut G may x u.seen u.done same R.1);
+      none = λ q. (bit u.seen, R.0.start, sym (bit_shr u.seen t) ∙ q, done_shut G may x u.seen u.done same R.1);
     }
 
 pub find_way_spec : {M : Type 1} → statement M

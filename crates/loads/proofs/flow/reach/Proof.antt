@@ -5,7 +5,7 @@ use native.Mathlib.Omega.{arith}
 use lib.ListN.{length-set}
 use Rattle.loads.proofs.Network.{put_set}
 use Rattle.loads.proofs.Words.{bit_one_more, bit_odd, bit_even}
-use Rattle.loads.proofs.Ways.{entered-seen, entered-new}
+use Rattle.loads.proofs.Ways.{entered_seen, entered_new}
 use Rattle.loads.proofs.flow.reach.Statement.{statement}
 use Rattle.loads.proofs.flow.reach.Tie as tie
 
@@ -16,7 +16,7 @@ returns : tie.Need-returns-then-seen-p-eq1
 returns c =
     let z = c.before in
     let a = z.args in
-    (z.requires.1, entered-seen a.seen _ a.p a.w (bit_odd a.seen a.p c.if-seen-p-eq1.true))
+    (z.requires.1, entered_seen a.seen _ a.p a.w (bit_odd a.seen a.p c.if-seen-p-eq1.true))
 
 mul-by : tie.Need-offset_bounds-by-p
 mul-by c = search rules
@@ -33,7 +33,7 @@ returns-2 c =
     let a = z.args in
     let l : a.p < 64 = omega (arith, z.requires.0) in (
       simp length-set z.requires.1,
-      entered-new a.seen _ a.p a.w _ _ (bit_even a.seen a.p c.if-seen-p-eq1.false) (λ v. bit_one_more a.seen a.p v l)
+      entered_new a.seen _ a.p a.w _ _ (bit_even a.seen a.p c.if-seen-p-eq1.false) (λ v. bit_one_more a.seen a.p v l)
           (put_set a.by.now a.p a.w (omega (arith, z.requires.0, z.requires.1))),
     )
 

@@ -3,7 +3,7 @@ use borrow.Author.Rules.{rules}
 use native.Mathlib.Omega.{arith}
 use Prim.Native.Nat.{◌-◌}
 use Rattle.loads.proofs.Words.{bit_none, bit_some}
-use Rattle.loads.proofs.Ways.{entered-not, entered_on}
+use Rattle.loads.proofs.Ways.{entered_not, entered_on}
 use Rattle.loads.proofs.flow.step_down.Statement.{statement}
 use Rattle.loads.proofs.flow.step_down.Tie as tie
 
@@ -14,7 +14,7 @@ returns : tie.Need-returns-then-more-u-eq0
 returns c =
     let z = c.before in
     let a = z.args in
-    (z.requires.2, entered-not a.seen _ _ (a.u - 1) a.way (bit_none a.more a.u c.if-more-u-eq0.true))
+    (z.requires.2, entered_not a.seen _ _ (a.u - 1) a.way (bit_none a.more a.u c.if-more-u-eq0.true))
 
 sub-reach : tie.Need-overflow_sub-u
 sub-reach c = let z = c.before in omega (arith, z.requires.1 (bit_some z.args.more z.args.u c.if-more-u-eq0.false))

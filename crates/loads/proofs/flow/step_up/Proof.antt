@@ -2,7 +2,7 @@
 use borrow.Author.Rules.{rules}
 use Prim.Native.Nat.{◌+◌}
 use Rattle.loads.proofs.Words.{bit_none, bit_some}
-use Rattle.loads.proofs.Ways.{entered-not, entered_on}
+use Rattle.loads.proofs.Ways.{entered_not, entered_on}
 use Rattle.loads.proofs.flow.step_up.Statement.{statement}
 use Rattle.loads.proofs.flow.step_up.Tie as tie
 
@@ -13,7 +13,7 @@ returns : tie.Need-returns-then-less-u-eq0
 returns c =
     let z = c.before in
     let a = z.args in
-    (z.requires.2, entered-not a.seen _ _ (a.u + 1) a.way (bit_none a.less a.u c.if-less-u-eq0.true))
+    (z.requires.2, entered_not a.seen _ _ (a.u + 1) a.way (bit_none a.less a.u c.if-less-u-eq0.true))
 
 add-reach : tie.Need-overflow_add-u
 add-reach c = search rules

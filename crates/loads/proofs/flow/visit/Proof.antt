@@ -11,7 +11,7 @@ use Rattle.numbers.proofs.Word.{bit_zero}
 use Rattle.loads.specs.Network.{nodes_most}
 use Rattle.loads.specs.Way.{Visited}
 use Rattle.loads.proofs.Words.{bit_one_more, in_first, fewer, one_of}
-use Rattle.loads.proofs.Ways.{visit-start, visit-next}
+use Rattle.loads.proofs.Ways.{visit_start, visit_next}
 use Rattle.loads.proofs.flow.visit.Statement.{statement}
 use Rattle.loads.proofs.flow.visit.Tie as tie
 
@@ -30,7 +30,7 @@ picked : (p : tie.After-pick-i invariant-loop decreases-loop)
 picked p = in_first _ _ p.pick-i.ensures.1 (p.before.before.loop-done.invariant.1 p.pick-i.result)
 
 loop-holds : tie.Need-loop-done-init invariant-loop decreases-loop
-loop-holds c = (c.requires.1, λ i q. absurd (false≢true (sym (bit_zero i) ∙ q)), visit-start c.args.rows _ _ _ _)
+loop-holds c = (c.requires.1, λ i q. absurd (false≢true (sym (bit_zero i) ∙ q)), visit_start c.args.rows _ _ _ _)
 
 -- its far end is a node
 near : (p : tie.After-pick-i invariant-loop decreases-loop) → at p.before.before.before.args.far.now p.pick-i.result < nodes_most
@@ -71,7 +71,7 @@ loop-again c =
     let e = c.reach-all.ensures in (
       e.0,
       λ v q. one_of (bit u.done v) v i (sym (bit_one_more u.done i v l) ∙ q) (u.invariant.1 v) (λ k. rw k (picked p).0),
-      visit-next a.rows _ _ _ _ u.done _ i _ _ _ _ _ u.invariant.2 (λ v. bit_one_more u.done i v l)
+      visit_next a.rows _ _ _ _ u.done _ i _ _ _ _ _ u.invariant.2 (λ v. bit_one_more u.done i v l)
           (λ v. bit_one_more a.way i v l) e.1,
     )
 

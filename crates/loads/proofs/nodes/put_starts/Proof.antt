@@ -13,8 +13,8 @@ use Rattle.numbers.proofs.Truth.{of_true, of_false}
 use Rattle.numbers.proofs.Finite.{lowest_is, lowest_none}
 use Rattle.loads.specs.Network.{nodes_most}
 use Rattle.loads.specs.Ranges.{lowest_set}
-use Rattle.loads.proofs.Leaving.{Leaving, leaving_start, leaving-next, leaving-end}
-use Rattle.loads.proofs.Sorted.{Sorted, sorted_start, sorted_more, sorted-end}
+use Rattle.loads.proofs.Leaving.{Leaving, leaving_start, leaving_next, leaving_end}
+use Rattle.loads.proofs.Sorted.{Sorted, sorted_start, sorted_more, sorted_end}
 use Rattle.loads.proofs.nodes.put_starts.Statement.{statement}
 use Rattle.loads.proofs.nodes.put_starts.Tie as tie
 
@@ -78,7 +78,7 @@ loop-again c =
     let a = z.args in
     let w = at a.words.now u.k in (
       omega arith,
-      leaving-next u.invariant.1 w u.k p.put.ensures _
+      leaving_next u.invariant.1 w u.k p.put.ensures _
           (λ i m o b. sym (lowest_is a.sets (λ j. bit (at a.words.now j) i) u.k l.loop-k-test.true (of_true b) o))
           (λ i o b. below_more _ _ o (of_false b)),
       simp length-set u.invariant.2,
@@ -109,9 +109,9 @@ returns c =
     let u = p.before.before.before.loop-k in
     let z = p.before.before.before.before.before in
     let a = z.args in (
-      leaving-end u.invariant.1 a.sets p.put-2.ensures
+      leaving_end u.invariant.1 a.sets p.put-2.ensures
           (λ i m o. sym (lowest_none a.sets (λ j. bit (at a.words.now j) i) (λ j l. o j (omega (arith, u.invariant.0))))),
-      λ v i l. sorted-end u.invariant.1 u.out a.sets u.invariant.3 (omega (arith, u.invariant.2, z.requires.1)) p.put-2.ensures v i,
+      λ v i l. sorted_end u.invariant.1 u.out a.sets u.invariant.3 (omega (arith, u.invariant.2, z.requires.1)) p.put-2.ensures v i,
     )
 
 pub put_starts_spec : {M : Type 1} → statement M

@@ -14,8 +14,8 @@ use Rattle.numbers.proofs.Truth.{of_true, of_false}
 use Rattle.numbers.proofs.Finite.{highest_is, highest_none}
 use Rattle.loads.specs.Network.{nodes_most}
 use Rattle.loads.specs.Ranges.{highest_set}
-use Rattle.loads.proofs.Leaving.{Leaving, leaving_start, leaving-next, leaving-end}
-use Rattle.loads.proofs.Sorted.{Sorted, sorted_start, sorted_more, sorted-end}
+use Rattle.loads.proofs.Leaving.{Leaving, leaving_start, leaving_next, leaving_end}
+use Rattle.loads.proofs.Sorted.{Sorted, sorted_start, sorted_more, sorted_end}
 use Rattle.loads.proofs.nodes.put_stops.Statement.{statement}
 use Rattle.loads.proofs.nodes.put_stops.Tie as tie
 
@@ -102,7 +102,7 @@ loop-again c =
     let w = at a.words.now (u.k - 1) in
     let h : 0 < u.k = omega (arith, l.loop-k-test.true) in (
       omega arith,
-      leaving-next u.invariant.1 w u.k p.put.ensures _
+      leaving_next u.invariant.1 w u.k p.put.ensures _
           (λ i m o b. above_is a.sets u.k (λ j. bit (at a.words.now j) i) h u.invariant.0 o (of_true b))
           (λ i o b. above_next a.sets u.k (λ j. bit (at a.words.now j) i) h o (of_false b)),
       simp length-set u.invariant.2,
@@ -124,9 +124,9 @@ returns c =
     let u = p.before.before.before.loop-k in
     let a = p.before.before.before.before.before.args in
     let e : u.k ≡ 0 = omega arith in (
-      leaving-end u.invariant.1 1 p.put-2.ensures
+      leaving_end u.invariant.1 1 p.put-2.ensures
           (λ i m o. above_none a.sets (λ j. bit (at a.words.now j) i) (λ j l g. o j (omega arith) g)),
-      λ v i l. sorted-end u.invariant.1 u.into 1 u.invariant.3 (omega (arith, u.invariant.2)) p.put-2.ensures v i,
+      λ v i l. sorted_end u.invariant.1 u.into 1 u.invariant.3 (omega (arith, u.invariant.2)) p.put-2.ensures v i,
     )
 
 pub put_stops_spec : {M : Type 1} → statement M

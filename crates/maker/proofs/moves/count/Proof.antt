@@ -5,7 +5,7 @@ use native.Mathlib.Omega.{arith}
 use lib.ListN.{length}
 use borrow.Author.Rules.{rules}
 use Rattle.maker.specs.Words.{plan_moves}
-use Rattle.maker.proofs.Words.{moves-none, moves-length}
+use Rattle.maker.proofs.Words.{moves_none, moves_length}
 use Rattle.maker.proofs.moves.count.Statement.{statement}
 use Rattle.maker.proofs.moves.count.Tie as tie
 
@@ -18,7 +18,7 @@ decreases-loop plan hyper into from n₀ slot₀ n slot = hyper - slot
 loop-holds : tie.Need-loop-slot-init invariant-loop decreases-loop
 loop-holds c =
     let a = c.before.args in
-    (omega arith, sym (moves-none a.into a.from a.plan.now), omega arith)
+    (omega arith, sym (moves_none a.into a.from a.plan.now), omega arith)
 
 mul-word : tie.Need-offset_bounds-plan-slot invariant-loop decreases-loop
 mul-word c = search rules
@@ -64,7 +64,7 @@ loop-again c =
         u.invariant.1,
         e.0 u.slot 0,
         f.0 u.slot 1,
-        moves-length z.args.into z.args.from z.args.plan.now
+        moves_length z.args.into z.args.from z.args.plan.now
             u.slot,
       ),
       omega (arith, u.invariant.2, e.1, f.1),

@@ -9,7 +9,7 @@ use borrow.Author.Rules.{rules}
 use Rattle.numbers.proofs.Truth.{decides_yes, decides_no}
 use Rattle.rules.specs.Bus.{Table}
 use Rattle.maker.specs.Words.{Segmented}
-use Rattle.maker.proofs.Bad.{Used, used_start, used_skip, used-add, used-stop, used_end}
+use Rattle.maker.proofs.Bad.{Used, used_start, used_skip, used_add, used_stop, used_end}
 use Rattle.maker.proofs.Words.{bit_is, bit_is_not}
 use Rattle.maker.proofs.moves.is_bad.Statement.{statement}
 use Rattle.maker.proofs.moves.is_bad.Tie as tie
@@ -47,7 +47,7 @@ returns-2 c t e l =
     let m = c.before.before.before.loop-i-test.true in
     let g = c.before.segments_at-segments.ensures ∙ l.row u.i (omega (arith, e, m)) in
     let a = c.before.before.before.before.before.before.before.args in
-    decides_yes (used-stop (u.invariant.1 t e l) (bit_is a.word u.i c.before.before.if-word-i-eq1.true) (ways l u.i (omega (arith, e, m)))
+    decides_yes (used_stop (u.invariant.1 t e l) (bit_is a.word u.i c.before.before.if-word-i-eq1.true) (ways l u.i (omega (arith, e, m)))
     (omega (arith, e, m))
     (λ z. c.if-used-segments-ne0.true (ap (bit_and u.used) g ∙ z)))
 
@@ -68,7 +68,7 @@ loop-again c =
           (λ w.
           let g = w.1.ensures ∙ l.row u.i (omega (arith, e, m)) in
           rw (w.3 ∙ ap (bit_or u.used) g)
-          (used-add (u.invariant.1 t e l) (bit_is a.word u.i w.0.true) (ways l u.i (omega (arith, e, m)))
+          (used_add (u.invariant.1 t e l) (bit_is a.word u.i w.0.true) (ways l u.i (omega (arith, e, m)))
           (ap (bit_and u.used) (sym g) ∙ w.2.left)))
           (λ w. rw w.1 (used_skip (u.invariant.1 t e l) (bit_is_not a.word u.i w.0.left)))
           c.if-word-i-eq1.branch,

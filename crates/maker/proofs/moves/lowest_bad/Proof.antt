@@ -5,7 +5,7 @@ use native.Mathlib.Omega.{arith}
 use borrow.Author.Rules.{rules}
 use Rattle.rules.specs.Bus.{Table}
 use Rattle.maker.specs.Words.{Segmented}
-use Rattle.maker.proofs.Bad.{Clean, clean-start, clean-next, clean_found, clean-past, clean_end}
+use Rattle.maker.proofs.Bad.{Clean, clean_start, clean_next, clean_found, clean_past, clean_end}
 use Rattle.maker.proofs.moves.lowest_bad.Statement.{statement}
 use Rattle.maker.proofs.moves.lowest_bad.Tie as tie
 
@@ -16,13 +16,13 @@ abbrev decreases-loop : tie.decreases-loop-slot
 decreases-loop rows routes plan hyper slot₀ slot = hyper - slot
 
 loop-holds : tie.Need-loop-slot-init invariant-loop decreases-loop
-loop-holds c = (omega arith, λ t e l. clean-start t c.before.args.plan.now)
+loop-holds c = (omega arith, λ t e l. clean_start t c.before.args.plan.now)
 
 returns : tie.Need-returns-then-slot-plan invariant-loop decreases-loop
 returns c t e l =
     let u = c.before.before.loop-slot in
     let a = c.before.before.before.before.args in
-    clean-past t a.plan.now u.slot a.hyper (u.invariant.1 t e l) c.if-slot-plan.true
+    clean_past t a.plan.now u.slot a.hyper (u.invariant.1 t e l) c.if-slot-plan.true
 
 mul-is-bad : tie.Need-offset_bounds-plan-slot invariant-loop decreases-loop
 mul-is-bad c = search rules
@@ -51,7 +51,7 @@ loop-again c =
     let u = c.before.before.before.before.before.loop-slot in
     let a = c.before.before.before.before.before.before.before.args in (
       omega (arith, c.before.before.before.before.loop-slot-test.true),
-      λ t e l. clean-next t a.plan.now u.slot (u.invariant.1 t e l) ((c.before.is_bad.ensures t e l).fails c.if-is_bad.false),
+      λ t e l. clean_next t a.plan.now u.slot (u.invariant.1 t e l) ((c.before.is_bad.ensures t e l).fails c.if-is_bad.false),
     )
 
 returns-3 : tie.Need-returns invariant-loop decreases-loop

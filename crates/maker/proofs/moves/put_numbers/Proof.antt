@@ -8,7 +8,7 @@ use Rattle.numbers.specs.Lists.{at}
 use Rattle.numbers.proofs.Lists.{filled_start}
 use Rattle.rules.specs.ElementList.{entry_numbers, in_memory}
 use Rattle.rules.proofs.Calls.{filled_lent}
-use Rattle.maker.proofs.Words.{Written, written_start, written-room, written_next}
+use Rattle.maker.proofs.Words.{Written, written_start, written_room, written_next}
 use Rattle.maker.proofs.moves.put_numbers.Statement.{statement}
 use Rattle.maker.proofs.moves.put_numbers.Tie as tie
 
@@ -38,7 +38,7 @@ put-number-requires c κs =
     let W = z.before.loop-slot.invariant.1 in (
       s.requires.2.into z.before.loop-slot.slot l,
       omega (arith, s.requires.1, l),
-      omega (arith, written-room W s.args.hyper l, W.filled.same, s.requires.3),
+      omega (arith, written_room W s.args.hyper l, W.filled.same, s.requires.3),
     )
 
 put-number-requires-2 : tie.Need-put_number-n-requires-in-loop-slot invariant-loop decreases-loop
@@ -50,7 +50,7 @@ put-number-requires-2 c κs =
     let P = c.before.before.before.put_number-n.ensures in (
       s.requires.2.from z.before.loop-slot.slot l,
       omega (arith, s.requires.1, l),
-      omega (arith, written-room W s.args.hyper l, W.filled.same, P.count, s.requires.3),
+      omega (arith, written_room W s.args.hyper l, W.filled.same, P.count, s.requires.3),
     )
 
 add-slot : tie.Need-overflow_add-slot invariant-loop decreases-loop
@@ -66,7 +66,7 @@ loop-again c =
     let W = z.before.loop-slot.invariant.1 in
     let P = c.before.before.before.before.before.before.put_number-n.ensures in
     let Q = c.before.before.put_number-n-in-loop-slot.ensures in
-    let r = written-room W s.args.hyper z.loop-slot-test.true in (
+    let r = written_room W s.args.hyper z.loop-slot-test.true in (
       omega (arith, z.loop-slot-test.true),
       written_next W entry_numbers (λ x. refl) _ P (omega (arith, P.count)) Q (omega (arith, Q.count))
           (omega (arith, r, P.count, Q.count, s.requires.3)),

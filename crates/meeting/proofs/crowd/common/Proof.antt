@@ -6,7 +6,7 @@ use Prim.Native.Nat.{ℕ, ◌-◌, ◌≤◌}
 use native.Mathlib.Omega.{arith}
 use Rattle.numbers.specs.Lists.{at}
 use Rattle.numbers.specs.Word.{bit}
-use Rattle.meeting.proofs.Left.{left, left_start, left_kept, left_same, in-set, not-in-set}
+use Rattle.meeting.proofs.Left.{left, left_start, left_kept, left_same, in_set, not_in_set}
 use Rattle.meeting.proofs.crowd.common.Statement.{statement}
 use Rattle.meeting.proofs.crowd.common.Tie as tie
 
@@ -45,8 +45,8 @@ loop-again c =
     let word = at z.segments.now u.i in (
       omega arith,
       ⊎_elim
-          (λ w. rw w.2 (left_kept z.elements u.i _ word u.invariant.1 (λ s. in-set (bit word s) z.set u.i w.0.true)))
-          (λ w. rw w.1 (left_same z.elements u.i _ u.invariant.1 (λ s. not-in-set (bit word s) z.set u.i w.0.left)))
+          (λ w. rw w.2 (left_kept z.elements u.i _ word u.invariant.1 (λ s. in_set (bit word s) z.set u.i w.0.true)))
+          (λ w. rw w.1 (left_same z.elements u.i _ u.invariant.1 (λ s. not_in_set (bit word s) z.set u.i w.0.left)))
           c.if-set-i-eq1.branch,
     )
 

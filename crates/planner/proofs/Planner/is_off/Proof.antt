@@ -6,7 +6,7 @@ use borrow.Author.Tests.{not-true, not-false}
 use Rattle.numbers.proofs.Truth.{decides_yes}
 use Rattle.planner.specs.State.{late_at}
 use Rattle.planner.proofs.CourseNumbers.{few_sets}
-use Rattle.planner.proofs.Off.{off-late, off-spare-total, state-bounded, off-decided}
+use Rattle.planner.proofs.Off.{off_late, off_spare_total, state_bounded, off_decided}
 use Rattle.planner.proofs.Planner.is_off.Statement.{statement}
 use Rattle.planner.proofs.Planner.is_off.Tie as tie
 
@@ -14,7 +14,7 @@ is-late-requires : tie.Need-is_late-requires
 is-late-requires c κs = search rules
 
 returns : tie.Need-returns-then-is_late
-returns c t A e = decides_yes (off-late A c.before.before.args.t1 e (sym c.before.is_late.ensures ∙ c.if-is_late.true))
+returns c t A e = decides_yes (off_late A c.before.before.args.t1 e (sym c.before.is_late.ensures ∙ c.if-is_late.true))
 
 spare-clear-requires : tie.Need-spare_clear-requires
 spare-clear-requires c κs = search rules
@@ -22,7 +22,7 @@ spare-clear-requires c κs = search rules
 returns-2 : tie.Need-returns-then-not-spare_clear
 returns-2 c t A e =
     let S = c.before.before.before.before.before.before in
-    decides_yes (off-spare-total A S.args.t1 e (c.before.spare_clear.ensures.fails (not-true _ c.if-not-spare_clear.true)))
+    decides_yes (off_spare_total A S.args.t1 e (c.before.spare_clear.ensures.fails (not-true _ c.if-not-spare_clear.true)))
 
 -- the first test, from past the second
 abbrev in-time : tie.Else-not-spare_clear → tie.Else-is_late
@@ -36,13 +36,13 @@ keeps-step-requires : tie.Need-keeps_step-requires
 keeps-step-requires c κs =
     let E = in-time c.before.before.before.before.before in
     let S = E.before.before in
-    (state-bounded S.requires.1 S.args.t1 S.requires.2 (late E), few_sets S.requires.1)
+    (state_bounded S.requires.1 S.args.t1 S.requires.2 (late E), few_sets S.requires.1)
 
 returns-3 : tie.Need-returns
 returns-3 c t A e =
     let C = c.before.before.before.before.before.before in
     let E = in-time C in
-    off-decided A E.before.before.args.t1 e (late E) (C.before.spare_clear.ensures.holds (not-false _ C.if-not-spare_clear.false))
+    off_decided A E.before.before.args.t1 e (late E) (C.before.spare_clear.ensures.holds (not-false _ C.if-not-spare_clear.false))
     c.keeps_step.result c.keeps_step.ensures
 
 pub is_off_spec : {M : Type 1} → statement M

@@ -1,7 +1,7 @@
 -- `Planner::standings` meets its contract: the analysis answers the file's checks.
 use borrow.Author.Rules.{rules}
 use Rattle.rules.specs.Calls.{file_ask}
-use Rattle.planner.proofs.Asks.{file_proper, usable, standings-asked}
+use Rattle.planner.proofs.Asks.{file_proper, usable, standings_asked}
 use Rattle.planner.proofs.Planner.standings.Statement.{statement}
 use Rattle.planner.proofs.Planner.standings.Tie as tie
 
@@ -15,7 +15,7 @@ returns : tie.Need-returns
 returns c =
     let A = c.before.analyse in
     let S = c.before.before.before in
-    standings-asked (file_ask S.args.file.now) (file_proper S.args.file.now).numbered A.ensures S.args.self
+    standings_asked (file_ask S.args.file.now) (file_proper S.args.file.now).numbered A.ensures S.args.self
     c.standings_on.result c.standings_on.ensures
 
 pub standings_spec : {M : Type 1} → statement M

@@ -7,9 +7,9 @@ use Rattle.rules.specs.Planner.{Off}
 use Rattle.verdict.specs.Analysed.{Accepted}
 use Rattle.planner.specs.State.{planner_of, slot_of}
 use Rattle.planner.proofs.CourseNumbers.{timed}
-use Rattle.planner.proofs.Off.{still-bounded, state-keeps, state-reached}
-use Rattle.planner.proofs.Checks.{standings-off, standings-done}
-use Rattle.planner.proofs.Answering.{standings-answer, standings-own}
+use Rattle.planner.proofs.Off.{still_bounded, state_keeps, state_reached}
+use Rattle.planner.proofs.Checks.{standings_off, standings_done}
+use Rattle.planner.proofs.Answering.{standings_answer, standings_own}
 use Rattle.planner.proofs.Planner.standings_on.Statement.{statement}
 use Rattle.planner.proofs.Planner.standings_on.Tie as tie
 
@@ -58,8 +58,8 @@ returns-2 c =
     record {
       done = λ z t A.
           rw c.no_standings-then-is_off.ensures
-          (standings-own t c.before.at.ensures (omega arith) p
-          (standings-off t (planner_of p) ((O.is_off.ensures t A (here R A)).holds c.before.before.if-is_off.true)));
+          (standings_own t c.before.at.ensures (omega arith) p
+          (standings_off t (planner_of p) ((O.is_off.ensures t A (here R A)).holds c.before.before.if-is_off.true)));
       refused = λ h. absurd (h (passed R).if-answer-ne-DONE.false);
     }
 
@@ -78,7 +78,7 @@ standings-requires c κs =
     let R = N.before.before in
     let A = (some (passed R)).1 in
     let p = (entry (passed R)).args.t1 in
-    (still-bounded A p (here R A) (still N A), state-keeps A p (here R A) (still N A))
+    (still_bounded A p (here R A) (still N A), state_keeps A p (here R A) (still N A))
 
 returns-3 : tie.Need-returns
 returns-3 c =
@@ -88,8 +88,8 @@ returns-3 c =
     let p = (entry (passed R)).args.t1 in
     record {
       done = λ z t A.
-          standings-answer A _ D.done.ensures p _ (state-reached A p (here R A) (still N A)) c.standings.result
-          (standings-done t (planner_of p) (still N A)) c.standings.ensures;
+          standings_answer A _ D.done.ensures p _ (state_reached A p (here R A) (still N A)) c.standings.result
+          (standings_done t (planner_of p) (still N A)) c.standings.ensures;
       refused = λ h. absurd (h (passed R).if-answer-ne-DONE.false);
     }
 

@@ -4,7 +4,7 @@ use borrow.Author.Rules.{rules}
 use lib.ListN.{length}
 use Rattle.rules.specs.Bounds.{max_rows}
 use Rattle.rules.specs.Calls.{file_ask}
-use Rattle.planner.proofs.Asks.{file_proper, usable, step-asked}
+use Rattle.planner.proofs.Asks.{file_proper, usable, step_asked}
 use Rattle.planner.proofs.Planner.step.Statement.{statement}
 use Rattle.planner.proofs.Planner.step.Tie as tie
 
@@ -26,7 +26,7 @@ returns c =
     let A = O.before.before in
     let S = A.before.before.before in
     let f = S.args.file.now in
-    step-asked (file_ask f) (file_proper f).numbered A.analyse.ensures S.args.self O.step_on.result S.args.out-1.now _
+    step_asked (file_ask f) (file_proper f).numbered A.analyse.ensures S.args.self O.step_on.result S.args.out-1.now _
     (size S) O.step_on.ensures
 
 pub step_spec : {M : Type 1} → statement M

@@ -8,14 +8,14 @@ use Rattle.rules.specs.Bounds.{max_rows}
 use Rattle.rules.specs.Bus.{Table}
 use Rattle.rules.specs.Loads.{start, end}
 use Rattle.rules.specs.Planner.{Off}
-use Rattle.lags.proofs.Intervals.{intervals-le}
+use Rattle.lags.proofs.Intervals.{intervals_le}
 use Rattle.time-1.specs.Time.{Begins}
 use Rattle.verdict.specs.Analysed.{Accepted}
 use Rattle.planner.specs.State.{stage_of, planner_of, slot_of}
 use Rattle.planner.proofs.CourseNumbers.{timed}
-use Rattle.planner.proofs.Checks.{step-off, step-finished, step-short, step-done}
-use Rattle.planner.proofs.Laying.{due-begins, due-length, due-plannable}
-use Rattle.planner.proofs.Answering.{step-own, step-answer}
+use Rattle.planner.proofs.Checks.{step_off, step_finished, step_short, step_done}
+use Rattle.planner.proofs.Laying.{due_begins, due_length, due_plannable}
+use Rattle.planner.proofs.Answering.{step_own, step_answer}
 use Rattle.planner.proofs.Planner.step_on.Statement.{statement}
 use Rattle.planner.proofs.Planner.step_on.Tie as tie
 
@@ -68,8 +68,8 @@ returns-2 c =
     record {
       done = λ z t A.
           rw c.unmoved-then-is_off.ensures
-          (step-own t c.before.at.ensures (omega arith) p S.args.out-1.now (size S)
-          (step-off t (planner_of p) (length S.args.out-1.now)
+          (step_own t c.before.at.ensures (omega arith) p S.args.out-1.now (size S)
+          (step_off t (planner_of p) (length S.args.out-1.now)
           ((O.is_off.ensures t A (here R A)).holds c.before.before.if-is_off.true)));
       refused = λ h. absurd (h (passed R).if-answer-ne-DONE.false);
     }
@@ -106,8 +106,8 @@ returns-3 c =
     record {
       done = λ z t A.
           rw c.unmoved-in_default.ensures
-          (step-own t c.before.at-in_default.ensures (omega arith) p S.args.out-1.now (size S)
-          (step-finished t (planner_of p) (length S.args.out-1.now) (still N A) (ap stage_of T.enum_told-1.given.1)));
+          (step_own t c.before.at-in_default.ensures (omega arith) p S.args.out-1.now (size S)
+          (step_finished t (planner_of p) (length S.args.out-1.now) (still N A) (ap stage_of T.enum_told-1.given.1)));
       refused = λ h. absurd (h (passed (reached N)).if-answer-ne-DONE.false);
     }
 
@@ -123,7 +123,7 @@ begins : (c : tie.In-Due) {t : Table} → Accepted t (begun (not_off c)).args.ta
     → Begins t (number c) (reached (not_off c)).slot_reached-slot.result
 begins c A =
     let N = not_off c in
-    due-begins A (begun N).args.self (number c) (here (reached N) A) (still N A) c.before.stage-1.given.1
+    due_begins A (begun N).args.self (number c) (here (reached N) A) (still N A) c.before.stage-1.given.1
 
 next-end-requires : tie.Need-next_end-end-requires
 next-end-requires c κs = let w = some (passed (reached (not_off c))) in (w.0, number c, timed w.1, begins c w.1)
@@ -140,7 +140,7 @@ sub-if3 : tie.Need-overflow_sub-end
 sub-if3 c =
     let N = not_off c.before in
     let A = (some (passed (reached N))).1 in
-    due-length A (begun N).args.self (number c.before) (here (reached N) A) (still N A) c.before.before.stage-1.given.1 _
+    due_length A (begun N).args.self (number c.before) (here (reached N) A) (still N A) c.before.before.stage-1.given.1 _
     (ends c A)
 
 at-requires-3 : tie.Need-at-requires-then-out-end
@@ -158,8 +158,8 @@ returns-4 c =
     record {
       done = λ z t A.
           rw c.unmoved-then-out-end.ensures
-          (step-own t c.before.at-then-out-end.ensures (omega arith) p S.args.out-1.now (size S)
-          (step-short t (planner_of p) (length S.args.out-1.now) (still N A) (number E.before)
+          (step_own t c.before.at-then-out-end.ensures (omega arith) p S.args.out-1.now (size S)
+          (step_short t (planner_of p) (length S.args.out-1.now) (still N A) (number E.before)
           (ap stage_of E.before.before.stage-1.given.1) (omega (arith, long E A, c.before.before.if-out-end.true))));
       refused = λ h. absurd (h (passed (reached N)).if-answer-ne-DONE.false);
     }
@@ -180,7 +180,7 @@ plan-intervals-requires c κs =
       w.0,
       k,
       _,
-      due-plannable A S.args.self k (here (reached N) A) (still N A) E.before.before.stage-1.given.1 (size S) _ _ (ends E A)
+      due_plannable A S.args.self k (here (reached N) A) (still N A) E.before.before.stage-1.given.1 (size S) _ _ (ends E A)
           (roomy c).if-out-end.false,
     )
 
@@ -188,7 +188,7 @@ add-stage-after : tie.Need-overflow_add-k
 add-stage-after c =
     let E = (roomy c.before.before.before).before in
     let A = (some (passed (reached (not_off E.before)))).1 in
-    record { fits = omega (arith, (begins E.before A).in_range, intervals-le A.admissible.sound, A.admissible.short) }
+    record { fits = omega (arith, (begins E.before A).in_range, intervals_le A.admissible.sound, A.admissible.short) }
 
 stage-after-requires : tie.Need-stage_after-requires
 stage-after-requires c κs = search rules
@@ -212,11 +212,11 @@ returns-5 c =
     record {
       done = λ z t A.
           rw c.before.stage_after.ensures
-          (step-answer A _ c.done.ensures p k is_due (begins E.before A) _ (ends E A) G.plan_intervals-after.result
+          (step_answer A _ c.done.ensures p k is_due (begins E.before A) _ (ends E A) G.plan_intervals-after.result
           S.args.out-1.now _
           (G.plan_intervals-after.ensures t k _
-          (due-plannable A p k (here (reached N) A) (still N A) is_due (size S) _ _ (ends E A) L.if-out-end.left))
-          (step-done t (planner_of p) (length S.args.out-1.now) (still N A) k (ap stage_of is_due)
+          (due_plannable A p k (here (reached N) A) (still N A) is_due (size S) _ _ (ends E A) L.if-out-end.left))
+          (step_done t (planner_of p) (length S.args.out-1.now) (still N A) k (ap stage_of is_due)
           (omega (arith, long E A, L.if-out-end.left))));
       refused = λ h. absurd (h (passed (reached N)).if-answer-ne-DONE.false);
     }

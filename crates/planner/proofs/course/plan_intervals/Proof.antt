@@ -1,5 +1,5 @@
 -- `course::plan_intervals` meets its contract: `Planning` says what its loop keeps, and the pieces of an interval make it
--- (`advanced-of`).
+-- (`advanced_of`).
 use mathlib.Core.Path.{◌≡◌, refl, sym, ◌∙◌}
 use mathlib.Core.List.{List, ◌++◌}
 use mathlib.Core.Logic.{⊎_elim}
@@ -13,12 +13,12 @@ use Rattle.rules.specs.Bus.{Table}
 use Rattle.rules.specs.Loads.{end}
 use Rattle.placing.specs.Filled.{FilledSlots}
 use Rattle.interval.specs.Ready.{Laid, Ready, Due}
-use Rattle.interval.proofs.Course.{all_laid, rows-chained, interval-short, shares-fit, are-parts, whole-fit, advanced-of}
+use Rattle.interval.proofs.Course.{all_laid, rows_chained, interval_short, shares_fit, are_parts, whole_fit, advanced_of}
 use Rattle.planner.specs.Plannable.{Plannable}
-use Rattle.planner.proofs.CourseNumbers.{timed, few_rows, few_sets, few-periods, hyper-positive, hyper-short}
-use Rattle.planner.proofs.Shared.{low-sets, firsts-low, ready_of}
-use Rattle.planner.proofs.Walked.{Planning, planning-start, planning-begins, planning-due, planning-low, planning-room}
-use Rattle.planner.proofs.Walked.{planning-next, planning-end}
+use Rattle.planner.proofs.CourseNumbers.{timed, few_rows, few_sets, few_periods, hyper_positive, hyper_short}
+use Rattle.planner.proofs.Shared.{low_sets, firsts_low, ready_of}
+use Rattle.planner.proofs.Walked.{Planning, planning_start, planning_begins, planning_due, planning_low, planning_room}
+use Rattle.planner.proofs.Walked.{planning_next, planning_end}
 use Rattle.planner.proofs.course.plan_intervals.Statement.{statement}
 use Rattle.planner.proofs.course.plan_intervals.Tie as tie
 
@@ -51,19 +51,19 @@ lay-requires : tie.Need-lay-requires invariant-loop decreases-loop
 lay-requires c κs =
     let f = c.before.before.before.before.before in
     let A = f.before.before.before.before.before.before.before.requires.3.accepted in
-    (few_rows A, low-sets A f.fold_sets-folded.ensures, refl, refl, refl, refl)
+    (few_rows A, low_sets A f.fold_sets-folded.ensures, refl, refl, refl, refl)
 
 chain-requires : tie.Need-chain-requires invariant-loop decreases-loop
 chain-requires c κs =
     let A = (entry c.before.before.before.before).requires.3.accepted in
-    (few_rows A, firsts-low A, refl, refl)
+    (few_rows A, firsts_low A, refl, refl)
 
 -- where the nodes are laid out, from where the rows are chained
 abbrev linking : tie.After-chain invariant-loop decreases-loop → tie.After-lay invariant-loop decreases-loop
 linking c = c.before.before.before.before.before
 
 has-shortest-requires : tie.Need-has_shortest-even-requires invariant-loop decreases-loop
-has-shortest-requires c κs = few-periods (entry (linking c.before.before)).requires.3.accepted
+has-shortest-requires c κs = few_periods (entry (linking c.before.before)).requires.3.accepted
 
 -- both, from what comes after
 abbrev chained : tie.After-has_shortest-even invariant-loop decreases-loop → tie.After-chain invariant-loop decreases-loop
@@ -87,7 +87,7 @@ arrays c =
     }
 
 inverse-of-requires : tie.Need-inverse_of-inverse-requires invariant-loop decreases-loop
-inverse-of-requires c κs = let A = (entry (laid c)).requires.3.accepted in (hyper-positive A, hyper-short A)
+inverse-of-requires c κs = let A = (entry (laid c)).requires.3.accepted in (hyper_positive A, hyper_short A)
 
 -- ---- where the loop begins
 
@@ -99,7 +99,7 @@ abbrev entered : Set → tie.Start invariant-loop decreases-loop
 entered c = entry (laid c.before)
 
 loop-holds : tie.Need-loop-slot-init invariant-loop decreases-loop
-loop-holds c = (refl, refl, λ t k m P. planning-start (entered c).args.plan-1.now P)
+loop-holds c = (refl, refl, λ t k m P. planning_start (entered c).args.plan-1.now P)
 
 -- ---- a turn: an interval of the table begins, and there is room for it
 
@@ -130,7 +130,7 @@ end-of-requires c κs =
         L.number,
         (begun d).args.t1.outline.time-1.hyper,
         timed P.accepted,
-        planning-begins (begun d).args.plan-1.now P L d.loop-slot-test.true,
+        planning_begins (begun d).args.plan-1.now P L d.loop-slot-test.true,
       ),
       d.before.before.before.has_shortest-even.ensures,
     )
@@ -147,18 +147,18 @@ module _ (c : tie.After-end_of-end invariant-loop decreases-loop) {t : Table} {k
   ends : c.end_of-end.result ≡ end t done.number
   ends =
       c.end_of-end.ensures t done.number (begun (turned c)).args.t1.outline.time-1.hyper (timed P.accepted)
-      (planning-begins (begun (turned c)).args.plan-1.now P done (turned c).loop-slot-test.true)
+      (planning_begins (begun (turned c)).args.plan-1.now P done (turned c).loop-slot-test.true)
 
   due : Due t done.number (turned c).before.loop-slot.slot c.end_of-end.result (turned c).before.loop-slot.after
-  due = planning-due (begun (turned c)).args.plan-1.now P done (turned c).loop-slot-test.true _ ends
+  due = planning_due (begun (turned c)).args.plan-1.now P done (turned c).loop-slot-test.true _ ends
 
   ends_low : c.end_of-end.result ≤ max_slots
-  ends_low = planning-low (begun (turned c)).args.plan-1.now P done (turned c).loop-slot-test.true _ ends
+  ends_low = planning_low (begun (turned c)).args.plan-1.now P done (turned c).loop-slot-test.true _ ends
 
   roomy : ((turned c).before.loop-slot.slot < c.end_of-end.result)
       × ((turned c).before.loop-slot.at + (c.end_of-end.result - (turned c).before.loop-slot.slot) ≤ length (begun (turned c)).args.plan-1.now)
       × (length (turned c).before.loop-slot.plan ≡ length (begun (turned c)).args.plan-1.now)
-  roomy = planning-room (begun (turned c)).args.plan-1.now P done (turned c).loop-slot-test.true _ ends
+  roomy = planning_room (begun (turned c)).args.plan-1.now P done (turned c).loop-slot-test.true _ ends
 
   -- what it stands on
   ready : let a = (begun (turned c)).args.t1 in let L = laying (turned c) in let F = (folding L).fold-sets in
@@ -184,10 +184,10 @@ part-shares-requires c κs =
     let A = (given (turned I)).accepted in
     let l = (turned I).before in (
       few_rows A,
-      hyper-positive A,
-      hyper-short A,
+      hyper_positive A,
+      hyper_short A,
       l.before.inverse_of-inverse.ensures,
-      shares-fit (ready I (given (turned I))) (due I (given (turned I))),
+      shares_fit (ready I (given (turned I))) (due I (given (turned I))),
       l.loop-slot.invariant.0,
       l.loop-slot.invariant.1,
     )
@@ -228,7 +228,7 @@ round-rows-requires c κs =
     let I = parting p in
     let R = ready I (given (turned I)) in
     let S = p.part_shares-parted.ensures in
-    (all_laid R, are-parts R (due I (given (turned I))) (whole p) (part p) S.2, S.3)
+    (all_laid R, are_parts R (due I (given (turned I))) (whole p) (part p) S.2, S.3)
 
 give-requires : tie.Need-give-requires invariant-loop decreases-loop
 give-requires c κs =
@@ -236,7 +236,7 @@ give-requires c κs =
     let I = parting p in
     let P = given (turned I) in (
       few_rows P.accepted,
-      whole-fit (ready I P) (due I P) (whole p) (part p) p.part_shares-parted.ensures.2,
+      whole_fit (ready I P) (due I P) (whole p) (part p) p.part_shares-parted.ensures.2,
       p.part_shares-parted.ensures.0,
       (done I P).size,
     )
@@ -253,7 +253,7 @@ module _ (g : tie.After-give invariant-loop decreases-loop) where
   at_in = omega (arith, roomy (turn g) (given here))
 
   short : (turn g).end_of-end.result - here.before.loop-slot.slot ≤ max_slots
-  short = interval-short (ready (turn g) (given here)) (due (turn g) (given here))
+  short = interval_short (ready (turn g) (given here)) (due (turn g) (given here))
 
   -- the part of the plan that is lent, and the plan with it back
   abbrev lent : List ℕ
@@ -276,8 +276,8 @@ module _ (g : tie.After-give invariant-loop decreases-loop) where
       (here.before.loop-slot.at + ((turn g).end_of-end.result - here.before.loop-slot.slot)) (totals g) (joined ys)
   next ys F t k m P =
       let p = rounding (giving g) in
-      planning-next (begun here).args.plan-1.now P (done (turn g) P) here.loop-slot-test.true _ (ends (turn g) P) (totals g) ys
-      (advanced-of (ready (turn g) P) (due (turn g) P) (whole p) (part p) p.part_shares-parted.ensures.2 (giving g).round_rows-rounded.result
+      planning_next (begun here).args.plan-1.now P (done (turn g) P) here.loop-slot-test.true _ (ends (turn g) P) (totals g) ys
+      (advanced_of (ready (turn g) P) (due (turn g) P) (whole p) (part p) p.part_shares-parted.ensures.2 (giving g).round_rows-rounded.result
       (at (load g)) (at (totals g)) (giving g).round_rows-rounded.ensures g.give.ensures.2 (λ i. refl) g.give.ensures.1 F)
 
 mul-fill-plain : tie.Need-offset_bounds-plan-at invariant-loop decreases-loop
@@ -295,7 +295,7 @@ part-fill-plain-end c = omega (arith, at_in c.before.before.before.before.before
 fill-plain-requires : tie.Need-fill_plain-requires invariant-loop decreases-loop
 fill-plain-requires c κs =
     let g = c.before.before.before.before.before.before.before.before in
-    ((_, rows-chained (ready (turn g) (given (here g)))), room g)
+    ((_, rows_chained (ready (turn g) (given (here g)))), room g)
 
 mul-fill : tie.Need-offset_bounds-plan-at-else-plain invariant-loop decreases-loop
 mul-fill c = omega (arith, at_low c.before.before.before.before.before.before)
@@ -312,7 +312,7 @@ part-fill-end c = omega (arith, at_in c.before.before.before.before.before.befor
 fill-requires : tie.Need-fill-requires invariant-loop decreases-loop
 fill-requires c κs =
     let g = c.before.before.before.before.before.before.before in
-    ((_, _, rows-chained (ready (turn g) (given (here g)))), short g, room g)
+    ((_, _, rows_chained (ready (turn g) (given (here g)))), short g, room g)
 
 -- ---- on to the next
 
@@ -325,7 +325,7 @@ loop-less c = let I = turn c.before in omega (arith, (turned I).loop-slot-test.t
 loop-again : tie.Need-loop-slot-preserved invariant-loop decreases-loop
 loop-again c =
     let g = c.before in
-    let O = rows-chained (ready (turn g) (given (here g))) in
+    let O = rows_chained (ready (turn g) (given (here g))) in
     let l = g.give.ensures.0 in
     let S = (rounding (giving g)).part_shares-parted.ensures in
     ⊎_elim
@@ -341,7 +341,7 @@ same_length c = let S = entered c.before.before in (c.before.loop-slot.invariant
 returns : tie.Need-returns invariant-loop decreases-loop
 returns c t k m P =
     let S = entered c.before.before in
-    planning-end S.args.plan-1.now P (c.before.loop-slot.invariant.2 t k m P) c.loop-slot-test.false
+    planning_end S.args.plan-1.now P (c.before.loop-slot.invariant.2 t k m P) c.loop-slot-test.false
 
 pub plan_intervals_spec : {M : Type 1} → statement M
 plan_intervals_spec =

@@ -4,7 +4,7 @@ use native.Mathlib.Nat.{mul-le-mul}
 use native.Mathlib.Omega.{arith}
 use borrow.Author.Rules.{rules}
 use borrow.Author.Tests.{ltb-true, ltb-false, le-ltb}
-use Rattle.numbers.proofs.Rounding.{rounded-is, rounded-of}
+use Rattle.numbers.proofs.Rounding.{rounded_is, rounded_of}
 use Rattle.numbers.proofs.Truth.{decides_no}
 use Rattle.rules.specs.Bounds.{max_rows, max_slots}
 use Rattle.planner.proofs.steady.is_rounded.Statement.{statement}
@@ -30,14 +30,14 @@ returns c =
     let a = c.before.args.share in
     let h = c.before.args.hyper in
     record {
-      holds = λ e. rounded-of a h c.before.requires.2 n c.if-share-total.true (ltb-true (n * h) (a + h) e);
-      fails = λ e r. omega (arith, ltb-false (n * h) (a + h) e, (rounded-is a h c.before.requires.2 n r).1);
+      holds = λ e. rounded_of a h c.before.requires.2 n c.if-share-total.true (ltb-true (n * h) (a + h) e);
+      fails = λ e r. omega (arith, ltb-false (n * h) (a + h) e, (rounded_is a h c.before.requires.2 n r).1);
     }
 
 returns-2 : tie.Need-returns-else-share-total
 returns-2 c =
     rw (le-ltb _ _ c.if-share-total.false)
-    (decides_no (λ r. omega (arith, c.if-share-total.false, (rounded-is _ _ c.before.requires.2 _ r).0)))
+    (decides_no (λ r. omega (arith, c.if-share-total.false, (rounded_is _ _ c.before.requires.2 _ r).0)))
 
 pub is_rounded_spec : {M : Type 1} → statement M
 is_rounded_spec = tie.close (tie.spec add-if1 mul-if1 mul-result add-result returns returns-2)

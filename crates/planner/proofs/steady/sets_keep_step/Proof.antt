@@ -12,7 +12,7 @@ use Rattle.numbers.specs.Word.{bit}
 use Rattle.numbers.proofs.Truth.{decides_no}
 use Rattle.numbers.proofs.Truth.{decides_yes}
 use Rattle.planner.specs.Step.{SetsKeep}
-use Rattle.planner.proofs.Keeping.{rate-le, slot-le, total-le, set_rounded}
+use Rattle.planner.proofs.Keeping.{rate_le, slot_le, total_le, set_rounded}
 use Rattle.planner.proofs.steady.sets_keep_step.Statement.{statement}
 use Rattle.planner.proofs.steady.sets_keep_step.Tie as tie
 
@@ -35,18 +35,18 @@ sums-in-requires : tie.Need-sums_in-sums-requires invariant-loop decreases-loop
 sums-in-requires c κs =
     let z = c.before.before.before in
     let b = z.requires.0 in
-    (b.few, λ i l. (rate-le b i l, total-le b (at z.args.totals.now) z.requires.2 i l))
+    (b.few, λ i l. (rate_le b i l, total_le b (at z.args.totals.now) z.requires.2 i l))
 
 mul-is-rounded : tie.Need-overflow_mul-sums invariant-loop decreases-loop
 mul-is-rounded c =
     let b = c.before.before.before.before.before.requires.0 in
-    omega (arith, mul-le-mul c.before.sums_in-sums.ensures.1 (slot-le b))
+    omega (arith, mul-le-mul c.before.sums_in-sums.ensures.1 (slot_le b))
 
 is-rounded-requires : tie.Need-is_rounded-requires invariant-loop decreases-loop
 is-rounded-requires c κs =
     let b = c.before.before.before.before.before.requires.0 in
     let s = c.before.sums_in-sums.ensures in
-    (s.3, omega (arith, mul-le-mul s.1 (slot-le b)), b.some, b.short)
+    (s.3, omega (arith, mul-le-mul s.1 (slot_le b)), b.some, b.short)
 
 -- what the test says of the set
 rounded : (c : tie.After-sums_in-sums invariant-loop decreases-loop)

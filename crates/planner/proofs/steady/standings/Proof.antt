@@ -5,7 +5,7 @@ use native.Mathlib.Omega.{arith}
 use mir.Syntax.{w64}
 use mir.ValLaws.{to_z-of_z}
 use Rattle.numbers.specs.Lists.{at}
-use Rattle.planner.proofs.Keeping.{products-le, Standing, standing-start, standing-next, standing-end}
+use Rattle.planner.proofs.Keeping.{products_le, Standing, standing_start, standing_next, standing_end}
 use Rattle.planner.proofs.steady.standings.Statement.{statement}
 use Rattle.planner.proofs.steady.standings.Tie as tie
 
@@ -16,7 +16,7 @@ abbrev decreases-loop : tie.decreases-loop-i
 decreases-loop rows hyper slot rate totals standing₀ i₀ standing i = rows - i
 
 loop-holds : tie.Need-loop-i-init invariant-loop decreases-loop
-loop-holds c = standing-start _ _ _ _ _
+loop-holds c = standing_start _ _ _ _ _
 
 mul-less : tie.Need-offset_bounds-totals-i invariant-loop decreases-loop
 mul-less c = omega arith
@@ -28,7 +28,7 @@ mul-less-2 : tie.Need-overflow_mul-totals invariant-loop decreases-loop
 mul-less-2 c =
     let z = c.before.before in
     let p = z.before.requires in
-    let fits = products-le p.0 (at z.before.args.totals.now) p.1 z.loop-i.i (omega arith) in
+    let fits = products_le p.0 (at z.before.args.totals.now) p.1 z.loop-i.i (omega arith) in
     omega arith
 
 slots-at-requires : tie.Need-slots_at-requires invariant-loop decreases-loop
@@ -38,14 +38,14 @@ mul-less-3 : tie.Need-overflow_mul-slots_at invariant-loop decreases-loop
 mul-less-3 c =
     let z = c.before.before.before in
     let p = z.before.requires in
-    let fits = products-le p.0 (at z.before.args.totals.now) p.1 z.loop-i.i (omega arith) in
+    let fits = products_le p.0 (at z.before.args.totals.now) p.1 z.loop-i.i (omega arith) in
     rw c.slots_at.ensures (omega (arith, fits))
 
 less-requires : tie.Need-less-requires invariant-loop decreases-loop
 less-requires c κs =
     let z = c.before.before.before in
     let p = z.before.requires in
-    let fits = products-le p.0 (at z.before.args.totals.now) p.1 z.loop-i.i (omega arith) in
+    let fits = products_le p.0 (at z.before.args.totals.now) p.1 z.loop-i.i (omega arith) in
     (omega (arith, fits), rw c.slots_at.ensures (omega (arith, fits)))
 
 mul-standing : tie.Need-offset_bounds-standing-i invariant-loop decreases-loop
@@ -63,11 +63,11 @@ loop-less c = omega arith
 loop-again : tie.Need-loop-i-preserved invariant-loop decreases-loop
 loop-again c =
     let z = c.before.before.before.before in
-    standing-next _ _ _ _ _ _ z.loop-i.invariant (omega arith) z.before.requires.0.few
+    standing_next _ _ _ _ _ _ z.loop-i.invariant (omega arith) z.before.requires.0.few
     (to_z-of_z w64 c.less.result (record { sfits = c.less.type-inv }) ∙ (rw c.before.slots_at.ensures at c.less.ensures))
 
 returns : tie.Need-returns invariant-loop decreases-loop
-returns c = standing-end _ _ _ _ _ c.before.loop-i.invariant (omega arith)
+returns c = standing_end _ _ _ _ _ c.before.loop-i.invariant (omega arith)
 
 pub standings_spec : {M : Type 1} → statement M
 standings_spec =

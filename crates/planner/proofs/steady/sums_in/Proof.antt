@@ -8,7 +8,7 @@ use Rattle.numbers.specs.Word.{bit}
 use Rattle.numbers.specs.Lists.{at}
 use Rattle.numbers.proofs.Finite.{sum_in_most}
 use Rattle.rules.specs.Bounds.{max_slots}
-use Rattle.sets.proofs.Sums.{sum_past, sum-without, sum_none}
+use Rattle.sets.proofs.Sums.{sum_past, sum_without, sum_none}
 use Rattle.planner.proofs.steady.sums_in.Statement.{statement}
 use Rattle.planner.proofs.steady.sums_in.Tie as tie
 
@@ -64,7 +64,7 @@ loop-less : tie.Need-loop-left-smaller invariant-loop decreases-loop
 loop-less c =
     let d = c.before in
     let e = d.lowest_row-i.ensures in
-    let s = sum-without d.before.before.loop-left.left d.lowest_row-i.result e.0 (λ j. 1) 64 e.0 e.1 in
+    let s = sum_without d.before.before.loop-left.left d.lowest_row-i.result e.0 (λ j. 1) 64 e.0 e.1 in
     omega (arith, s)
 
 loop-again : tie.Need-loop-left-preserved invariant-loop decreases-loop
@@ -77,8 +77,8 @@ loop-again c =
     let i = d.lowest_row-i.result in
     ⊎_elim
     (λ w. (
-      omega (arith, w, z.loop-left.invariant.0, sum-without left i e.0 (at a.rate.now) a.rows w.0.true e.1),
-      omega (arith, w, z.loop-left.invariant.1, sum-without left i e.0 (at a.totals.now) a.rows w.0.true e.1),
+      omega (arith, w, z.loop-left.invariant.0, sum_without left i e.0 (at a.rate.now) a.rows w.0.true e.1),
+      omega (arith, w, z.loop-left.invariant.1, sum_without left i e.0 (at a.totals.now) a.rows w.0.true e.1),
     ))
     (λ w. (
       omega (arith, w, z.loop-left.invariant.0, sum_past left i e.0 (at a.rate.now) a.rows (omega arith)),

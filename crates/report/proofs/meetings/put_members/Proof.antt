@@ -5,9 +5,9 @@ use Prim.Native.Nat.{◌+◌, ◌-◌, ◌≤◌}
 use native.Mathlib.Omega.{arith}
 use Rattle.numbers.specs.Word.{bit}
 use Rattle.decimal.specs.Puts.{PutsLines}
-use Rattle.decimal.proofs.Text.{lines_none, lines_next, lines-skip}
+use Rattle.decimal.proofs.Text.{lines_none, lines_next, lines_skip}
 use Rattle.report.specs.MeetLines.{numbered, member_lines}
-use Rattle.report.proofs.Members.{member-line, no_line}
+use Rattle.report.proofs.Members.{member_line, no_line}
 use Rattle.report.proofs.meetings.put_members.Statement.{statement}
 use Rattle.report.proofs.meetings.put_members.Tie as tie
 
@@ -44,8 +44,8 @@ loop-again c =
     let line = numbered z.name.now (z.first + k) in (
       omega arith,
       ⊎_elim
-          (λ w. rw (w.5, w.6) (lines_next _ k u.loop-k.invariant.1 line (member-line line z.word k w.0.true) w.2.ensures))
-          (λ w. rw (w.1, w.2) (lines-skip _ k u.loop-k.invariant.1 (no_line line z.word k w.0.left)))
+          (λ w. rw (w.5, w.6) (lines_next _ k u.loop-k.invariant.1 line (member_line line z.word k w.0.true) w.2.ensures))
+          (λ w. rw (w.1, w.2) (lines_skip _ k u.loop-k.invariant.1 (no_line line z.word k w.0.left)))
           c.if-word-k-eq1.branch,
     )
 

@@ -7,7 +7,7 @@ use Rattle.numbers.specs.Lists.{at}
 use Rattle.decimal.specs.Puts.{PutsLines}
 use Rattle.decimal.proofs.Text.{lines_none}
 use Rattle.report.specs.RaisedLines.{raised_lines}
-use Rattle.report.proofs.RaisedLines.{lines-grown, lines-kept}
+use Rattle.report.proofs.RaisedLines.{lines_grown, lines_kept}
 use Rattle.report.proofs.raised.put_raises.Statement.{statement}
 use Rattle.report.proofs.raised.put_raises.Tie as tie
 
@@ -54,9 +54,9 @@ loop-again c =
       ⊎_elim
           (λ w.
           rw (w.5, w.6)
-          (lines-grown old new u.loop-i.i P _ _ s.before.slots_at-was.ensures s.slots_at-is.ensures w.0.true w.2.ensures))
+          (lines_grown old new u.loop-i.i P _ _ s.before.slots_at-was.ensures s.slots_at-is.ensures w.0.true w.2.ensures))
           (λ w.
-          rw (w.1, w.2) (lines-kept old new u.loop-i.i P _ _ s.before.slots_at-was.ensures s.slots_at-is.ensures w.0.left))
+          rw (w.1, w.2) (lines_kept old new u.loop-i.i P _ _ s.before.slots_at-was.ensures s.slots_at-is.ensures w.0.left))
           c.if-was-is.branch,
     )
 

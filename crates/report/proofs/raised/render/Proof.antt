@@ -7,7 +7,7 @@ use borrow.Author.Rules.{rules}
 use lib.ListN.{length}
 use lib.Seq.{length-take-le}
 use Rattle.verdict.specs.Verdict.{IsVerdict}
-use Rattle.report.proofs.RaisedLines.{rendered-refused, report-costs, report-long, report-file, rendered-raised}
+use Rattle.report.proofs.RaisedLines.{rendered_refused, report_costs, report_long, report_file, rendered_raised}
 use Rattle.report.proofs.raised-1.render.Statement.{statement}
 use Rattle.report.proofs.raised-1.render.Tie as tie
 
@@ -18,7 +18,7 @@ abbrev bytes : tie.After-raised_table-found → List ℕ
 bytes g = g.before.before.before.args.file.now
 
 long : (e : tie.Else-answer-ne-DONE) → length (bytes (found e)) ≤ 519
-long e = let g = found e in report-long (bytes g) g.raised_table-found.result g.raised_table-found.ensures e.if-answer-ne-DONE.false
+long e = let g = found e in report_long (bytes g) g.raised_table-found.result g.raised_table-found.ensures e.if-answer-ne-DONE.false
 
 raised-table-requires : tie.Need-raised_table-found-requires
 raised-table-requires c κs = search rules
@@ -33,7 +33,7 @@ returns : tie.Need-returns-then-answer-ne-DONE
 returns c =
     let t = c.before.before.before.before in
     let g = t.before.before.before in
-    rendered-refused (bytes g) g.raised_table-found.result g.raised_table-found.ensures t.if-answer-ne-DONE.true c.before.before.put_result.ensures
+    rendered_refused (bytes g) g.raised_table-found.result g.raised_table-found.ensures t.if-answer-ne-DONE.true c.before.before.put_result.ensures
 
 slice-aggregate-raise : tie.Need-slice_bounds-raise-end
 slice-aggregate-raise c = search rules
@@ -54,7 +54,7 @@ put-raises-requires : tie.Need-put_raises-next-requires
 put-raises-requires c κs =
     let e = c.before.before.before.before.before.before.before.before.before.before.before in
     let g = found e in
-    report-costs (bytes g) g.raised_table-found.result g.raised_table-found.ensures e.if-answer-ne-DONE.false
+    report_costs (bytes g) g.raised_table-found.result g.raised_table-found.ensures e.if-answer-ne-DONE.false
 
 number-requires : tie.Need-number-requires
 number-requires c κs = search rules
@@ -67,7 +67,7 @@ put-result-requires-2 c κs =
     let p = c.before.before.before.before.before in
     let e = p.before.before.before.before.before.before.before.before.before.before.before.before in
     let g = found e in
-    let C = report-costs (bytes g) g.raised_table-found.result g.raised_table-found.ensures e.if-answer-ne-DONE.false in
+    let C = report_costs (bytes g) g.raised_table-found.result g.raised_table-found.ensures e.if-answer-ne-DONE.false in
     omega (arith, p.put_raises-next.ensures.1, C.few)
 
 same-length-2 : tie.Need-shape_of-out
@@ -85,8 +85,8 @@ returns-2 c =
     let n = q.before in
     let j = p.before.before.before.before.before.before.before in
     let r = p.before.before.before.before.before.before.before.before.before.before in
-    let file = report-file (bytes g) x R z refl r.raise.ensures in
-    rendered-raised (bytes g) x R z j.judge-result.result
+    let file = report_file (bytes g) x R z refl r.raise.ensures in
+    rendered_raised (bytes g) x R z j.judge-result.result
     (subst (λ (xs : List ℕ). IsVerdict xs j.judge-result.result) file j.judge-result.ensures) p.put_raises-next.ensures
     n.number.ensures q.place.ensures c.before.before.put_result-2.ensures
 

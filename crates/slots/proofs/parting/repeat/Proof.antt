@@ -5,7 +5,7 @@ use native.Mathlib.Omega.{arith}
 use lib.ListN.{length, length-set}
 use Rattle.numbers.specs.Lists.{at}
 use Rattle.stretches.specs.Stretches.{Repeated}
-use Rattle.stretches.proofs.Stretches.{repeated_one, repeated-more, repeated-all}
+use Rattle.stretches.proofs.Stretches.{repeated_one, repeated_more, repeated_all}
 use Rattle.slots.proofs.parting.repeat.Statement.{statement}
 use Rattle.slots.proofs.parting.repeat.Tie as tie
 
@@ -43,13 +43,13 @@ loop-less c = omega arith
 loop-again : tie.Need-loop-s-preserved invariant-loop decreases-loop
 loop-again c =
     let l = c.before.loop-s.invariant in
-    (omega arith, omega arith, simp length-set (omega arith), l.3, repeated-more l.4 (omega arith) (omega arith) l.3)
+    (omega arith, omega arith, simp length-set (omega arith), l.3, repeated_more l.4 (omega arith) (omega arith) l.3)
 
 same_length : tie.Need-shape_of-words invariant-loop decreases-loop
 same_length c = c.before.loop-s.invariant.4.long
 
 returns : tie.Need-returns invariant-loop decreases-loop
-returns c = repeated-all c.before.loop-s.invariant.4 (omega arith)
+returns c = repeated_all c.before.loop-s.invariant.4 (omega arith)
 
 pub repeat_spec : {M : Type 1} → statement M
 repeat_spec =

@@ -5,8 +5,8 @@ use native.Mathlib.Omega.{arith}
 use lib.ListN.{length}
 use Rattle.numbers.specs.Lists.{at}
 use Rattle.stretches.specs.Stretches.{most_stretches, Tiles}
-use Rattle.stretches.proofs.Stretches.{cursor-low, cursor-end}
-use Rattle.stretches.proofs.Stretches.{Spreading, spreading-start, spreading-more, spreading-end}
+use Rattle.stretches.proofs.Stretches.{cursor_low, cursor_end}
+use Rattle.stretches.proofs.Stretches.{Spreading, spreading_start, spreading_more, spreading_end}
 use Rattle.slots.proofs.parting.spread.Statement.{statement}
 use Rattle.slots.proofs.parting.spread.Tie as tie
 
@@ -19,20 +19,20 @@ abbrev decreases-loop : tie.decreases-loop-s
 decreases-loop end after slots words₀ k₀ s₀ words k s = slots - s
 
 loop-holds : tie.Need-loop-s-init invariant-loop decreases-loop
-loop-holds c = (refl, λ of begin t. spreading-start t _)
+loop-holds c = (refl, λ of begin t. spreading_start t _)
 
 -- in a turn: the stretch is one of those there can be, and it ends past slot s
 module _ (c : tie.In-loop-s invariant-loop decreases-loop) where
   low : c.before.loop-s.k < most_stretches
   low =
       let p = c.before.before.before.requires.0 in
-      cursor-low p.2 (c.before.loop-s.invariant.1 p.0 p.1 p.2).cursor c.loop-s-test.true
+      cursor_low p.2 (c.before.loop-s.invariant.1 p.0 p.1 p.2).cursor c.loop-s-test.true
 
   ends : (c.before.loop-s.s < at c.before.before.before.args.end.now c.before.loop-s.k)
       × (at c.before.before.before.args.end.now c.before.loop-s.k ≤ c.before.before.before.args.slots)
   ends =
       let p = c.before.before.before.requires.0 in
-      cursor-end p.2 (c.before.loop-s.invariant.1 p.0 p.1 p.2).cursor c.loop-s-test.true
+      cursor_end p.2 (c.before.loop-s.invariant.1 p.0 p.1 p.2).cursor c.loop-s-test.true
 
 mul-to : tie.Need-offset_bounds-end-k invariant-loop decreases-loop
 mul-to c = omega (arith, low c)
@@ -68,7 +68,7 @@ loop-again c =
     let R = c.before.before.before.repeat.ensures in (
       R.long ∙ (turn c.before).before.loop-s.invariant.0,
       λ of begin t.
-          spreading-more t ((turn c.before).before.loop-s.invariant.1 of begin t) (turn c.before).loop-s-test.true refl refl R,
+          spreading_more t ((turn c.before).before.loop-s.invariant.1 of begin t) (turn c.before).loop-s-test.true refl refl R,
     )
 
 same_length : tie.Need-shape_of-words invariant-loop decreases-loop
@@ -77,7 +77,7 @@ same_length c = c.before.loop-s.invariant.0
 returns : tie.Need-returns invariant-loop decreases-loop
 returns c of begin t =
     let l = c.before.loop-s.invariant in
-    spreading-end t (l.1 of begin t) c.loop-s-test.false l.0
+    spreading_end t (l.1 of begin t) c.loop-s-test.false l.0
 
 pub spread_spec : {M : Type 1} → statement M
 spread_spec =

@@ -9,7 +9,7 @@ use Rattle.sets.specs.Chained.{ChainedRows}
 use Rattle.sets.proofs.Chained.{link_row, rest, rest_less}
 use Rattle.placing.specs.Filled.{Kept}
 use Rattle.placing.proofs.Kept.{kept_none, kept_trans}
-use Rattle.slots.proofs.PlainWalk.{Coming, coming_start, coming-end, Along, along-start, along-more, along-end}
+use Rattle.slots.proofs.PlainWalk.{Coming, coming_start, coming_end, Along, along_start, along_more, along_end}
 use Rattle.slots.proofs.plain.fill_plain.Statement.{statement}
 use Rattle.slots.proofs.plain.fill_plain.Tie as tie
 
@@ -64,7 +64,7 @@ loop2-holds : tie.Need-loop-r-init invariant-loop2 decreases-loop2 invariant-loo
 loop2-holds c =
     let l = c.before.before.loop-element in (
       kept_none _ _,
-      λ n O. along-start (l.invariant.1 n O) (O.chained.heads l.element (omega (arith, O.low, c.before.loop-element-test.true))),
+      λ n O. along_start (l.invariant.1 n O) (O.chained.heads l.element (omega (arith, O.low, c.before.loop-element-test.true))),
     )
 
 -- ---- a row
@@ -124,7 +124,7 @@ loop2-again c =
       kept_trans l.invariant.0 P.kept,
       λ n O.
           let A = l.invariant.1 n O in
-          along-more O.few A (row_is I).0 refl
+          along_more O.few A (row_is I).0 refl
           (O.chained.nexts (l.r - 1) (omega arith) (omega (arith, row_is I, link_row A.link))) P,
     )
 
@@ -139,7 +139,7 @@ loop-less c = omega (arith, c.before.before.before.loop-element-test.true)
 loop-again : tie.Need-loop-element-preserved invariant-loop2 decreases-loop2 invariant-loop decreases-loop
 loop-again c =
     let l = c.before.loop-r in
-    (kept_trans c.before.before.before.before.loop-element.invariant.0 l.invariant.0, λ n O. along-end (l.invariant.1 n O) c.loop-r-test.false)
+    (kept_trans c.before.before.before.before.loop-element.invariant.0 l.invariant.0, λ n O. along_end (l.invariant.1 n O) c.loop-r-test.false)
 
 -- ---- the end
 
@@ -152,7 +152,7 @@ same_length c = (kept c.before).long
 returns : tie.Need-returns invariant-loop2 decreases-loop2 invariant-loop decreases-loop
 returns c n O =
     let S = start c.before in
-    coming-end (c.before.loop-element.invariant.1 n O) (λ j h. omega (arith, O.line j h, c.loop-element-test.false)) (kept c.before)
+    coming_end (c.before.loop-element.invariant.1 n O) (λ j h. omega (arith, O.line j h, c.loop-element-test.false)) (kept c.before)
     (omega (arith, S.requires.1, (kept c.before).long))
 
 pub fill_plain_spec : {M : Type 1} → statement M

@@ -7,7 +7,7 @@ use lib.Bits.{bit_or}
 use lib.ListN.{length}
 use Rattle.numbers.specs.Lists.{at}
 use Rattle.numbers.proofs.Word.{one_shl}
-use Rattle.slots.proofs.PlainWalk.{Placing, placing-start, placing-skip, placing-take, placing-end}
+use Rattle.slots.proofs.PlainWalk.{Placing, placing_start, placing_skip, placing_take, placing_end}
 use Rattle.slots.proofs.plain.place_row.Statement.{statement}
 use Rattle.slots.proofs.plain.place_row.Tie as tie
 
@@ -22,7 +22,7 @@ shl-row : tie.Need-overflow_shl-row invariant-slots decreases-slots
 shl-row c = omega arith
 
 slots-holds : tie.Need-slots-init invariant-slots decreases-slots
-slots-holds c = placing-start
+slots-holds c = placing_start
 
 -- there is room for the slot
 room : (c : tie.In-slots invariant-slots decreases-slots) → c.before.slots.s < length c.before.slots.words
@@ -68,23 +68,23 @@ slots-again c =
     ⊎_elim
     (λ w.
     rw (w.2, w.3)
-    (placing-take l.invariant I.slots-test.true
+    (placing_take l.invariant I.slots-test.true
     (omega (arith, l.invariant.kept.long, I.before.before.before.requires.1)) (opens ∙ w.0.true) (omega (arith, e.if-left-eq0.false))
     (ap (bit_or (at l.words l.s)) (one_shl z.i I.before.before.before.requires.0))))
-    (λ w. rw (w.1, w.2) (placing-skip l.invariant I.slots-test.true (opens ∙ w.0.left)))
+    (λ w. rw (w.1, w.2) (placing_skip l.invariant I.slots-test.true (opens ∙ w.0.left)))
     c.if-is_free.branch
 
 same_length : tie.Need-shape_of-words-after-slots invariant-slots decreases-slots
 same_length c = c.before.slots.invariant.kept.long
 
 returns : tie.Need-returns-after-slots invariant-slots decreases-slots
-returns c = placing-end c.before.slots.invariant (inl c.slots-test.false)
+returns c = placing_end c.before.slots.invariant (inl c.slots-test.false)
 
 same-length-2 : tie.Need-shape_of-words-then-left-eq0 invariant-slots decreases-slots
 same-length-2 c = c.before.before.slots.invariant.kept.long
 
 returns-2 : tie.Need-returns-then-left-eq0 invariant-slots decreases-slots
-returns-2 c = placing-end c.before.before.slots.invariant (inr c.if-left-eq0.true)
+returns-2 c = placing_end c.before.before.slots.invariant (inr c.if-left-eq0.true)
 
 pub place_row_spec : {M : Type 1} → statement M
 place_row_spec =

@@ -4,7 +4,7 @@ use native.Mathlib.Omega.{arith}
 use lib.ListN.{length}
 use borrow.Author.Tests.{eq-eqb, ne_eqb}
 use Rattle.text_reader.specs.Walk.{is_sign}
-use Rattle.text_reader.proofs.Parts.{Going, going_start, going_on, going-stops, going-ends}
+use Rattle.text_reader.proofs.Parts.{Going, going_start, going_on, going_stops, going_ends}
 use Rattle.text_reader.proofs.fields.find.Statement.{statement}
 use Rattle.text_reader.proofs.fields.find.Tie as tie
 
@@ -23,7 +23,7 @@ shared-slice-read-if1 c = omega arith
 returns : tie.Need-returns-then-bytes-i invariant-loop decreases-loop
 returns c =
     let z = c.before.before.before.loop-i in
-    (omega (arith, going-stops z.invariant (omega arith) (eq-eqb _ _ c.if-bytes-i.true)), z.invariant.inside)
+    (omega (arith, going_stops z.invariant (omega arith) (eq-eqb _ _ c.if-bytes-i.true)), z.invariant.inside)
 
 add-i : tie.Need-overflow_add-i invariant-loop decreases-loop
 add-i c = omega arith
@@ -35,7 +35,7 @@ loop-again : tie.Need-loop-i-preserved invariant-loop decreases-loop
 loop-again c = going_on c.before.before.before.loop-i.invariant (omega arith) (ne_eqb _ _ c.if-bytes-i.false)
 
 returns-2 : tie.Need-returns invariant-loop decreases-loop
-returns-2 c = (omega (arith, going-ends c.before.loop-i.invariant (omega arith)), c.before.loop-i.invariant.inside)
+returns-2 c = (omega (arith, going_ends c.before.loop-i.invariant (omega arith)), c.before.loop-i.invariant.inside)
 
 pub find_spec : {M : Type 1} → statement M
 find_spec =

@@ -6,7 +6,7 @@ use lib.ListN.{length, take, drop, length-drop}
 use lib.Seq.{take_all}
 use borrow.Author.Rules.{rules}
 use Rattle.grammar.specs.TableText.{is_newline, is_hash, until}
-use Rattle.text_reader.proofs.TextLines.{is-line}
+use Rattle.text_reader.proofs.TextLines.{is_line}
 use Rattle.text_reader.proofs.fields.line_at.Statement.{statement}
 use Rattle.text_reader.proofs.fields.line_at.Tie as tie
 
@@ -52,7 +52,7 @@ returns c =
     let rest : take (length t - k) (drop k t) ≡ drop k t = take_all (length t - k) (drop k t) (omega (arith, length-drop k t)) in
     let n = f.find.result in
     let e : k + n - k ≡ n = omega arith in
-    is-line t k n c.find-2.result z.requires (f.find.ensures.0 ∙ ap (until is_newline) rest)
+    is_line t k n c.find-2.result z.requires (f.find.ensures.0 ∙ ap (until is_newline) rest)
     (c.find-2.ensures.0 ∙ ap (λ (j : ℕ). until is_hash (take j (drop k t))) e)
 
 pub line_at_spec : {M : Type 1} → statement M

@@ -5,7 +5,7 @@ use native.Mathlib.Omega.{arith}
 use lib.ListN.{length}
 use borrow.Author.Rules.{rules}
 use Rattle.text_reader.specs.Walk.{lines_at}
-use Rattle.text_reader.proofs.TextLines.{line-skipped, line-found, line_none}
+use Rattle.text_reader.proofs.TextLines.{line_skipped, line_found, line_none}
 use Rattle.text_reader.proofs.fields.next_line.Statement.{statement}
 use Rattle.text_reader.proofs.fields.next_line.Tie as tie
 
@@ -37,7 +37,7 @@ returns : tie.Need-returns-then-first invariant-loop decreases-loop
 returns c =
     let n = c.before.before in
     let l = n.before.before in
-    line-found l.line_at_lem.ensures (n.next_field-first.ensures l.line_at_lem.result.start) _ c.if-first.true
+    line_found l.line_at_lem.ensures (n.next_field-first.ensures l.line_at_lem.result.start) _ c.if-first.true
     l.before.before.loop-at.invariant.1
 
 loop-less : tie.Need-loop-at-smaller invariant-loop decreases-loop
@@ -50,7 +50,7 @@ loop-again c =
     let n = c.before.before in
     let l = n.before.before in (
       l.line_at_lem.ensures.past,
-      line-skipped l.line_at_lem.ensures (n.next_field-first.ensures l.line_at_lem.result.start) _ c.if-first.false
+      line_skipped l.line_at_lem.ensures (n.next_field-first.ensures l.line_at_lem.result.start) _ c.if-first.false
           l.before.before.loop-at.invariant.1,
     )
 

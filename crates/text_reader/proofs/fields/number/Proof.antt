@@ -4,7 +4,7 @@ use native.Mathlib.Omega.{arith}
 use lib.ListN.{length}
 use borrow.Author.Rules.{rules}
 use Rattle.numbers.proofs.Truth.{denied, granted}
-use Rattle.text_reader.proofs.Numbers.{Summed, summed_start, summed_next, cell-word, cell-large, cell-value}
+use Rattle.text_reader.proofs.Numbers.{Summed, summed_start, summed_next, cell_word, cell_large, cell_value}
 use Rattle.text_reader.proofs.fields.number.Statement.{statement}
 use Rattle.text_reader.proofs.fields.number.Tie as tie
 
@@ -30,7 +30,7 @@ returns : tie.Need-returns-then-not-is_digit invariant-loop decreases-loop
 returns c =
     let d = c.before.before in
     let e = c.refuse.ensures in
-    cell-word _ d.before.before.before.loop-i.invariant _ (omega arith) (denied d.is_digit.ensures c.before.if-not-is_digit.true) e.0 e.1
+    cell_word _ d.before.before.before.loop-i.invariant _ (omega arith) (denied d.is_digit.ensures c.before.if-not-is_digit.true) e.0 e.1
 
 shared-slice-read-grow : tie.Need-bounds-digits-i-in-loop-i invariant-loop decreases-loop
 shared-slice-read-grow c = omega arith
@@ -58,13 +58,13 @@ refuse-requires-2 c κs = search rules
 returns-2 : tie.Need-returns-then-x-gt65535 invariant-loop decreases-loop
 returns-2 c =
     let e = c.refuse-then-x-gt65535.ensures in
-    cell-large _ c.before.before.before.loop-i.invariant (omega arith) _ (omega arith) e.0 e.1
+    cell_large _ c.before.before.before.loop-i.invariant (omega arith) _ (omega arith) e.0 e.1
 
 cast-t12 : tie.Need-overflow_cast-result invariant-loop decreases-loop
 cast-t12 c = omega arith
 
 returns-3 : tie.Need-returns invariant-loop decreases-loop
-returns-3 c = cell-value _ c.before.before.loop-i.invariant (omega arith) (omega arith)
+returns-3 c = cell_value _ c.before.before.loop-i.invariant (omega arith) (omega arith)
 
 pub number_spec : {M : Type 1} → statement M
 number_spec =

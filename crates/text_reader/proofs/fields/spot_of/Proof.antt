@@ -7,7 +7,7 @@ use Rattle.numbers.specs.Finite.{sum, lowest}
 use Rattle.numbers.specs.Lists.{at as byte}
 use Rattle.text_reader.specs.declared.fields.Spot.{Spot}
 use Rattle.text_reader.specs.Walk.{stepped}
-use Rattle.text_reader.proofs.Spots.{spot_at, spot-next, spot-low, is_spot}
+use Rattle.text_reader.proofs.Spots.{spot_at, spot_next, spot_low, is_spot}
 use Rattle.text_reader.proofs.fields.spot_of.Statement.{statement}
 use Rattle.text_reader.proofs.fields.spot_of.Tie as tie
 
@@ -31,7 +31,7 @@ step-requires : tie.Need-step-at-requires invariant-loop decreases-loop
 step-requires c κs =
     let u = c.before.before in
     let text = u.before.before.before.args.text.now in
-    let low = spot-low text u.loop-i.i in
+    let low = spot_low text u.loop-i.i in
     let e = u.loop-i.invariant.1 in
     let l = u.before.least-end.ensures in
     (omega (arith, ap (λ (s : Spot). s.line) e, low.0, l), omega (arith, ap (λ (s : Spot). s.column) e, low.1, l))
@@ -47,7 +47,7 @@ loop-again c =
     let u = c.before.before.before in
     let text = u.before.before.before.args.text.now in
     let i = u.loop-i.i in
-    (omega arith, c.step-at.ensures ∙ ap (λ (s : Spot). stepped s (byte text i)) u.loop-i.invariant.1 ∙ spot-next text i)
+    (omega arith, c.step-at.ensures ∙ ap (λ (s : Spot). stepped s (byte text i)) u.loop-i.invariant.1 ∙ spot_next text i)
 
 returns : tie.Need-returns invariant-loop decreases-loop
 returns c =

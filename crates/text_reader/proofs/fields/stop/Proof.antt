@@ -5,7 +5,7 @@ use native.Mathlib.Omega.{arith}
 use lib.ListN.{length}
 use borrow.Author.Rules.{rules}
 use Rattle.text_reader.specs.Walk.{blank_is}
-use Rattle.text_reader.proofs.Parts.{Going, going_start, going_on, going-stops, going-ends}
+use Rattle.text_reader.proofs.Parts.{Going, going_start, going_on, going_stops, going_ends}
 use Rattle.text_reader.proofs.fields.stop.Statement.{statement}
 use Rattle.text_reader.proofs.fields.stop.Tie as tie
 
@@ -27,7 +27,7 @@ is-stop-requires c κs = search rules
 returns : tie.Need-returns-then-is_stop invariant-loop decreases-loop
 returns c =
     let z = c.before.before.before.before.loop-i in
-    (going-stops z.invariant (omega arith) (sym c.before.is_stop.ensures ∙ c.if-is_stop.true), z.invariant.inside)
+    (going_stops z.invariant (omega arith) (sym c.before.is_stop.ensures ∙ c.if-is_stop.true), z.invariant.inside)
 
 add-i : tie.Need-overflow_add-i invariant-loop decreases-loop
 add-i c = omega arith
@@ -40,7 +40,7 @@ loop-again c =
     going_on c.before.before.before.before.loop-i.invariant (omega arith) (sym c.before.is_stop.ensures ∙ c.if-is_stop.false)
 
 returns-2 : tie.Need-returns invariant-loop decreases-loop
-returns-2 c = (going-ends c.before.loop-i.invariant (omega arith), c.before.loop-i.invariant.inside)
+returns-2 c = (going_ends c.before.loop-i.invariant (omega arith), c.before.loop-i.invariant.inside)
 
 pub stop_spec : {M : Type 1} → statement M
 stop_spec =

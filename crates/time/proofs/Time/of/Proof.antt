@@ -7,8 +7,8 @@ use borrow.Author.Rules.{rules}
 use borrow.Author.Tests.{not-true, not-false}
 use Rattle.numbers.specs.Lists.{at}
 use Rattle.time.specs.Time.{Periods}
-use Rattle.time.proofs.Periods.{keeping-low, keeping-room, keeping-space, keeping_end, leading-periods, rising-over}
-use Rattle.time.proofs.Periods.{Clocking, clocking-start, clocking-again, clocking-kept, clocking-new, clocks_none, clocks_end}
+use Rattle.time.proofs.Periods.{keeping_low, keeping_room, keeping_space, keeping_end, leading_periods, rising_over}
+use Rattle.time.proofs.Periods.{Clocking, clocking_start, clocking_again, clocking_kept, clocking_new, clocks_none, clocks_end}
 use Rattle.time.proofs.Time.of.Statement.{statement}
 use Rattle.time.proofs.Time.of.Tie as tie
 
@@ -26,7 +26,7 @@ abbrev fresh : tie.After-raised-h invariant-loop decreases-loop → tie.After-sl
 fresh r = r.before.before.before
 
 loop-holds : tie.Need-loop-i-init invariant-loop decreases-loop
-loop-holds c = clocking-start c.requires
+loop-holds c = clocking_start c.requires
 
 slots-at-requires : tie.Need-slots_at-next-requires invariant-loop decreases-loop
 slots-at-requires c κs = omega (arith, c.before.before.requires.few)
@@ -70,7 +70,7 @@ returns c =
     let u = head s in
     rw c.none.ensures
     (clocks_none
-    (rising-over u.before.requires u.loop-i.invariant.rising (omega arith)
+    (rising_over u.before.requires u.loop-i.invariant.rising (omega arith)
     (rw s.before.before.before.slots_at-next.ensures at r.raised-h.ensures) c.before.if-h.true))
 
 is-leading-requires : tie.Need-is_leading-requires invariant-loop decreases-loop
@@ -78,7 +78,7 @@ is-leading-requires c κs =
     let u = head (fresh c.before.before) in
     let P = u.before.requires in
     let K = u.loop-i.invariant.keeping in
-    (keeping-room P K, keeping-low P K)
+    (keeping_room P K, keeping_low P K)
 
 mul-kept : tie.Need-offset_bounds-period-i-then-is_leading invariant-loop decreases-loop
 mul-kept c = omega (arith, (head (fresh c.before.before.before.before)).before.requires.few)
@@ -89,17 +89,17 @@ element-copy-out-kept c = omega (arith, (head (fresh c.before.before.before.befo
 mul-kept-2 : tie.Need-offset_bounds-kept-count invariant-loop decreases-loop
 mul-kept-2 c =
     let u = head (fresh c.before.before.before.before.before) in
-    omega (arith, keeping-room u.before.requires u.loop-i.invariant.keeping)
+    omega (arith, keeping_room u.before.requires u.loop-i.invariant.keeping)
 
 array-write-kept : tie.Need-bounds-kept-count invariant-loop decreases-loop
 array-write-kept c =
     let u = head (fresh c.before.before.before.before.before) in
-    keeping-space u.before.requires u.loop-i.invariant.keeping (omega arith)
+    keeping_space u.before.requires u.loop-i.invariant.keeping (omega arith)
 
 add-count : tie.Need-overflow_add-count invariant-loop decreases-loop
 add-count c =
     let u = head (fresh c.before.before.before.before.before) in
-    omega (arith, keeping-room u.before.requires u.loop-i.invariant.keeping)
+    omega (arith, keeping_room u.before.requires u.loop-i.invariant.keeping)
 
 add-i : tie.Need-overflow_add-i invariant-loop decreases-loop
 add-i c = omega (arith, (head c.before).before.requires.few)
@@ -117,20 +117,20 @@ loop-again c =
     let place = s.before.before.place_of in
     ⊎_elim
     (λ w. rw (w.8, w.9, w.10, w.11)
-    (clocking-new P C (omega arith) place.result place.ensures (rw e at w.2.ensures) w.3.left
+    (clocking_new P C (omega arith) place.result place.ensures (rw e at w.2.ensures) w.3.left
     (not-true _ (sym (rw e at w.5.ensures) ∙ w.6.true))))
     (⊎_elim
     (λ w. rw (w.7, w.8, w.9, w.10)
-    (clocking-kept P C (omega arith) place.result place.ensures (rw e at w.2.ensures) w.3.left
+    (clocking_kept P C (omega arith) place.result place.ensures (rw e at w.2.ensures) w.3.left
     (not-false _ (sym (rw e at w.5.ensures) ∙ w.6.left))))
     (λ w. rw (w.1, w.2, w.3, w.4)
-    (clocking-again P C (omega arith) place.result (sym s.slots_at.ensures ∙ w.0.left ∙ e))))
+    (clocking_again P C (omega arith) place.result (sym s.slots_at.ensures ∙ w.0.left ∙ e))))
     c.if-slots_at-next.branch
 
 shortest-of-requires : tie.Need-shortest_of-requires invariant-loop decreases-loop
 shortest-of-requires c κs =
     let u = c.before.before in
-    leading-periods (keeping_end u.loop-i.invariant.keeping c.before.loop-i-test.false) u.before.requires
+    leading_periods (keeping_end u.loop-i.invariant.keeping c.before.loop-i-test.false) u.before.requires
 
 returns-2 : tie.Need-returns invariant-loop decreases-loop
 returns-2 c =

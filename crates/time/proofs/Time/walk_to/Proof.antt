@@ -7,10 +7,10 @@ use Rattle.numbers.specs.Lists.{at}
 use Rattle.numbers.specs.Divisors.{Past}
 use Rattle.rules.specs.Bus.{Table}
 use Rattle.rules.specs.Loads.{intervals, start}
-use Rattle.lags.proofs.Intervals.{start_first, start-last, start-below, start-strict, start-in, start-late, intervals-le, end_is, end-next}
+use Rattle.lags.proofs.Intervals.{start_first, start_last, start_below, start_strict, start_in, start_late, intervals_le, end_is, end_next}
 use Rattle.time.specs.declared.Time.{Time}
 use Rattle.time.specs.Time.{Timed}
-use Rattle.time.proofs.Periods.{periods_of, leading-is, leading-periods}
+use Rattle.time.proofs.Periods.{periods_of, leading_is, leading_periods}
 use Rattle.time.proofs.Time.walk_to.Statement.{statement}
 use Rattle.time.proofs.Time.walk_to.Tie as tie
 
@@ -22,20 +22,20 @@ module _ {c : Time} {k s j : ℕ} (W : Walked c k s j) {t : Table} (T : Timed t 
   inside : s < c.hyper → j < intervals t
   inside l =
       let w = W t T in
-      start-below T.sound j (intervals t) w.1 (omega (arith, w.2, T.hyper, start-last T.sound))
+      start_below T.sound j (intervals t) w.1 (omega (arith, w.2, T.hyper, start_last T.sound))
 
   next : {r : ℕ} → s < c.hyper → j < k → Past c.count (at c.period) s r → (j + 1 ≤ k) × (j + 1 ≤ intervals t) × (r ≡ start t (j + 1))
   next {r} l m P =
       let S = T.sound in
-      (omega arith, omega (arith, inside l), end_is S (leading-is T.leads) j r (rw (W t T).2 at P) ∙ end-next S j)
+      (omega arith, omega (arith, inside l), end_is S (leading_is T.leads) j r (rw (W t T).2 at P) ∙ end_next S j)
 
   last : c.hyper ≤ s → c.hyper ≡ start t (min k (intervals t))
   last l =
       let S = T.sound in
       let w = W t T in
       let all : ¬ (j < intervals t) = λ m.
-      omega (arith, w.2, T.hyper, start-strict S j (intervals t) m (le_refl (intervals t)), start-last S) in
-      T.hyper ∙ sym (start-late S k (omega (arith, w.0, w.1)))
+      omega (arith, w.2, T.hyper, start_strict S j (intervals t) m (le_refl (intervals t)), start_last S) in
+      T.hyper ∙ sym (start_late S k (omega (arith, w.0, w.1)))
 
 abbrev invariant-loop : tie.invariant-loop-slot
 invariant-loop k self slot₀ passed₀ slot passed = Walked self k slot passed
@@ -53,19 +53,19 @@ returns c t T =
     let k : ℕ = u.before.args.k in
     let e : u.loop-slot.passed ≡ k = omega arith in
     let l : u.loop-slot.passed < intervals t = inside W T (omega arith) in
-    (W t T).2 ∙ ap (start t) e ∙ sym (start-in T.sound k (omega arith))
+    (W t T).2 ∙ ap (start t) e ∙ sym (start_in T.sound k (omega arith))
 
 multiple-past-requires : tie.Need-multiple_past-slot-requires invariant-loop decreases-loop
 multiple-past-requires c κs =
     let u = c.before.before.before.before in
     let T = u.before.requires.1 in
-    (leading-periods T.leads (periods_of T.sound), omega (arith, T.hyper, T.short))
+    (leading_periods T.leads (periods_of T.sound), omega (arith, T.hyper, T.short))
 
 add-passed : tie.Need-overflow_add-passed invariant-loop decreases-loop
 add-passed c =
     let u = c.before.before.before.before.before in
     let T = u.before.requires.1 in
-    omega (arith, (u.loop-slot.invariant u.before.requires.0 T).1, intervals-le T.sound, T.short)
+    omega (arith, (u.loop-slot.invariant u.before.requires.0 T).1, intervals_le T.sound, T.short)
 
 loop-less : tie.Need-loop-slot-smaller invariant-loop decreases-loop
 loop-less c = omega (arith, c.multiple_past-slot.ensures.past)

@@ -9,9 +9,9 @@ use lib.Dec.{eqb}
 use Rattle.numbers.specs.Lists.{at}
 use Rattle.sets.specs.Walk.{line_size, ends_at}
 use Rattle.verdict.specs.Weights.{SumsAt}
-use Rattle.verdict.proofs.Line.{sums_small, sums-there}
-use Rattle.verdict.proofs.Line.{Passing, passing-start, passing-room, passing-small, passing-load, passing-fits}
-use Rattle.verdict.proofs.Line.{passing-next, passing-end}
+use Rattle.verdict.proofs.Line.{sums_small, sums_there}
+use Rattle.verdict.proofs.Line.{Passing, passing_start, passing_room, passing_small, passing_load, passing_fits}
+use Rattle.verdict.proofs.Line.{passing_next, passing_end}
 use Rattle.verdict.proofs.weights.weigh_line.Statement.{statement}
 use Rattle.verdict.proofs.weights.weigh_line.Tie as tie
 
@@ -30,7 +30,7 @@ rates-at-requires c κs =
     (p.1, λ i l. (omega (arith, O.line i l, O.within i l, O.short), omega (arith, O.within i l, O.short)), refl, refl)
 
 loop-holds : tie.Need-loop-e-init invariant-loop decreases-loop
-loop-holds c = (omega arith, passing-start)
+loop-holds c = (omega arith, passing_start)
 
 abbrev entry : tie.In-loop-e invariant-loop decreases-loop → tie.Start invariant-loop decreases-loop
 entry c = c.before.before.before.before.before
@@ -58,7 +58,7 @@ ends : (c : tie.In-loop-e invariant-loop decreases-loop)
     → let a = (entry c).args in
     let e = c.before.loop-e.e in
     not (eqb (at (leaving c) e) 0) ≡ ends_at a.rows (at a.second.now) e
-ends c = sums-there (leaves c) (entry c).requires.1.some _ (on_line c)
+ends c = sums_there (leaves c) (entry c).requires.1.some _ (on_line c)
 
 mul-starting : tie.Need-offset_bounds-joining-e invariant-loop decreases-loop
 mul-starting c = omega (arith, on_line c)
@@ -88,8 +88,8 @@ weigh-set-requires c κs =
     let d = c.before in
     let z = (entry d).requires in
     let P = d.before.loop-e.invariant.1 in (
-      λ q. omega (arith, passing-room z.0 z.1 P _ (ends d) (sym c.closes.ensures ∙ q), z.1.few),
-      passing-small z.0 z.1 P,
+      λ q. omega (arith, passing_room z.0 z.1 P _ (ends d) (sym c.closes.ensures ∙ q), z.1.few),
+      passing_small z.0 z.1 P,
       z.2,
       z.3,
       z.4,
@@ -102,7 +102,7 @@ sub-load : tie.Need-overflow_sub-load invariant-loop decreases-loop
 sub-load c =
     let d = c.before.before.before in
     let z = (entry d).requires in
-    omega (arith, (passing-load z.0 z.1 d.before.loop-e.invariant.1 (joins d) (leaves d) (on_line d)).0)
+    omega (arith, (passing_load z.0 z.1 d.before.loop-e.invariant.1 (joins d) (leaves d) (on_line d)).0)
 
 add-load : tie.Need-overflow_add-load invariant-loop decreases-loop
 add-load c =
@@ -111,8 +111,8 @@ add-load c =
     let P = d.before.loop-e.invariant.1 in
     omega (
       arith,
-      (passing-load z.0 z.1 P (joins d) (leaves d) (on_line d)).0,
-      passing-fits z.0 z.1 P (joins d) (leaves d) (on_line d),
+      (passing_load z.0 z.1 P (joins d) (leaves d) (on_line d)).0,
+      passing_fits z.0 z.1 P (joins d) (leaves d) (on_line d),
     )
 
 add-e : tie.Need-overflow_add-e invariant-loop decreases-loop
@@ -131,15 +131,15 @@ loop-again c =
     let v = w.weigh_set-found.ensures in (
       omega arith,
       rw (v.0, v.1, v.2, k.closes.ensures, c.goes_on-started.ensures)
-          (passing-next z.0 z.1 P (joins d) (leaves d) (on_line d) _ _
-          (sums-there (joins d) z.1.some _ (on_line d)) (ends d) _
-          (omega (arith, (passing-load z.0 z.1 P (joins d) (leaves d) (on_line d)).0))),
+          (passing_next z.0 z.1 P (joins d) (leaves d) (on_line d) _ _
+          (sums_there (joins d) z.1.some _ (on_line d)) (ends d) _
+          (omega (arith, (passing_load z.0 z.1 P (joins d) (leaves d) (on_line d)).0))),
     )
 
 returns : tie.Need-returns invariant-loop decreases-loop
 returns c =
     let z = c.before.before.before.before.before.requires in
-    passing-end z.0 z.1 c.before.loop-e.invariant.1 (omega arith)
+    passing_end z.0 z.1 c.before.loop-e.invariant.1 (omega arith)
 
 pub weigh_line_spec : {M : Type 1} → statement M
 weigh_line_spec =

@@ -2,7 +2,7 @@
 use mathlib.Core.Path.{◌≡◌}
 use Prim.Native.Nat.{◌-◌, ◌≤◌}
 use native.Mathlib.Omega.{arith}
-use Rattle.writer.proofs.Labels.{Bare, bare_start, bare_next, labels-held, labels-bare, labels-lost}
+use Rattle.writer.proofs.Labels.{Bare, bare_start, bare_next, labels_held, labels_bare, labels_lost}
 use Rattle.writer.proofs.memory.check_labels.Statement.{statement}
 use Rattle.writer.proofs.memory.check_labels.Tie as tie
 
@@ -19,7 +19,7 @@ returns : tie.Need-returns-then-version-ne-VERSION_1 invariant-loop decreases-lo
 returns c =
     λ M.
     rw (c.done.ensures.0, c.done.ensures.1)
-    (labels-held _ _ _ c.before.before.before.args.numbers.now M c.before.if-version-ne-VERSION_1.true)
+    (labels_held _ _ _ c.before.before.before.args.numbers.now M c.before.if-version-ne-VERSION_1.true)
 
 loop-holds : tie.Need-loop-i-init invariant-loop decreases-loop
 loop-holds c = (omega arith, bare_start _ _)
@@ -47,7 +47,7 @@ returns-2 c =
     let l = c.before.before in
     let z = l.before.before in
     λ M. rw (c.at.ensures.0, c.at.ensures.1)
-    (labels-lost _ _ _ _ M z.before.before.if-version-ne-VERSION_1.false _ z.loop-i-test.true z.before.loop-i.invariant.1
+    (labels_lost _ _ _ _ M z.before.before.if-version-ne-VERSION_1.false _ z.loop-i-test.true z.before.loop-i.invariant.1
     (rw l.label_in.ensures at c.before.if-label_in-ne0.true))
 
 add-i : tie.Need-overflow_add-i-in-loop-i invariant-loop decreases-loop
@@ -69,7 +69,7 @@ returns-3 c =
     let a = c.before.before.before.before.before.args in
     let e : c.before.before.loop-i.i ≡ a.rows = omega arith in
     λ M. rw (c.done-2.ensures.0, c.done-2.ensures.1)
-    (labels-bare a.rings a.version a.rows a.numbers.now M (rw e at c.before.before.loop-i.invariant.1))
+    (labels_bare a.rings a.version a.rows a.numbers.now M (rw e at c.before.before.loop-i.invariant.1))
 
 pub check_labels_spec : {M : Type 1} → statement M
 check_labels_spec =

@@ -7,7 +7,7 @@ use borrow.Author.Rules.{rules}
 use Rattle.rules.specs.TableFile.{row_numbers, memory_with}
 use Rattle.rules.specs.Refusals.{Answers, size_checks}
 use Rattle.rules.proofs.Answers.{None, none_of}
-use Rattle.table.proofs.Faults.{sizes_numbered, sizes_right, memory-stopped, memory-joined}
+use Rattle.table.proofs.Faults.{sizes_numbered, sizes_right, memory_stopped, memory_joined}
 use Rattle.writer.proofs.memory.check_numbers.Statement.{statement}
 use Rattle.writer.proofs.memory.check_numbers.Tie as tie
 
@@ -35,7 +35,7 @@ at-requires c κs = search rules
 
 returns : tie.Need-returns-then-number-ne-DONE
 returns c =
-    rw (c.at.ensures.0, c.at.ensures.1) (memory-stopped _ _ _ _ _ c.before.if-number-ne-DONE.true (sized c.before.before))
+    rw (c.at.ensures.0, c.at.ensures.1) (memory_stopped _ _ _ _ _ c.before.if-number-ne-DONE.true (sized c.before.before))
 
 check-row-numbers-requires : tie.Need-check_row_numbers-requires
 check-row-numbers-requires c κs =
@@ -44,7 +44,7 @@ check-row-numbers-requires c κs =
     (s.3, omega (arith, s.4))
 
 returns-2 : tie.Need-returns
-returns-2 c = memory-joined _ _ _ _ _ _ (none c.before) c.check_row_numbers.ensures
+returns-2 c = memory_joined _ _ _ _ _ _ (none c.before) c.check_row_numbers.ensures
 
 pub check_numbers_spec : {M : Type 1} → statement M
 check_numbers_spec =

@@ -4,7 +4,7 @@ use Prim.Native.Nat.{◌-◌}
 use native.Mathlib.Omega.{arith}
 use borrow.Author.Rules.{rules}
 use Rattle.rules.specs.TableFile.{memory_with}
-use Rattle.table.proofs.Faults.{Checked, checked_start, checked-next, checked-stop, checked_end}
+use Rattle.table.proofs.Faults.{Checked, checked_start, checked_next, checked_stop, checked_end}
 use Rattle.writer.proofs.memory.check_row_numbers.Statement.{statement}
 use Rattle.writer.proofs.memory.check_row_numbers.Tie as tie
 
@@ -30,7 +30,7 @@ returns : tie.Need-returns-then-number-ne-DONE invariant-loop decreases-loop
 returns c =
     let a = c.before.before.before.before.before.before.before.args in
     rw (c.at.ensures.0, c.at.ensures.1)
-    (checked-stop _ _ _ refl refl (c.before.before.before.row_of.ensures a.elements a.rows)
+    (checked_stop _ _ _ refl refl (c.before.before.before.row_of.ensures a.elements a.rows)
     c.before.before.row_fault-number.ensures
     c.before.before.before.before.before.loop-i.invariant c.before.before.before.before.loop-i-test.true c.before.if-number-ne-DONE.true)
 
@@ -43,7 +43,7 @@ loop-less c = search rules
 loop-again : tie.Need-loop-i-preserved invariant-loop decreases-loop
 loop-again c =
     let a = c.before.before.before.before.before.before.args in
-    checked-next _ _ _ refl refl (c.before.before.row_of.ensures a.elements a.rows) c.before.row_fault-number.ensures
+    checked_next _ _ _ refl refl (c.before.before.row_of.ensures a.elements a.rows) c.before.row_fault-number.ensures
     c.before.before.before.before.loop-i.invariant c.before.before.before.loop-i-test.true c.if-number-ne-DONE.false
 
 done-requires : tie.Need-done-requires invariant-loop decreases-loop

@@ -2,7 +2,7 @@
 use native.Mathlib.Omega.{arith}
 use Rattle.rules.specs.Refusals.{wrong_version, memory_checks}
 use Rattle.rules.proofs.Answers.{None, none_of}
-use Rattle.table.proofs.Faults.{memory_numbered, memory-sizes, version-unknown, version-stopped, version-joined}
+use Rattle.table.proofs.Faults.{memory_numbered, memory_sizes, version_unknown, version_stopped, version_joined}
 use borrow.Author.Rules.{rules}
 use Rattle.writer.proofs.memory.check_version.Statement.{statement}
 use Rattle.writer.proofs.memory.check_version.Tie as tie
@@ -27,7 +27,7 @@ at-requires c κs = search rules
 returns : tie.Need-returns-then-is_unknown
 returns c =
     let z = c.before in
-    rw (c.at.ensures.0, c.at.ensures.1) (version-unknown _ _ _ _ _ (z.before.is_unknown.ensures.holds z.if-is_unknown.true))
+    rw (c.at.ensures.0, c.at.ensures.1) (version_unknown _ _ _ _ _ (z.before.is_unknown.ensures.holds z.if-is_unknown.true))
 
 check-numbers-requires : tie.Need-check_numbers-answer-requires
 check-numbers-requires c κs = search rules
@@ -35,17 +35,17 @@ check-numbers-requires c κs = search rules
 returns-2 : tie.Need-returns-then-answer-ne-DONE
 returns-2 c =
     let z = c.before.before in
-    version-stopped _ _ _ _ _ (known z) _ _ c.if-answer-ne-DONE.true z.check_numbers-answer.ensures
+    version_stopped _ _ _ _ _ (known z) _ _ c.if-answer-ne-DONE.true z.check_numbers-answer.ensures
 
 check-labels-requires : tie.Need-check_labels-requires
 check-labels-requires c κs =
-    let s = memory-sizes _ _ _ _ (none c) in
+    let s = memory_sizes _ _ _ _ (none c) in
     (s.0, omega (arith, s.1))
 
 returns-3 : tie.Need-returns
 returns-3 c =
     let z = c.before.before.before in
-    version-joined _ _ _ _ _ (known z) _ _ (none c.before) (c.check_labels.ensures z.before.before.before.before.args.elements)
+    version_joined _ _ _ _ _ (known z) _ _ (none c.before) (c.check_labels.ensures z.before.before.before.before.args.elements)
 
 pub check_version_spec : {M : Type 1} → statement M
 check_version_spec =
