@@ -20,7 +20,7 @@ returns c =
 
 labels-of-requires : tie.Need-labels_of-requires
 labels-of-requires c κs =
-    let d = (taken c).decode-into in
+    let d = (taken c).decode_into-head in
     whole_of _ d.result.answer c.if-answer-ne-DONE.false d.ensures.answers
 
 returns-2 : tie.Need-returns

@@ -26,8 +26,8 @@ decreases-loop top rows load₀ totals₀ i₀ load totals i = rows - i
 as_is : (l : tie.In-loop-i invariant-loop decreases-loop)
     → (let u = l.before.loop-i in
     let z = l.before.before in
-    (at u.load u.i ≡ at z.args.load-1.now u.i) × (at u.totals u.i ≡ at z.args.totals.now u.i)
-    × (at z.args.totals.now u.i ≤ at z.args.load-1.now u.i) × (at z.args.load-1.now u.i ≤ max_slots))
+    (at u.load u.i ≡ at z.args.load.now u.i) × (at u.totals u.i ≡ at z.args.totals.now u.i)
+    × (at z.args.totals.now u.i ≤ at z.args.load.now u.i) × (at z.args.load.now u.i ≤ max_slots))
 as_is l =
     let u = l.before.loop-i in
     let z = l.before.before in

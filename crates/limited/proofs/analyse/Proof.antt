@@ -30,7 +30,7 @@ bytes c = (start c).args.file.now
 checked : (c : tie.Else-answer-ne-DONE)
     → Answers (one_ring_checks (bytes c) (given_checks (bytes c))) 0 (taken c).given_one_ring-found.result.answer-1.place
 checked c =
-    let g = (taken c).given-one-ring in
+    let g = (taken c).given_one_ring-found in
     answers_zero (one_ring_checks (bytes c) (given_checks (bytes c))) g.result.answer c.if-answer-ne-DONE.false g.ensures.answers
 
 -- the table that is handed on
@@ -87,7 +87,7 @@ analysis-within-requires c κs =
 returns-3 : tie.Need-returns
 returns-3 c =
     let d = c.before.before.before.before in
-    let g = (taken d).given-one-ring in
+    let g = (taken d).given_one_ring-found in
     let e = (taken d).before in
     let a = (start d).args in
     let f = a.file.now in

@@ -30,7 +30,7 @@ returns c =
     let our = S.args.limits.ours in
     let their = S.args.limits.theirs in
     step_asked (limited_ask f our their) (limited_numbered f our their) A.analyse.ensures S.args.p O.step_on.result
-    S.args.out-1.now _ (size S) O.step_on.ensures
+    S.args.out.now _ (size S) O.step_on.ensures
 
 pub step_spec : {M : Type 1} → statement M
 step_spec = tie.close (tie.spec analyse-requires step-on-requires same_length returns)

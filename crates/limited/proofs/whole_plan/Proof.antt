@@ -23,7 +23,7 @@ returns c =
     let f = a.file.now in
     let our = a.limits.ours in
     let their = a.limits.theirs in
-    plan_asked (limited_ask f our their) (limited_numbered f our their) A.analyse.ensures O.plan_on.result a.plan-1.now _
+    plan_asked (limited_ask f our their) (limited_numbered f our their) A.analyse.ensures O.plan_on.result a.plan.now _
     O.plan_on.ensures
 
 pub whole_plan_spec : {M : Type 1} → statement M

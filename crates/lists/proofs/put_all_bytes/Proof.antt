@@ -55,10 +55,10 @@ loop-again c =
     let a = z.args in
     let u = c.before.before.before.before.before.before.loop-k in
     let q = file_entry_lem c.before.before.before.before.entry_of.ensures in
-    let room : list_header + entry_size * (u.k + 1) ≤ length a.out-1.now = omega (arith, z.requires.1) in
+    let room : list_header + entry_size * (u.k + 1) ≤ length a.out.now = omega (arith, z.requires.1) in
     let e = c.before.before.put_bytes.ensures in (
       omega arith,
-      filled_row {i = u.k} (take list_header a.out-1.now) (λ j. in_file (memory_entry a.numbers.now j)) _ _ u.invariant.1 e q
+      filled_row {i = u.k} (take list_header a.out.now) (λ j. in_file (memory_entry a.numbers.now j)) _ _ u.invariant.1 e q
           (omega arith) room,
     )
 

@@ -44,7 +44,7 @@ loop-again c =
     let z = c.before.before.before.before.before.before.before.before.before in
     let u = c.before.before.before.before.before.before.loop-k in
     let q = memory_entry_lem c.before.before.before.before.entry_in.ensures in
-    let room : entry_numbers * (u.k + 1) ≤ length z.args.out-1.now = omega (arith, z.requires.1) in (
+    let room : entry_numbers * (u.k + 1) ≤ length z.args.out.now = omega (arith, z.requires.1) in (
       omega arith,
       filled_row [] (λ j. in_memory (file_entry z.args.file.now j)) _ _ u.invariant.1
           c.before.before.put_numbers.ensures q (omega arith) room,

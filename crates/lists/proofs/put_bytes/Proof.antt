@@ -43,9 +43,9 @@ returns : tie.Need-returns
 returns c =
     let p = c.before.before.before.before in
     let a = p.before.before.before.args in
-    let e : p.put16.new.1.1.0 ≡ sets a.out-1.now a.at (write16 a.entry.slot) = p.put16.ensures in
+    let e : p.put16.new.out ≡ sets a.out.now a.at (write16 a.entry.slot) = p.put16.ensures in
     ap (λ (l : List ℕ). set (set l (a.at + 2) a.entry.row) (a.at + 3) a.entry.way) e
-    ∙ four a.out-1.now a.at a.entry.slot a.entry.row a.entry.way
+    ∙ four a.out.now a.at a.entry.slot a.entry.row a.entry.way
 
 pub put_bytes_spec : {M : Type 1} → statement M
 put_bytes_spec =

@@ -47,7 +47,7 @@ returns-2 c =
     let o = c.before.before.before.before.of-head.ensures in
     let e = c.refuse_read-then-out-head.ensures in
     rw (e.0, e.1, e.2, e.3, c.before.at.ensures.0, c.before.at.ensures.1)
-    (read_short (bytes z) z.before.before.before.before.before.args.out-1.now (none z)
+    (read_short (bytes z) z.before.before.before.before.before.args.out.now (none z)
     (omega (arith, c.before.before.if-out-head.true, o.entries)))
 
 put-all-numbers-requires : tie.Need-put_all_numbers-requires
@@ -66,7 +66,7 @@ returns-3 c =
     let a = z.before.before.before.before.before.args in
     let o = c.before.before.before.before.before.before.of-head.ensures in
     let all = c.before.before.put_all_numbers.ensures in
-    read_done (bytes z) a.out-1.now _ _ _ _ _ _ z.before.before.check_file-answer.ensures z.if-answer-ne-DONE.false
+    read_done (bytes z) a.out.now _ _ _ _ _ _ z.before.before.check_file-answer.ensures z.if-answer-ne-DONE.false
     (λ l. let y : ⊥ = omega (arith, c.before.before.before.before.if-out-head.false, o.entries) in y)
     (o.element, o.hyper, o.entries, rw o.entries at all)
 

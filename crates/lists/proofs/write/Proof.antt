@@ -49,7 +49,7 @@ returns-2 c =
     let z = c.before.before in
     let a = z.before.before.before.before.before.args in
     rw (c.at.ensures.0, c.at.ensures.1)
-    (written_short a.element a.hyper a.numbers.now a.out-1.now (none z) c.before.if-out-entries.true)
+    (written_short a.element a.hyper a.numbers.now a.out.now (none z) c.before.if-out-entries.true)
 
 cast-put-head : tie.Need-overflow_cast-element
 cast-put-head c = omega (arith, (right c.before).element_high)
@@ -64,7 +64,7 @@ put-all-bytes-requires : tie.Need-put_all_bytes-requires
 put-all-bytes-requires c κs =
     let z = c.before.before.before.before.before.before in
     let a = z.before.before.before.before.before.args in
-    let e = ap length c.before.before.before.put_head.ensures ∙ length-sets a.out-1.now 0 (file_head a.element a.hyper) in
+    let e = ap length c.before.before.before.put_head.ensures ∙ length-sets a.out.now 0 (file_head a.element a.hyper) in
     (omega arith, omega (arith, e), right_fits (right z))
 
 same_length : tie.Need-shape_of-out
@@ -77,7 +77,7 @@ returns-3 c =
     let a = z.before.before.before.before.before.args in
     let rows = each (length a.numbers.now / entry_numbers) (λ k. in_file (memory_entry a.numbers.now k)) in
     written_done _ _ _ _ _ _ _ z.before.before.check_numbers-answer.ensures z.if-answer-ne-DONE.false (λ l. let z : ⊥ = omega arith in z)
-    (lent_headed a.out-1.now _ _ (file_head a.element a.hyper) rows list_header refl (omega arith)
+    (lent_headed a.out.now _ _ (file_head a.element a.hyper) rows list_header refl (omega arith)
     c.before.before.before.before.before.before.put_head.ensures c.before.before.put_all_bytes.ensures)
 
 pub write_spec : {M : Type 1} → statement M

@@ -46,7 +46,7 @@ returns : tie.Need-returns-then-answer-ne-DONE
 returns c =
     let f = c.before.before.before.before in
     let a = (start f).args in
-    made_refused (one_ring_ask (bytes f)) a.plan.now a.element list_numbers a.out-1.now (wanted f) f.find_for-found.ensures
+    made_refused (one_ring_ask (bytes f)) a.plan.now a.element list_numbers a.out.now (wanted f) f.find_for-found.ensures
     c.made_of.ensures c.before.if-answer-ne-DONE.true
 
 put-numbers-requires : tie.Need-put_numbers-requires
@@ -67,10 +67,10 @@ returns-2 c =
     let z = p.before.before in
     let f = found z in
     let a = (start f).args in
-    made_done (one_ring_ask (bytes f)) a.plan.now a.element list_numbers a.out-1.now (wanted f) f.find_for-found.ensures
+    made_done (one_ring_ask (bytes f)) a.plan.now a.element list_numbers a.out.now (wanted f) f.find_for-found.ensures
     c.made_of-2.ensures z.if-answer-ne-DONE.false _
     (p.put_numbers.ensures
-    ∙ ap (λ (xs : List ℕ). lent xs a.out-1.now)
+    ∙ ap (λ (xs : List ℕ). lent xs a.out.now)
     (ap (flat in_memory) (ready z).moves ∙ numbers_are (file_table (bytes f)) a.element a.plan.now))
 
 pub make_spec : {M : Type 1} → statement M

@@ -49,7 +49,7 @@ returns : tie.Need-returns-then-answer-ne-DONE
 returns c =
     let f = c.before.before.before.before in
     let a = (start f).args in
-    made_refused (one_ring_ask (bytes f)) a.plan.now a.element list_bytes a.out-1.now (wanted f) f.find_for-found.ensures
+    made_refused (one_ring_ask (bytes f)) a.plan.now a.element list_bytes a.out.now (wanted f) f.find_for-found.ensures
     c.made_of.ensures c.before.if-answer-ne-DONE.true
 
 cast-put-head : tie.Need-overflow_cast-element
@@ -62,7 +62,7 @@ cast-put-head-2 c = omega (arith, (ready c.before).short)
 room : (c : tie.Else-answer-ne-DONE)
     → let f = found c in
     list_header + entry_size * (moves_list (file_table (bytes f)) (start f).args.element (start f).args.plan.now).entries
-    ≤ length (start f).args.out-1.now
+    ≤ length (start f).args.out.now
 room c = (found c).find_for-found.ensures.enough c.if-answer-ne-DONE.false
 
 put-head-requires : tie.Need-put_head-requires
@@ -75,7 +75,7 @@ put-bytes-requires c κs =
     let f = found z in
     let R = ready z in
     let h = ap length p.put_head.ensures
-    ∙ length-sets (start f).args.out-1.now 0 (file_head (start f).args.element f.find_for-found.result.hyper) in
+    ∙ length-sets (start f).args.out.now 0 (file_head (start f).args.element f.find_for-found.result.hyper) in
     (R.long, R.short, R.clear, omega (arith, room z, ap length R.moves, h))
 
 made-of-requires-2 : tie.Need-made_of-requires-2
@@ -93,11 +93,11 @@ returns-2 c =
     let a = (start f).args in
     let t = file_table (bytes f) in
     let R = ready z in
-    made_done (one_ring_ask (bytes f)) a.plan.now a.element list_bytes a.out-1.now (wanted f) f.find_for-found.ensures
+    made_done (one_ring_ask (bytes f)) a.plan.now a.element list_bytes a.out.now (wanted f) f.find_for-found.ensures
     c.made_of-2.ensures z.if-answer-ne-DONE.false _
-    (lent_headed a.out-1.now _ _ (file_head a.element (hyperperiod t)) (flat in_file (element_moves t a.element a.plan.now))
+    (lent_headed a.out.now _ _ (file_head a.element (hyperperiod t)) (flat in_file (element_moves t a.element a.plan.now))
     list_header refl (omega (arith, room z)) (rw R.hyper at p.put_head.ensures) (rw R.moves at b.put_bytes.ensures)
-    ∙ ap (λ (xs : List ℕ). lent xs a.out-1.now) (bytes_are t a.element a.plan.now))
+    ∙ ap (λ (xs : List ℕ). lent xs a.out.now) (bytes_are t a.element a.plan.now))
 
 pub make_file_spec : {M : Type 1} → statement M
 make_file_spec =

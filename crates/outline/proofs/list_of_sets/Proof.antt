@@ -20,7 +20,7 @@ returns c =
     let L = c.before.before in
     let O = L.before.before in
     let a = O.before.before.before.args in
-    list_asked (line_ask a.file.now) (outline_numbered a.file.now) O.outline_file.ensures L.list_on.result a.out-1.now _
+    list_asked (line_ask a.file.now) (outline_numbered a.file.now) O.outline_file.ensures L.list_on.result a.out.now _
     L.list_on.ensures
 
 pub list_of_sets_spec : {M : Type 1} → statement M

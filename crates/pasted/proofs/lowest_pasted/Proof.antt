@@ -55,7 +55,7 @@ found : (c : tie.After-is_repeated invariant-loop decreases-loop)
 found c =
     let u = c.before.before.before in
     let z = u.before.args in
-    let d = c.before.end-at in
+    let d = c.before.end_at-from in
     sym (c.is_repeated.ensures
     ∙ earlier_pasted (plain z.rows z.period.now z.first.now z.second.now z.way.now) _ u.loop-i.i
     (omega (arith, u.before.requires.0))

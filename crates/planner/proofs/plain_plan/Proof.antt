@@ -20,7 +20,7 @@ returns c =
     let A = O.before.before in
     let S = A.before.before.before in
     let f = S.args.file.now in
-    plan_asked (file_ask f) (file_proper f).numbered A.analyse.ensures O.plan_on.result S.args.plan-1.now _ O.plan_on.ensures
+    plan_asked (file_ask f) (file_proper f).numbered A.analyse.ensures O.plan_on.result S.args.plan.now _ O.plan_on.ensures
 
 pub plain_plan_spec : {M : Type 1} → statement M
 plain_plan_spec = tie.close (tie.spec analyse-requires plan-on-requires same_length returns)

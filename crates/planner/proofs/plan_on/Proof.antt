@@ -34,8 +34,8 @@ returns-2 c =
     let S = entry E in
     record {
       done = λ z t A.
-          plan_own t c.at.ensures (omega arith) S.args.plan-1.now
-          (plan_short t (length S.args.plan-1.now) (omega (arith, hyper_is A, c.before.if-plan-hyper.true)));
+          plan_own t c.at.ensures (omega arith) S.args.plan.now
+          (plan_short t (length S.args.plan.now) (omega (arith, hyper_is A, c.before.if-plan-hyper.true)));
       refused = λ h. absurd (h E.if-answer-ne-DONE.false);
     }
 
@@ -58,9 +58,9 @@ returns-3 c =
     let S = entry E in
     record {
       done = λ z t A.
-          plan_answer A _ c.done.ensures S.args.plan-1.now _ G.plan_intervals.result _
+          plan_answer A _ c.done.ensures S.args.plan.now _ G.plan_intervals.result _
           refl (G.plan_intervals.ensures t 0 (intervals t) (whole_plannable A _ N.if-plan-hyper.false))
-          (plan_done t (length S.args.plan-1.now) (omega (arith, hyper_is A, N.if-plan-hyper.false)));
+          (plan_done t (length S.args.plan.now) (omega (arith, hyper_is A, N.if-plan-hyper.false)));
       refused = λ h. absurd (h E.if-answer-ne-DONE.false);
     }
 

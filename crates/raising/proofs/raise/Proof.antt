@@ -61,7 +61,7 @@ mul-numbers c = omega (arith, rows c.before.before.before.before.before.before.b
 fit : (c : tie.After-version_of)
     → row_numbers * (found c.before.before.before.before.before.before.before.before.before.before.before.before
     ).raised_table-found.result.given.columns-1.rows
-    ≤ length c.before.before.put_all_numbers.new.1.1.1.1.1.1.0
+    ≤ length c.before.before.put_all_numbers.new.out
 fit c = omega (
   arith,
   rows c.before.before.before.before.before.before.before.before.before.before.before.before,
@@ -89,7 +89,7 @@ returns-2 c =
     let R = g.raised_table-found.ensures in
     let z = e.if-answer-ne-DONE.false in
     let a = none e in
-    let xs : take (row_numbers * x.given.columns-1.rows) v.before.before.put_all_numbers.new.1.1.1.1.1.1.0
+    let xs : take (row_numbers * x.given.columns-1.rows) v.before.before.put_all_numbers.new.out
     ≡ numbers (raised_labelled (file_labelled (bytes g))) =
     ap (take (row_numbers * x.given.columns-1.rows)) v.before.before.put_all_numbers.ensures ∙ numbers_are (bytes g) a x R z _ in
     raise_written (bytes g) a v.version_of.ensures (elements_are (bytes g) a x R z) (rows_are (bytes g) a x R z) xs

@@ -55,7 +55,7 @@ loop-again c =
     let u = c.before.before.before.before.before.before.before.loop-i in
     let r = c.before.before.before.before.row_at.ensures in
     let q = memory_row_lem (has_row 0 z.args.rows 1 no_labels z.args.last.now r (sym (zeros_at max_rows u.i)) refl) in
-    let room : row_numbers * (u.i + 1) ≤ length z.args.out-1.now = omega (arith, z.requires.1) in
+    let room : row_numbers * (u.i + 1) ≤ length z.args.out.now = omega (arith, z.requires.1) in
     (omega arith, filled_row [] _ _ _ u.invariant.1 c.before.before.put_numbers.ensures q (omega arith) room)
 
 same_length : tie.Need-shape_of-out invariant-loop decreases-loop

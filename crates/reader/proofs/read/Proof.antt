@@ -103,7 +103,7 @@ returns-3 c =
     let y = roomy g in
     let z = y.before.before in
     let f = bytes z in
-    let was = z.before.before.before.before.before.before.args.out-1.now in
+    let was = z.before.before.before.before.before.before.args.out.now in
     let found = z.before.before.before.decode in
     let u = found.result.columns in
     let t : column_labelled u.elements u.rows u.rings u.cost u.period u.first u.second u.way found.result.labels

@@ -47,7 +47,7 @@ returns : tie.Need-returns-then-answer-ne-DONE
 returns c =
     let g = c.before.before.before.before in
     let a = g.before.before.args in
-    let o = g.given-one-ring in
+    let o = g.given_one_ring-found in
     rw c.refused.ensures
     (splits_given a.file.now a.relay o.result.answer c.before.if-answer-ne-DONE.true o.ensures.answers)
 

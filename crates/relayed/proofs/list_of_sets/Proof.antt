@@ -22,7 +22,7 @@ returns c =
     let a = O.before.before.before.args in
     let f = a.file.now in
     let r = a.relay in
-    list_asked (relayed_line_ask f r) (line_numbered f r) O.outline_file.ensures L.list_on.result a.out-1.now _
+    list_asked (relayed_line_ask f r) (line_numbered f r) O.outline_file.ensures L.list_on.result a.out.now _
     L.list_on.ensures
 
 pub list_of_sets_spec : {M : Type 1} → statement M

@@ -29,7 +29,7 @@ returns c =
     let f = S.args.file.now in
     let r = S.args.relay in
     step_asked (relayed_ask f r) (relayed_numbered f r) A.analyse.ensures S.args.p O.step_on.result
-    S.args.out-1.now _ (size S) O.step_on.ensures
+    S.args.out.now _ (size S) O.step_on.ensures
 
 pub step_spec : {M : Type 1} → statement M
 step_spec = tie.close (tie.spec analyse-requires step-on-requires same_length returns)

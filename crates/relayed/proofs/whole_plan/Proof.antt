@@ -22,7 +22,7 @@ returns c =
     let a = A.before.before.before.args in
     let f = a.file.now in
     let r = a.relay in
-    plan_asked (relayed_ask f r) (relayed_numbered f r) A.analyse.ensures O.plan_on.result a.plan-1.now _
+    plan_asked (relayed_ask f r) (relayed_numbered f r) A.analyse.ensures O.plan_on.result a.plan.now _
     O.plan_on.ensures
 
 pub whole_plan_spec : {M : Type 1} → statement M

@@ -20,7 +20,7 @@ abbrev hyper : tie.After-plan_on → ℕ
 hyper z = (entry z).args.table.outline.time.hyper
 
 abbrev words : tie.After-plan_on → List ℕ
-words z = z.plan_on.new.1.1.0
+words z = z.plan_on.new.plan
 
 found : (z : tie.After-plan_on)
     → (length (take (hyper z) (words z)) ≡ hyper z) × (hyper z ≤ max_slots)

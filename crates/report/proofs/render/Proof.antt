@@ -41,10 +41,10 @@ returns c =
     let A = P.before.before in
     let z = A.before.before in
     let a = (entry z).args in
-    let w = P.put-analysis in
-    subst (λ (f : List ℕ). RenderedFor (file_ask f) a.out-1.now w.new.1.0 w.result)
+    let w = P.put_analysis in
+    subst (λ (f : List ℕ). RenderedFor (file_ask f) a.out.now w.new.1.0 w.result)
     (read_input a.input.now _ z.least-read.ensures)
-    (rendered_asked (file_ask (file z)) (verdict_numbered (file z)) A.analyse.ensures a.out-1.now _ _ w.ensures)
+    (rendered_asked (file_ask (file z)) (verdict_numbered (file z)) A.analyse.ensures a.out.now _ _ w.ensures)
 
 pub render_spec : {M : Type 1} → statement M
 render_spec =

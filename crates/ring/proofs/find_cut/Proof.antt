@@ -46,7 +46,7 @@ loop-again : tie.Need-loop-e-preserved invariant-loop decreases-loop
 unfolding bit
 loop-again c =
     let loop = c.before.before.loop-e in
-    let z = c.before.before.before.through-rows in
+    let z = c.before.before.before.through_rows-word in
     let one : z.result / 2 ^ loop.e % 2 ≡ 1 =
     omega (arith, c.if-word-e-eq0.false, mod-lt (z.result / 2 ^ loop.e) (let z : 0 < 2 = omega arith in z)) in
     let taken = ap (λ (x : ℕ). not (eqb x 1)) one in

@@ -119,9 +119,9 @@ end_of c = c.before.before.before.before.before.before.before
 -- ---- before the first element
 
 cleared : (c : tie.After-clear invariant-slots decreases-slots invariant-loop2 decreases-loop2 invariant-loop decreases-loop)
-    → Kept c.before.before.before.args.slots c.before.before.before.args.words-1.now c.clear.new.1.0
+    → Kept c.before.before.before.args.slots c.before.before.before.args.words.now c.clear.new.words
 cleared c =
-    kept_cleared c.before.before.before.args.slots c.before.before.before.args.words-1.now c.clear.new.1.0
+    kept_cleared c.before.before.before.args.slots c.before.before.before.args.words.now c.clear.new.words
     c.clear.ensures.0 c.clear.ensures.1
 
 cast-end : tie.Need-overflow_cast-end invariant-slots decreases-slots invariant-loop2 decreases-loop2 invariant-loop decreases-loop
@@ -143,7 +143,7 @@ loop-holds c =
       λ n f O.
           coming_start (λ j h. (O.line j h).0) refl refl
           (λ h. ap (λ (ws : List ℕ). at ws 0) (c.before.before.clear.ensures.0 h)
-          ∙ get_or-set_same S.args.words-1.now 0 0 0 (omega (arith, S.requires.2)))
+          ∙ get_or-set_same S.args.words.now 0 0 0 (omega (arith, S.requires.2)))
           refl refl refl (omega (arith, K.long, S.requires.2)),
     )
 
@@ -467,7 +467,7 @@ filled : (c : Done) → (n : ℕ) (f : ℕ → ℕ)
     → ChainedRows n f (at (start (end_of c)).args.second.now) (start (end_of c)).args.top (start (end_of c)).args.head.now
     (start (end_of c)).args.next.now
     → FilledSlots n f (at (start (end_of c)).args.second.now) (at (start (end_of c)).args.load.now) (start (end_of c)).args.slots
-    (start (end_of c)).args.words-1.now c.before.before.spread.new.1.1.1.0
+    (start (end_of c)).args.words.now c.before.before.spread.new.words
 filled c n f O =
     let L = end_of c in
     coming_end (L.loop-element.invariant.3 n f O)

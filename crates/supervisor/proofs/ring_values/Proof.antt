@@ -35,7 +35,7 @@ returns c =
     record {
       number = _;
       place = _;
-      called = values_refused z.file.now z.out-1.now j.result _ j.ensures c.before.before.before.enum_told-1.given.1;
+      called = values_refused z.file.now z.out.now j.result _ j.ensures c.before.before.before.enum_told-1.given.1;
       as_one = c.joined.ensures ∙ ap₂ c_answer c.before.before.number.ensures c.before.place.ensures;
     }
 
@@ -50,7 +50,7 @@ returns-2 c =
       number = 17;
       place = 0;
       called =
-          values_short z.file.now z.out-1.now j.result _ _ _ _ _ _ j.ensures c.before.before.before.answer-1.given.1
+          values_short z.file.now z.out.now j.result _ _ _ _ _ _ j.ensures c.before.before.before.answer-1.given.1
           c.before.if-out-lt-VALUES.true;
       as_one = c.joined-then-out-lt-VALUES.ensures;
     }
@@ -69,12 +69,12 @@ returns-3 c =
     let z = c.before.before.before.before.before.before.before.before.before.before.before.before.args in
     let e = c.before.before.before.before.before in
     let j = e.before.before.before.before.judge in
-    let w = c.before.before.before.write-values in
+    let w = c.before.before.before.write_values in
     record {
       number = 0;
       place = 0;
       called =
-          values_done z.file.now z.out-1.now j.result _ _ _ _ _ _ j.ensures
+          values_done z.file.now z.out.now j.result _ _ _ _ _ _ j.ensures
           e.before.before.answer-1.given.1 _ e.if-out-lt-VALUES.false
           w.ensures;
       as_one = c.joined-2.ensures;

@@ -65,7 +65,7 @@ returns-4 c =
     let s = p.before.before.before in
     let e = s.before.before in
     let l = e.before.before.before in
-    let was = l.before.before.before.before.before.args.out-1.now in
+    let was = l.before.before.before.before.before.args.out.now in
     read_done _ _ (omega arith) l.read_lines-found.ensures e.if-found-ne0.false _ (omega arith)
     (p.put_front.ensures ∙ ap (λ (xs : List ℕ). lent xs was) (front_of l.read_lines-found.ensures e.if-found-ne0.false))
 

@@ -24,13 +24,13 @@ bytes c = (taken c).before.before.before.before.before.before.before.args.file.n
 -- what is written
 abbrev columns : tie.Else-answer-ne-DONE → Columns
 columns c =
-    let g = (taken c).given-into in
+    let g = (taken c).given_into-head in
     let xs = g.last in
     columns_by g.result xs.1.0 xs.1.1.0 xs.1.1.1.0 xs.1.1.1.1.0 xs.1.1.1.1.1.0
 
 checked : (c : tie.Else-answer-ne-DONE) → Answers (given_checks (bytes c)) 0 (taken c).given_into-head.result.answer-1.place
 checked c =
-    let g = (taken c).given-into in
+    let g = (taken c).given_into-head in
     answers_zero (given_checks (bytes c)) g.result.answer c.if-answer-ne-DONE.false g.ensures.answers
 
 held : (c : tie.Else-answer-ne-DONE) → table_of (columns c) ≡ file_table (bytes c)
@@ -47,7 +47,7 @@ refused-requires c κs = search rules
 
 returns : tie.Need-returns-then-answer-ne-DONE
 returns c =
-    let a = c.before.before.before.before.given-into in
+    let a = c.before.before.before.before.given_into-head in
     rw c.refused.ensures (analysed_given _ a.result.answer c.before.if-answer-ne-DONE.true a.ensures.answers)
 
 analysis-of-requires : tie.Need-analysis_of-requires

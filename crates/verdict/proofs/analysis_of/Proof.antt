@@ -42,7 +42,7 @@ abbrev asked : tie.After-put_rates-light → tie.After-outline_of-outline
 asked d = d.before.before.before.before.before.before
 
 abbrev rates : tie.After-put_rates-light → List ℕ
-rates d = d.put_rates-light.new.1.1.1.1.1.0
+rates d = d.put_rates-light.new.rate
 
 rated : (d : tie.After-put_rates-light) → Rated (table (asked d)) (asked d).outline_of-outline.result d.put_rates-light.result (rates d)
 rated d =

@@ -46,7 +46,7 @@ ready : (d : tie.After-put_rates-light)
     → let a = asked (unrefused d) in
     let r = a.layout_of-laid.result in
     Weighable (table a) (table a).rows d.put_rates-light.result r.time r.top r.line.first r.line.second
-    d.put_rates-light.new.1.1.1.1.1.0
+    d.put_rates-light.new.rate
 ready d =
     let e = unrefused d in
     let F = (laid (asked e)).found e.if-answer-ne-DONE.left in

@@ -28,11 +28,11 @@ loop-holds : tie.Need-loop-i-init invariant-loop decreases-loop
 loop-holds c =
     let a = c.before.before.args in
     let e : header_size ≡ header_size + row_size a.rings a.version * 0 = omega arith in
-    let front = take header_size a.out-1.now in
+    let front = take header_size a.out.now in
     let rows = file_row (last_size a.rings a.version) (memory_labelled_with a.rings 0 a.rows a.numbers.now) in (
       omega arith,
-      subst (λ (n : ℕ). Filled a.out-1.now a.out-1.now n (front ++ each 0 rows)) e
-          (filled_rows front rows (filled_front a.out-1.now header_size (omega (arith, c.before.before.requires.2)))),
+      subst (λ (n : ℕ). Filled a.out.now a.out.now n (front ++ each 0 rows)) e
+          (filled_rows front rows (filled_front a.out.now header_size (omega (arith, c.before.before.requires.2)))),
     )
 
 row-of-requires : tie.Need-row_of-requires invariant-loop decreases-loop
@@ -75,10 +75,10 @@ loop-again c =
     let r = c.before.before.before.before.before.row_of in
     let q = file_row_lem k (r.ensures 0 a.rows) in
     let more = mul-le-mul_left (row_size a.rings a.version) c.before.before.before.before.before.before.loop-i-test.true in
-    let room : header_size + row_size a.rings a.version * (u.i + 1) ≤ length a.out-1.now = omega (arith, z.requires.2, more) in
+    let room : header_size + row_size a.rings a.version * (u.i + 1) ≤ length a.out.now = omega (arith, z.requires.2, more) in
     let e = rw c.before.before.before.before.row_place.ensures at c.before.before.put_row.ensures in (
       omega arith,
-      filled_row {i = u.i} (take header_size a.out-1.now) rows _ _ u.invariant.1 e q
+      filled_row {i = u.i} (take header_size a.out.now) rows _ _ u.invariant.1 e q
           (omega (arith, row_length k (alone a.rings r.result) 0)) room,
     )
 

@@ -57,11 +57,11 @@ returns c =
     let p = c.before.before.before.before.before.before.before.before in
     let q = c.before.before.before.before in
     let a = p.before.before.before.args in
-    let e : p.put16.new.1.1.0 ≡ sets a.out-1.now a.at (write16 a.row.cost) = p.put16.ensures in
-    let f : q.put16-2.new.1.1.0 ≡ sets p.put16.new.1.1.0 (a.at + 2) (write16 a.row.period) = q.put16-2.ensures in
+    let e : p.put16.new.out ≡ sets a.out.now a.at (write16 a.row.cost) = p.put16.ensures in
+    let f : q.put16-2.new.out ≡ sets p.put16.new.out (a.at + 2) (write16 a.row.period) = q.put16-2.ensures in
     ap (λ (l : List ℕ). set (set l (a.at + 4) a.row.first) (a.at + 5) a.row.second)
     (f ∙ ap (λ (l : List ℕ). sets l (a.at + 2) (write16 a.row.period)) e)
-    ∙ six a.out-1.now a.at a.row.cost a.row.period a.row.first a.row.second
+    ∙ six a.out.now a.at a.row.cost a.row.period a.row.first a.row.second
 
 pub put_bytes_spec : {M : Type 1} → statement M
 put_bytes_spec =

@@ -26,7 +26,7 @@ put-last-requires c κs =
     let z = c.before.before.before in
     let s = z.before.before.before in
     let a = s.args in
-    let e = ap length z.put_bytes.ensures ∙ length-sets a.out-1.now a.at (in_file 1 0 a.row) in
+    let e = ap length z.put_bytes.ensures ∙ length-sets a.out.now a.at (in_file 1 0 a.row) in
     (omega (arith, s.requires.0, e), s.requires.3)
 
 same_length : tie.Need-shape_of-out
@@ -39,7 +39,7 @@ returns c =
     let k = last_size a.rings a.version in
     c.before.before.put_last.ensures
     ∙ ap (λ (l : List ℕ). sets l (a.at + row_with 0) (write_low k (last_of a.rings a.row.way a.row.label))) z.put_bytes.ensures
-    ∙ sym (row_join a.rings k a.row a.out-1.now a.at)
+    ∙ sym (row_join a.rings k a.row a.out.now a.at)
 
 pub put_row_spec : {M : Type 1} → statement M
 put_row_spec =

@@ -78,7 +78,7 @@ put-all-bytes-requires c κs =
     let a = z.before.before.before.before.before.args in
     let s = sound z in
     let e = ap length c.before.before.before.put_header.ensures
-    ∙ length-sets a.out-1.now 0 (file_header (mark m.mark_byte.result) a.version a.elements a.rows) in (
+    ∙ length-sets a.out.now 0 (file_header (mark m.mark_byte.result) a.version a.elements a.rows) in (
       s.0.rows_high,
       omega (arith, s.1),
       omega (arith, e, y.if-out-row_place.false, y.before.row_place.ensures),
@@ -99,10 +99,10 @@ returns-3 c =
     let room = y.before.row_place.ensures in
     written_done _ _ _ _ _ _ _ _ _ z.before.before.check_version-answer.ensures z.if-answer-ne-DONE.false
     (λ l. let q : ⊥ = omega (arith, room, y.if-out-row_place.false) in q)
-    (lent_headed a.out-1.now _ _ (file_header (mark m.mark_byte.result) a.version a.elements a.rows) rows header_size refl
+    (lent_headed a.out.now _ _ (file_header (mark m.mark_byte.result) a.version a.elements a.rows) rows header_size refl
     (omega (arith, room, y.if-out-row_place.false))
     c.before.before.before.before.before.before.put_header.ensures c.before.before.put_all_bytes.ensures
-    ∙ ap (λ (k : List ℕ). lent (file_header k a.version a.elements a.rows ++ rows) a.out-1.now) m.mark_byte.ensures)
+    ∙ ap (λ (k : List ℕ). lent (file_header k a.version a.elements a.rows ++ rows) a.out.now) m.mark_byte.ensures)
 
 pub write_with_spec : {M : Type 1} → statement M
 write_with_spec =

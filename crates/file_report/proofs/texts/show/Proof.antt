@@ -61,7 +61,7 @@ sized : (z : tie.After-write-written) → z.write-written.result.size ≤ longes
 sized z =
     let e = z.before.before.before.before.before.before in
     let r = e.before.before.before in
-    let f = r.before.before.before.shared-slice-known in
+    let f = r.before.before.before.shared_slice_known-1 in
     (file_made _ _ _ _ _ _ _ _ _ r.read-found.ensures (omega arith) e.if-found-ne-DONE.false _ _ _ _ _ (λ i. omega (arith, f.given i)) (omega arith)
     z.write-written.ensures).0
 
@@ -82,7 +82,7 @@ returns-2 c =
     let w = c.before.before.before.before.before.before in
     let e = w.before.before.before.before.before.before in
     let r = e.before.before.before in
-    let f = r.before.before.before.shared-slice-known in
+    let f = r.before.before.before.shared_slice_known-1 in
     front _ _
     (file_made _ _ _ _ _ _ _ _ _ r.read-found.ensures (omega arith) e.if-found-ne-DONE.false _ _ _ _ _ (λ i. omega (arith, f.given i)) (omega arith)
     w.write-written.ensures).1

@@ -59,7 +59,7 @@ entry a = a.before.before.before.before
 
 sums : (a : tie.After-add_parts) → let z = entry a in
     Summed z.args.size.rows z.args.size.sets (at z.args.tail.now) (last z.args.head.now) (parts z)
-    (at a.add_parts.new.1.1.1.1.0)
+    (at a.add_parts.new.sum)
 sums a = let p = (entry a).requires in a.add_parts.ensures.1 _ _ p.0.spans p.0.heads (λ i q. (p.2 i q).0)
 
 take-rows-requires : tie.Need-take_rows-top-requires
@@ -71,7 +71,7 @@ take-rows-requires c κs =
 -- the rows in turn
 taken : (t : tie.After-take_rows-top) → let z = entry (summing t) in
     Taken z.args.size.rows z.args.size.sets z.args.size.rows (at z.args.tail.now) (last z.args.head.now)
-    z.args.size.hyper (parts z) t.take_rows-top.result (at t.take_rows-top.new.1.1.1.1.0)
+    z.args.size.hyper (parts z) t.take_rows-top.result (at t.take_rows-top.new.left)
 taken t =
     let a = summing t in
     let z = entry a in
@@ -102,7 +102,7 @@ settling w = w.before.before.before.before.before.before
 
 sums-again : (w : tie.After-sum-2-1) → let z = entry (summing (settling w)) in
     Summed z.args.size.rows z.args.size.sets (at z.args.tail.now) (last z.args.head.now) (parts z)
-    (at w.before.add_parts-2.new.1.1.1.1.0)
+    (at w.before.add_parts-2.new.sum)
 sums-again w =
     let p = (entry (summing (settling w))).requires in
     w.before.add_parts-2.ensures.1 _ _ p.0.spans p.0.heads (λ i q. (p.2 i q).0)
@@ -111,7 +111,7 @@ abbrev Given : tie.After-sum-2-1 → Type 0
 Given w =
     let a = (entry (summing (settling w))).args in
     Asked a.size.rows a.size.sets a.size.hyper a.tail.now a.head.now a.out.now a.into.now
-    w.before.add_parts-2.new.1.1.1.1.0 (parts (entry (summing (settling w))))
+    w.before.add_parts-2.new.sum (parts (entry (summing (settling w))))
 
 given : (w : tie.After-sum-2-1) → Given w
 given w = let z = entry (summing (settling w)) in record { ends = z.requires.0; parts = are_parts z; summed = sums-again w }

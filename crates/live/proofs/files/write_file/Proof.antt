@@ -20,7 +20,7 @@ returns c =
     let i = c.before.before in
     let z = i.before.before.args in
     rw (c.at.ensures.0, c.at.ensures.1)
-    (file_off z.version (live_of z.t1) z.out-1.now (denied i.is_in_order.ensures c.before.if-not-is_in_order.true))
+    (file_off z.version (live_of z.t1) z.out.now (denied i.is_in_order.ensures c.before.if-not-is_in_order.true))
 
 slice-aggregate-put-present : tie.Need-slice_bounds-put_present-end
 slice-aggregate-put-present c = search rules
@@ -51,7 +51,7 @@ returns-2 c =
     let e = p.before.before.before.before.before.before.before.before in
     let i = e.before in
     let z = i.before.before.args in
-    file_written z.version (live_of z.t1) z.out-1.now p.put_present-rows.result _ _ _ _
+    file_written z.version (live_of z.t1) z.out.now p.put_present-rows.result _ _ _ _
     (granted i.is_in_order.ensures e.if-not-is_in_order.false) p.put_present-rows.ensures.rows (present_numbers p.put_present-rows.ensures)
     w.write_plain.ensures
 

@@ -9,7 +9,7 @@ use Rattle.maker.proofs.moves.put_byte.Statement.{statement}
 use Rattle.maker.proofs.moves.put_byte.Tie as tie
 
 returns : tie.Need-returns-then-word-eq0
-returns c = let a = c.before.before.args in put_none in_file a.word a.slot a.way _ a.n a.out-1.now c.if-word-eq0.true
+returns c = let a = c.before.before.args in put_none in_file a.word a.slot a.way _ a.n a.out.now c.if-word-eq0.true
 
 move-of-requires : tie.Need-move_of-requires
 move-of-requires c κs = let s = c.before.before in (s.requires.0, c.if-word-eq0.false, s.requires.1)

@@ -22,7 +22,7 @@ decreases-loop plan hyper into from out₀ n₀ slot₀ out n slot = hyper - slo
 loop-holds : tie.Need-loop-slot-init invariant-loop decreases-loop
 loop-holds c =
     let a = c.before.before.args in
-    let front = filled_front a.out-1.now list_header (omega (arith, c.before.before.requires.3)) in
+    let front = filled_front a.out.now list_header (omega (arith, c.before.before.requires.3)) in
     (omega arith, written_start in_file a.into a.from a.plan.now front)
 
 mul-word : tie.Need-offset_bounds-plan-slot invariant-loop decreases-loop

@@ -22,7 +22,7 @@ decreases-loop plan hyper into from out₀ n₀ slot₀ out n slot = hyper - slo
 loop-holds : tie.Need-loop-slot-init invariant-loop decreases-loop
 loop-holds c =
     let a = c.before.before.args in
-    (omega arith, written_start in_memory a.into a.from a.plan.now (filled_start a.out-1.now))
+    (omega arith, written_start in_memory a.into a.from a.plan.now (filled_start a.out.now))
 
 mul-word : tie.Need-offset_bounds-plan-slot invariant-loop decreases-loop
 mul-word c = search rules

@@ -26,7 +26,7 @@ returns c =
     let A = O.before.before in
     let S = A.before.before.before in
     let f = S.args.file.now in
-    step_asked (file_ask f) (file_proper f).numbered A.analyse.ensures S.args.self O.step_on.result S.args.out-1.now _
+    step_asked (file_ask f) (file_proper f).numbered A.analyse.ensures S.args.self O.step_on.result S.args.out.now _
     (size S) O.step_on.ensures
 
 pub step_spec : {M : Type 1} → statement M

@@ -68,8 +68,8 @@ returns-2 c =
     record {
       done = λ z t A.
           rw c.unmoved-then-is_off.ensures
-          (step_own t c.before.at.ensures (omega arith) p S.args.out-1.now (size S)
-          (step_off t (planner_of p) (length S.args.out-1.now)
+          (step_own t c.before.at.ensures (omega arith) p S.args.out.now (size S)
+          (step_off t (planner_of p) (length S.args.out.now)
           ((O.is_off.ensures t A (here R A)).holds c.before.before.if-is_off.true)));
       refused = λ h. absurd (h (passed R).if-answer-ne-DONE.false);
     }
@@ -106,8 +106,8 @@ returns-3 c =
     record {
       done = λ z t A.
           rw c.unmoved-in_default.ensures
-          (step_own t c.before.at-in_default.ensures (omega arith) p S.args.out-1.now (size S)
-          (step_finished t (planner_of p) (length S.args.out-1.now) (still N A) (ap stage_of T.enum_told-1.given.1)));
+          (step_own t c.before.at-in_default.ensures (omega arith) p S.args.out.now (size S)
+          (step_finished t (planner_of p) (length S.args.out.now) (still N A) (ap stage_of T.enum_told-1.given.1)));
       refused = λ h. absurd (h (passed (reached N)).if-answer-ne-DONE.false);
     }
 
@@ -158,8 +158,8 @@ returns-4 c =
     record {
       done = λ z t A.
           rw c.unmoved-then-out-end.ensures
-          (step_own t c.before.at-then-out-end.ensures (omega arith) p S.args.out-1.now (size S)
-          (step_short t (planner_of p) (length S.args.out-1.now) (still N A) (number E.before)
+          (step_own t c.before.at-then-out-end.ensures (omega arith) p S.args.out.now (size S)
+          (step_short t (planner_of p) (length S.args.out.now) (still N A) (number E.before)
           (ap stage_of E.before.before.stage-1.given.1) (omega (arith, long E A, c.before.before.if-out-end.true))));
       refused = λ h. absurd (h (passed (reached N)).if-answer-ne-DONE.false);
     }
@@ -213,10 +213,10 @@ returns-5 c =
       done = λ z t A.
           rw c.before.stage_after.ensures
           (step_answer A _ c.done.ensures p k is_due (begins E.before A) _ (ends E A) G.plan_intervals-after.result
-          S.args.out-1.now _
+          S.args.out.now _
           (G.plan_intervals-after.ensures t k _
           (due_plannable A p k (here (reached N) A) (still N A) is_due (size S) _ _ (ends E A) L.if-out-end.left))
-          (step_done t (planner_of p) (length S.args.out-1.now) (still N A) k (ap stage_of is_due)
+          (step_done t (planner_of p) (length S.args.out.now) (still N A) k (ap stage_of is_due)
           (omega (arith, long E A, L.if-out-end.left))));
       refused = λ h. absurd (h (passed (reached N)).if-answer-ne-DONE.false);
     }

@@ -99,7 +99,7 @@ abbrev entered : Set → tie.Start invariant-loop decreases-loop
 entered c = entry (laid c.before)
 
 loop-holds : tie.Need-loop-slot-init invariant-loop decreases-loop
-loop-holds c = (refl, refl, λ t k m P. planning_start (entered c).args.plan-1.now P)
+loop-holds c = (refl, refl, λ t k m P. planning_start (entered c).args.plan.now P)
 
 -- ---- a turn: an interval of the table begins, and there is room for it
 
@@ -114,7 +114,7 @@ begun c = entry (laying c)
 
 -- t is a table that is given to be planned
 abbrev Given : tie.Start invariant-loop decreases-loop → Table → ℕ → ℕ → Type 0
-Given S t k m = Plannable t S.args.t1 k m S.args.from S.args.until S.args.totals (length S.args.plan-1.now)
+Given S t k m = Plannable t S.args.t1 k m S.args.from S.args.until S.args.totals (length S.args.plan.now)
 
 -- the one that the call was made with
 abbrev given : (c : tie.In-loop-slot invariant-loop decreases-loop) → Given (begun c) (begun c).requires.0 (begun c).requires.1 (begun c).requires.2
@@ -130,7 +130,7 @@ end-of-requires c κs =
         L.number,
         (begun d).args.t1.outline.time-1.hyper,
         timed P.accepted,
-        planning_begins (begun d).args.plan-1.now P L d.loop-slot-test.true,
+        planning_begins (begun d).args.plan.now P L d.loop-slot-test.true,
       ),
       d.before.before.before.has_shortest-even.ensures,
     )
@@ -140,28 +140,28 @@ abbrev turned : tie.After-end_of-end invariant-loop decreases-loop → tie.In-lo
 turned c = c.before.before.before
 
 module _ (c : tie.After-end_of-end invariant-loop decreases-loop) {t : Table} {k m : ℕ} (P : Given (begun (turned c)) t k m) where
-  abbrev done : Planning t k m (begun (turned c)).args.totals (begun (turned c)).args.plan-1.now (turned c).before.loop-slot.slot
+  abbrev done : Planning t k m (begun (turned c)).args.totals (begun (turned c)).args.plan.now (turned c).before.loop-slot.slot
       (turned c).before.loop-slot.at (turned c).before.loop-slot.after (turned c).before.loop-slot.plan
   done = (turned c).before.loop-slot.invariant.2 t k m P
 
   ends : c.end_of-end.result ≡ end t done.number
   ends =
       c.end_of-end.ensures t done.number (begun (turned c)).args.t1.outline.time-1.hyper (timed P.accepted)
-      (planning_begins (begun (turned c)).args.plan-1.now P done (turned c).loop-slot-test.true)
+      (planning_begins (begun (turned c)).args.plan.now P done (turned c).loop-slot-test.true)
 
   due : Due t done.number (turned c).before.loop-slot.slot c.end_of-end.result (turned c).before.loop-slot.after
-  due = planning_due (begun (turned c)).args.plan-1.now P done (turned c).loop-slot-test.true _ ends
+  due = planning_due (begun (turned c)).args.plan.now P done (turned c).loop-slot-test.true _ ends
 
   ends_low : c.end_of-end.result ≤ max_slots
-  ends_low = planning_low (begun (turned c)).args.plan-1.now P done (turned c).loop-slot-test.true _ ends
+  ends_low = planning_low (begun (turned c)).args.plan.now P done (turned c).loop-slot-test.true _ ends
 
   roomy : ((turned c).before.loop-slot.slot < c.end_of-end.result)
-      × ((turned c).before.loop-slot.at + (c.end_of-end.result - (turned c).before.loop-slot.slot) ≤ length (begun (turned c)).args.plan-1.now)
-      × (length (turned c).before.loop-slot.plan ≡ length (begun (turned c)).args.plan-1.now)
-  roomy = planning_room (begun (turned c)).args.plan-1.now P done (turned c).loop-slot-test.true _ ends
+      × ((turned c).before.loop-slot.at + (c.end_of-end.result - (turned c).before.loop-slot.slot) ≤ length (begun (turned c)).args.plan.now)
+      × (length (turned c).before.loop-slot.plan ≡ length (begun (turned c)).args.plan.now)
+  roomy = planning_room (begun (turned c)).args.plan.now P done (turned c).loop-slot-test.true _ ends
 
   -- what it stands on
-  ready : let a = (begun (turned c)).args.t1 in let L = laying (turned c) in let F = (folding L).fold-sets in
+  ready : let a = (begun (turned c)).args.t1 in let L = laying (turned c) in let F = (folding L).fold_sets-folded in
       Ready t (record { rows = a.outline.rows; sets = F.result.sets; hyper = a.outline.time-1.hyper }) a.outline.top
       a.outline.first a.outline.second a.rate F.result.upper F.last.1.1.1.1.0
       (arrays (chaining (turned c)))
@@ -272,11 +272,11 @@ module _ (g : tie.After-give invariant-loop decreases-loop) where
   next : (ys : List ℕ) → FilledSlots (begun here).args.t1.outline.rows (at (begun here).args.t1.outline.first)
       (at (begun here).args.t1.outline.second) (at (load g)) ((turn g).end_of-end.result - here.before.loop-slot.slot) lent ys
       → (t : Table) (k m : ℕ) → Given (begun here) t k m
-      → Planning t k m (begun here).args.totals (begun here).args.plan-1.now (turn g).end_of-end.result
+      → Planning t k m (begun here).args.totals (begun here).args.plan.now (turn g).end_of-end.result
       (here.before.loop-slot.at + ((turn g).end_of-end.result - here.before.loop-slot.slot)) (totals g) (joined ys)
   next ys F t k m P =
       let p = rounding (giving g) in
-      planning_next (begun here).args.plan-1.now P (done (turn g) P) here.loop-slot-test.true _ (ends (turn g) P) (totals g) ys
+      planning_next (begun here).args.plan.now P (done (turn g) P) here.loop-slot-test.true _ (ends (turn g) P) (totals g) ys
       (advanced_of (ready (turn g) P) (due (turn g) P) (whole p) (part p) p.part_shares-parted.ensures.2 (giving g).round_rows-rounded.result
       (at (load g)) (at (totals g)) (giving g).round_rows-rounded.ensures g.give.ensures.2 (λ i. refl) g.give.ensures.1 F)
 
@@ -341,7 +341,7 @@ same_length c = let S = entered c.before.before in (c.before.loop-slot.invariant
 returns : tie.Need-returns invariant-loop decreases-loop
 returns c t k m P =
     let S = entered c.before.before in
-    planning_end S.args.plan-1.now P (c.before.loop-slot.invariant.2 t k m P) c.loop-slot-test.false
+    planning_end S.args.plan.now P (c.before.loop-slot.invariant.2 t k m P) c.loop-slot-test.false
 
 pub plan_intervals_spec : {M : Type 1} → statement M
 plan_intervals_spec =

@@ -143,7 +143,7 @@ loop-again c =
 
 -- ---- the end
 
-kept : (c : AtElements) → Kept (start c).args.slots (start c).args.words-1.now c.loop-element.words
+kept : (c : AtElements) → Kept (start c).args.slots (start c).args.words.now c.loop-element.words
 kept c = kept_trans c.before.before.before.clear.ensures.kept c.loop-element.invariant.0
 
 same_length : tie.Need-shape_of-words invariant-loop2 decreases-loop2 invariant-loop decreases-loop

@@ -40,10 +40,10 @@ on_line c = omega (arith, (entry c).requires.0.short)
 
 -- the sums by first ends, and by second ends
 abbrev joining : tie.In-loop-e invariant-loop decreases-loop → List ℕ
-joining c = c.before.before.rates_at.new.1.1.1.1.0
+joining c = c.before.before.rates_at.new.joining
 
 abbrev leaving : tie.In-loop-e invariant-loop decreases-loop → List ℕ
-leaving c = c.before.before.rates_at.new.1.1.1.1.1.0
+leaving c = c.before.before.rates_at.new.leaving
 
 joins : (c : tie.In-loop-e invariant-loop decreases-loop)
     → let a = (entry c).args in SumsAt a.rows (at a.first.now) (at a.rate.now) (joining c)
