@@ -2,7 +2,7 @@
 -- the line, and two rows overlap on the board exactly if they overlap on the line.
 --
 --   ways_share         the theorem over the direction: routes of either ring share a segment of one ring exactly if their stretches overlap
-use mathlib.Core.Path.{◌≡◌, refl, sym, ap, ap₂, ◌∙◌, subst}
+use mathlib.Core.Path.{◌≡◌, refl, sym, ap, ◌∙◌, subst}
 use mathlib.Core.Logic.{⊎_elim, ◌≢◌}
 use mathlib.Core.Bool.{Bool, true, false, ◌&&◌}
 use Prim.Native.Nat.{ℕ, suc, ◌+◌, ◌*◌, ◌≤◌, ◌<◌}
@@ -10,14 +10,14 @@ use native.Mathlib.Nat.{mul-le-mul_right}
 use native.Mathlib.Omega.{arith}
 use lib.Dec.{T, leb, ltb, eqb, eqb→eq, eqb_refl, ltb→lt, lt→ltb, leb→le, le→leb}
 use Rattle.numbers.specs.Finite.{any}
-use Rattle.numbers.proofs.Finite.{any_eq, any_none}
+use Rattle.numbers.proofs.Finite.{any_none}
 use Rattle.numbers.proofs.Truth.{both, fst, snd, same, is_true, is_false, of_false, decide, eqb_of, le_or_lt, and_under}
 use Rattle.rules.specs.Bounds.{max_elements, max_rings}
-use Rattle.rules.specs.Bus.{Table, mirror, mirror_segment, ring_first, ring_second, uses, through, route_uses, overlap}
+use Rattle.rules.specs.Bus.{Table, mirror_segment, ring_first, ring_second, uses, through, route_uses, overlap}
 use Rattle.rules.specs.Line.{cut, HasCuts, on_line, ring_start, line_top, line_first, line_second, meet}
 use Rattle.table.specs.Sound.{Sound}
 use Rattle.ring.specs.Route.{Element, line_element, line_end}
-use Rattle.ring.proofs.Routes.{Route, route_low, route_ordered, route_high, route_uses_lem, routes_share}
+use Rattle.ring.proofs.Routes.{Route, route_ordered, route_high, route_uses_lem, routes_share}
 use Rattle.ring.proofs.Mirror.{mirror_element, mirror_differ, mirror_back, segment_element, any_mirrored}
 use Rattle.ring.proofs.Cut.{cut_low, cut_clear}
 

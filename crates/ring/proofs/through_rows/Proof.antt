@@ -1,5 +1,5 @@
 -- `ring::through_rows` meets its contract. The loop's invariant: the word shows the elements that the rows before row `i` go through.
-use mathlib.Core.Path.{◌≡◌, ◌∙◌}
+use mathlib.Core.Path.{◌≡◌}
 use Prim.Native.Nat.{◌≤◌, ◌-◌}
 use native.Mathlib.Omega.{arith}
 use Rattle.numbers.specs.Finite.{any}

@@ -1,8 +1,6 @@
 -- `writer::put_last` meets its contract.
-use mathlib.Core.Path.{sym, ap₂, ◌∙◌}
-use Prim.Native.Nat.{ℕ}
+use mathlib.Core.Path.{◌∙◌}
 use native.Mathlib.Omega.{arith}
-use lib.Seq.{sets}
 use borrow.Author.Tests.{eq-eqb, ne_eqb}
 use Rattle.numbers.specs.Codec.{write_low}
 use Rattle.rules.specs.Bounds.{max_rings}
