@@ -24,13 +24,13 @@ decreases-loop top rows load₀ totals₀ i₀ load totals i = rows - i
 
 -- the row's whole slots and its total are as they were, and fit
 as_is : (l : tie.In-loop-i invariant-loop decreases-loop)
-    → (let u = l.before.loop-i in
-    let z = l.before.before in
+    → (let u = l.loop-i in
+    let z = l in
     (at u.load u.i ≡ at z.args.load.now u.i) × (at u.totals u.i ≡ at z.args.totals.now u.i)
     × (at z.args.totals.now u.i ≤ at z.args.load.now u.i) × (at z.args.load.now u.i ≤ max_slots))
 as_is l =
-    let u = l.before.loop-i in
-    let z = l.before.before in
+    let u = l.loop-i in
+    let z = l in
     let f = z.requires.1 u.i l.loop-i-test.true in
     (u.invariant.4 u.i (omega arith), u.invariant.3.spare u.i (omega arith), f.0, f.1)
 
@@ -44,13 +44,13 @@ element-copy-out-all : tie.Need-bounds-load-i invariant-loop decreases-loop
 element-copy-out-all c = search rules
 
 cast-all : tie.Need-overflow_cast-all invariant-loop decreases-loop
-cast-all c = omega (arith, as_is c.before)
+cast-all c = omega (arith, as_is c.before.before)
 
 shr-all : tie.Need-overflow_shr-all invariant-loop decreases-loop
-shr-all c = omega (arith, c.before.before.before.requires.0)
+shr-all c = omega (arith, c.requires.0)
 
 add-all : tie.Need-overflow_add-all invariant-loop decreases-loop
-add-all c = omega (arith, as_is c.before)
+add-all c = omega (arith, as_is c.before.before)
 
 mul-load : tie.Need-offset_bounds-totals-i invariant-loop decreases-loop
 mul-load c = search rules
@@ -59,10 +59,10 @@ element-copy-out-load : tie.Need-bounds-totals-i invariant-loop decreases-loop
 element-copy-out-load c = search rules
 
 sub-load : tie.Need-overflow_sub-load invariant-loop decreases-loop
-sub-load c = omega (arith, as_is c.before.before)
+sub-load c = omega (arith, as_is c.before.before.before.before)
 
 cast-load : tie.Need-overflow_cast-load invariant-loop decreases-loop
-cast-load c = omega (arith, as_is c.before.before)
+cast-load c = omega (arith, as_is c.before.before.before.before)
 
 mul-load-2 : tie.Need-offset_bounds-load-i-in-loop-i invariant-loop decreases-loop
 mul-load-2 c = search rules
@@ -84,9 +84,9 @@ loop-less c = search rules
 
 loop-again : tie.Need-loop-i-preserved invariant-loop decreases-loop
 loop-again c =
-    let l = c.before.before in
-    let u = l.before.loop-i in
-    let z = l.before.before in
+    let l = c.before.before.before.before in
+    let u = l.loop-i in
+    let z = l in
     let a = z.args in
     let d : ℕ = a.top / 2 ^ u.i % 2 in
     let e : d ≡ digit a.top u.i = sym (digit_is a.top u.i) in
@@ -103,8 +103,8 @@ loop-again c =
 
 returns : tie.Need-returns invariant-loop decreases-loop
 returns c =
-    let u = c.before.loop-i in
-    let e : u.i ≡ c.before.before.args.rows = omega (arith, u.invariant.0) in
+    let u = c.loop-i in
+    let e : u.i ≡ c.args.rows = omega (arith, u.invariant.0) in
     (u.invariant.1, u.invariant.2, rw e at u.invariant.3)
 
 pub give_spec : {M : Type 1} → statement M

@@ -26,7 +26,7 @@ high false u = refl
 
 returns : tie.Need-returns-then-d-eq0
 returns c i =
-    let a = c.before.args in
+    let a = c.args in
     rw c.if-d-eq0.true (
     bit_xor_lem a.rows (bit_and a.rows a.upper) i
     ∙ ap (λ (b : Bool). cond b (not (bit a.rows i)) (bit a.rows i)) (bit_and_lem a.rows a.upper i)
@@ -35,8 +35,8 @@ returns c i =
 
 returns-2 : tie.Need-returns
 returns-2 c i =
-    let a = c.before.args in
-    let e : a.d ≡ 1 = omega (arith, c.before.requires, c.if-d-eq0.false) in
+    let a = c.args in
+    let e : a.d ≡ 1 = omega (arith, c.requires, c.if-d-eq0.false) in
     rw e (bit_and_lem a.rows a.upper i ∙ high (bit a.rows i) (bit a.upper i))
 
 pub on_ring_spec : {M : Type 1} → statement M

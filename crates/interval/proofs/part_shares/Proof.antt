@@ -29,7 +29,7 @@ decreases-loop rate slots size inverse whole₀ part₀ h parted₀ i₀ whole p
 abbrev start : tie.In-loop-i invariant-loop decreases-loop → tie.Start invariant-loop decreases-loop
 start t = t.before.before.before
 
-few : (t : tie.In-loop-i invariant-loop decreases-loop) → t.before.before.loop-i.i < max_rows
+few : (t : tie.In-loop-i invariant-loop decreases-loop) → t.loop-i.i < max_rows
 few t = omega (arith, t.loop-i-test.true, (start t).requires.0)
 
 loop-holds : tie.Need-loop-i-init invariant-loop decreases-loop
@@ -40,7 +40,7 @@ slots-at-requires c κs = few c
 
 -- the row's share, which the code has from its rate
 abbrev share : tie.In-loop-i invariant-loop decreases-loop → ℕ
-share t = at (start t).args.rate.now t.before.before.loop-i.i * (start t).args.slots
+share t = at (start t).args.rate.now t.loop-i.i * (start t).args.slots
 
 share-is : (s : tie.After-slots_at invariant-loop decreases-loop) → s.slots_at.result * (start s.before).args.slots ≡ share s.before
 share-is s = ap (λ (r : ℕ). r * (start s.before).args.slots) s.slots_at.ensures
@@ -48,7 +48,7 @@ share-is s = ap (λ (r : ℕ). r * (start s.before).args.slots) s.slots_at.ensur
 share-fits : (s : tie.After-slots_at invariant-loop decreases-loop) → s.slots_at.result * (start s.before).args.slots ≤ share_most
 share-fits s =
     let t = s.before in
-    omega (arith, share-is s, ((start t).requires.4 t.before.before.loop-i.i t.loop-i-test.true).0)
+    omega (arith, share-is s, ((start t).requires.4 t.loop-i.i t.loop-i-test.true).0)
 
 mul-share : tie.Need-overflow_mul-share invariant-loop decreases-loop
 mul-share c = omega (arith, share-fits c)
@@ -89,13 +89,13 @@ sub-rest c = omega (arith, parted c, share-is c.before)
 cast-whole : tie.Need-overflow_cast-whole invariant-loop decreases-loop
 cast-whole c =
     let t = row c in
-    omega (arith, whole_is c, ((start t).requires.4 t.before.before.loop-i.i t.loop-i-test.true).1)
+    omega (arith, whole_is c, ((start t).requires.4 t.loop-i.i t.loop-i-test.true).1)
 
 mul-whole : tie.Need-offset_bounds-whole-i invariant-loop decreases-loop
 mul-whole c = omega (arith, few (row c))
 
 element-write-whole : tie.Need-bounds-whole-i invariant-loop decreases-loop
-element-write-whole c = omega (arith, few (row c), (row c).before.before.loop-i.invariant.0)
+element-write-whole c = omega (arith, few (row c), (row c).loop-i.invariant.0)
 
 cast-part : tie.Need-overflow_cast-part invariant-loop decreases-loop
 cast-part c =
@@ -106,7 +106,7 @@ mul-part : tie.Need-offset_bounds-part-i invariant-loop decreases-loop
 mul-part c = omega (arith, few (row c))
 
 element-write-part : tie.Need-bounds-part-i invariant-loop decreases-loop
-element-write-part c = omega (arith, few (row c), (row c).before.before.loop-i.invariant.1)
+element-write-part c = omega (arith, few (row c), (row c).loop-i.invariant.1)
 
 mark-requires : tie.Need-mark-parted-requires invariant-loop decreases-loop
 mark-requires c κs = few (row c)
@@ -119,9 +119,9 @@ loop-less c = omega (arith, (row c.before).loop-i-test.true)
 
 loop-again : tie.Need-loop-i-preserved invariant-loop decreases-loop
 loop-again c =
-    let w = c.before in
+    let w = c in
     let t = row w in
-    let u = t.before.before.loop-i in
+    let u = t.loop-i in
     let a = (start t).args in
     let h = a.size.hyper in
     let p = put_set u.whole u.i w.whole_of-w.result (omega (arith, u.invariant.0, few t)) in
@@ -130,7 +130,7 @@ loop-again c =
       simp length-set u.invariant.1,
       omega (arith, t.loop-i-test.true),
       extend (λ j. (at (set u.whole u.i w.whole_of-w.result) j ≡ at a.rate.now j * a.slots / h)
-          × (at (set u.part u.i (w.before.slots_at.result * a.slots - w.whole_of-w.result * h)) j
+          × (at (set u.part u.i (w.slots_at.result * a.slots - w.whole_of-w.result * h)) j
           ≡ at a.rate.now j * a.slots % h)) u.i
           (λ j l. (p.1 j (omega arith) ∙ (u.invariant.3 j l).0, q.1 j (omega arith) ∙ (u.invariant.3 j l).1))
           (p.0 ∙ whole_is w, q.0 ∙ rest-is w),
@@ -140,8 +140,8 @@ loop-again c =
 
 returns : tie.Need-returns invariant-loop decreases-loop
 returns c =
-    let u = c.before.before.loop-i in
-    let a = c.before.before.before.args in
+    let u = c.loop-i in
+    let a = c.args in
     let e : u.i ≡ a.size.rows = omega (arith, c.loop-i-test.false, u.invariant.2) in
     let same = rw e at u.invariant.3 in (
       u.invariant.0,

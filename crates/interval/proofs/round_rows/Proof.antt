@@ -33,13 +33,13 @@ ring-count-requires : tie.Need-ring_count-rings-requires invariant-loop decrease
 ring-count-requires c κs = search rules
 
 loop-holds : tie.Need-loop-d-init invariant-loop decreases-loop
-loop-holds c = (omega arith, chosen_start _ _ _ _ _ _ _ c.before.requires.1.some)
+loop-holds c = (omega arith, chosen_start _ _ _ _ _ _ _ c.requires.1.some)
 
 -- the ring is one of those that there are
-ring-here : (n : tie.In-loop-d invariant-loop decreases-loop) → n.before.loop-d.d < max_rings
+ring-here : (n : tie.In-loop-d invariant-loop decreases-loop) → n.loop-d.d < max_rings
 ring-here n =
     let l = n.before in
-    rings_few (start l).args.upper l.loop-d.d (rw l.before.ring_count-rings.ensures at n.loop-d-test.true)
+    rings_few (start l).args.upper l.loop-d.d (rw l.ring_count-rings.ensures at n.loop-d-test.true)
 
 on-ring-requires : tie.Need-on_ring-rows-requires invariant-loop decreases-loop
 on-ring-requires c κs = ring-here c
@@ -84,9 +84,9 @@ loop-less c = omega arith
 
 loop-again : tie.Need-loop-d-preserved invariant-loop decreases-loop
 loop-again c =
-    let r = c.before in
-    let n = r.before in
-    let l = n.before.loop-d in (
+    let r = c in
+    let n = r.before.before in
+    let l = n.loop-d in (
       omega (arith, n.loop-d-test.true),
       chosen_next _ _ _ _ _ _ _ (entry r).requires.1.some l.d l.rounded c.choose-rounded.result (ring-here n) l.invariant.1
           (greatest_parts _ _ _ _ _ _ _ (digit c.choose-rounded.result) (own r) c.choose-rounded.ensures),
@@ -96,7 +96,7 @@ returns : tie.Need-returns invariant-loop decreases-loop
 returns c =
     let l = c.before in
     let z = start l in
-    let e : l.loop-d.d ≡ ring_count z.args.upper = omega (arith, l.loop-d.invariant.0, c.loop-d-test.false, l.before.ring_count-rings.ensures) in
+    let e : l.loop-d.d ≡ ring_count z.args.upper = omega (arith, l.loop-d.invariant.0, c.loop-d-test.false, l.ring_count-rings.ensures) in
     chosen_end _ _ _ _ _ _ _ z.requires.1.some l.loop-d.d _ e l.loop-d.invariant.1
 
 pub round_rows_spec : {M : Type 1} → statement M

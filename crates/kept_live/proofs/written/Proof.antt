@@ -14,7 +14,7 @@ write-file-requires c κs = search rules
 -- number and place fit one number
 small : (c : tie.After-write_file-answer) → (c.write_file-answer.result.number ≤ last_number) × (c.write_file-answer.result.place ≤ last_place)
 small c =
-    let z = c.before.before.before.args in
+    let z = c.args in
     file_small z.version z.was z.out.now _ c.write_file-answer.result.number c.write_file-answer.result.place c.write_file-answer.ensures
 
 mul-result : tie.Need-overflow_mul-result

@@ -54,11 +54,11 @@ refused-requires c κs = search rules
 
 returns : tie.Need-returns-then-are_wrong
 returns c =
-    let w = c.before.before.before in
-    let a = w.before.before.args in
-    let r = c.before.at in
+    let w = c in
+    let a = w.args in
+    let r = c.at in
     rw c.refused.ensures
-    (limits_wrong a.file.now a.limits.ours a.limits.theirs w.are_wrong.ensures c.before.before.if-are_wrong.true r.result
+    (limits_wrong a.file.now a.limits.ours a.limits.theirs w.are_wrong.ensures c.if-are_wrong.true r.result
     r.ensures.0 r.ensures.1)
 
 given-one-ring-requires : tie.Need-given_one_ring-found-requires
@@ -69,31 +69,31 @@ refused-requires-2 c κs = search rules
 
 returns-2 : tie.Need-returns-then-answer-ne-DONE
 returns-2 c =
-    let g = c.before.before.before.before in
-    let e = g.before in
+    let g = c in
+    let e = g.before.before.before.before.before in
     let a = (asked e).args in
     rw c.refused-then-answer-ne-DONE.ensures
-    (limits_given a.file.now a.limits.ours a.limits.theirs e.before.are_wrong.ensures e.if-are_wrong.false
-    g.given_one_ring-found.result.answer c.before.if-answer-ne-DONE.true g.given_one_ring-found.ensures.answers)
+    (limits_given a.file.now a.limits.ours a.limits.theirs e.are_wrong.ensures e.if-are_wrong.false
+    g.given_one_ring-found.result.answer c.if-answer-ne-DONE.true g.given_one_ring-found.ensures.answers)
 
 analysis-within-requires : tie.Need-analysis_within-requires
 analysis-within-requires c κs =
-    let d = c.before.before.before in
-    let e = (taken d).before in
+    let d = c.before.before in
+    let e = (taken d) in
     let a = (start d).args in
-    let low = limits_low a.file.now a.limits.ours a.limits.theirs e.before.are_wrong.ensures e.if-are_wrong.left in
+    let low = limits_low a.file.now a.limits.ours a.limits.theirs e.are_wrong.ensures e.if-are_wrong.left in
     (sound d, ap (λ (t : Table). t.rings) (held d) ∙ one_ring (bytes d) _ (checked d), low.0, low.1)
 
 returns-3 : tie.Need-returns
 returns-3 c =
-    let d = c.before.before.before.before in
+    let d = c.before.before.before in
     let g = (taken d).given_one_ring-found in
-    let e = (taken d).before in
+    let e = (taken d) in
     let a = (start d).args in
     let f = a.file.now in
     let our = a.limits.ours in
     let their = a.limits.theirs in
-    limits_past f our their e.before.are_wrong.ensures e.if-are_wrong.left _ (checked d)
+    limits_past f our their e.are_wrong.ensures e.if-are_wrong.left _ (checked d)
     (within_held (table d) g.result.labels (file_labelled f) our their (held d)
     (g.ensures.labelled d.if-answer-ne-DONE.false).labels c.analysis_within.ensures)
 

@@ -24,7 +24,7 @@ use Rattle.limited.proofs.analysis_within.Statement.{statement}
 use Rattle.limited.proofs.analysis_within.Tie as tie
 
 abbrev start : tie.After-outline_of-outline → tie.Start
-start d = d.before.before.before.before.before.before
+start d = d.before.before.before.before.before
 
 abbrev table : tie.After-outline_of-outline → Table
 table d = table_of (start d).args.t1
@@ -33,7 +33,7 @@ outlined : (d : tie.After-outline_of-outline) → Outlined (line_checks (table d
 outlined d = d.outline_of-outline.ensures (at (start d).args.t1.cost) (start d).requires.0
 
 outline-of-requires : tie.Need-outline_of-outline-requires
-outline-of-requires c κs = let s = c.before.before.before.before.before in (at s.args.t1.cost, s.requires.0)
+outline-of-requires c κs = let s = c in (at s.args.t1.cost, s.requires.0)
 
 refused-requires : tie.Need-refused-requires
 refused-requires c κs = search rules
@@ -43,33 +43,33 @@ returns c =
     let d = c.before.before.before.before in
     let a = (start d).args in
     rw c.refused.ensures
-    (within_line (table d) a.label.now a.limits.ours a.limits.theirs _ (outlined d) c.before.if-answer-ne-DONE.true)
+    (within_line (table d) a.label.now a.limits.ours a.limits.theirs _ (outlined d) c.if-answer-ne-DONE.true)
 
 -- the way back from the rates to the outline, and from the segments to the rates
 abbrev asked : tie.After-put_rates-light → tie.After-outline_of-outline
-asked d = d.before.before.before.before.before.before.before.before.before
+asked d = d.before.before.before.before.before.before.before.before
 
 abbrev rates : tie.After-put_rates-light → List ℕ
 rates d = d.put_rates-light.new.rate
 
 rated : (d : tie.After-put_rates-light) → Rated (table (asked d)) (asked d).outline_of-outline.result d.put_rates-light.result (rates d)
 rated d =
-    let e = d.before.before.before.before.before.before in
+    let e = d in
     let a = asked d in
     let F = (outlined a).found e.if-answer-ne-DONE.false in
     record { outlined = outlined a; passed = e.if-answer-ne-DONE.false; weighed = rows_weighed F.timed d.put_rates-light.ensures }
 
 put-rates-requires : tie.Need-put_rates-light-requires
 put-rates-requires c κs =
-    let e = c.before.before.before.before.before in
-    let T = ((outlined e.before.before.before).found e.if-answer-ne-DONE.false).timed in
+    let e = c in
+    let T = ((outlined e.before.before.before.before.before.before.before).found e.if-answer-ne-DONE.false).timed in
     (times_of T.sound, omega (arith, T.hyper, T.short), omega (arith, T.interval, shortest_le T.sound), refl)
 
 lay-segments-requires : tie.Need-lay_segments-segments-requires
-lay-segments-requires c κs = let o = asked c.before.before.before.before in sound_routes {t = table o} (start o).requires.0
+lay-segments-requires c κs = let o = asked c.before.before.before in sound_routes {t = table o} (start o).requires.0
 
 abbrev weighted : tie.After-lay_segments-segments → tie.After-put_rates-light
-weighted s = s.before.before.before.before.before
+weighted s = s.before.before.before.before
 
 limited : (s : tie.After-lay_segments-segments)
     → (let d = weighted s in
@@ -78,7 +78,7 @@ limited : (s : tie.After-lay_segments-segments)
     Limited (table o) a.t1.elements a.t1.rows o.outline_of-outline.result.time-1.hyper (rates d) s.lay_segments-segments.result)
 limited s =
     let d = weighted s in
-    let T = ((outlined (asked d)).found d.before.before.before.before.before.before.if-answer-ne-DONE.left).timed in
+    let T = ((outlined (asked d)).found d.if-answer-ne-DONE.left).timed in
     record {
       sound = T.sound;
       one_ring = (start (asked d)).requires.1;
@@ -118,16 +118,16 @@ returns-2 c =
     let a = (start (found k)).args in
     rw c.refused-then-kept-ne-DONE.ensures
     (within_limit (table (found k)) a.label.now a.limits.ours a.limits.theirs (rated (weighted (laid k))) _ (within k)
-    c.before.if-kept-ne-DONE.true)
+    c.if-kept-ne-DONE.true)
 
 weigh-requires : tie.Need-weigh-weighing-requires
 weigh-requires c κs =
-    let k = c.before.before.before.before.before.before in
+    let k = c.before.before.before.before.before in
     (table (found k), rated_weighable (table (found k)) (rated (weighted (laid k))))
 
 -- the way back from the weights to what is kept
 abbrev kept : tie.After-weigh-weighing → tie.Else-kept-ne-DONE
-kept w = w.before.before.before.before.before
+kept w = w.before.before.before.before
 
 -- past the limits, what is weighed
 after : (w : tie.After-weigh-weighing) (z : Analysis)
@@ -154,7 +154,7 @@ returns-3 c =
     let w = c.before.before.before.before in
     let k = (kept w).before.before in
     rw c.refused-then-next-ne-DONE.ensures
-    (after w _ (analysed_next (table (found k)) (rated (weighted (laid k))) _ (weighs w) c.before.if-next-ne-DONE.true))
+    (after w _ (analysed_next (table (found k)) (rated (weighted (laid k))) _ (weighs w) c.if-next-ne-DONE.true))
 
 returns-4 : tie.Need-returns
 returns-4 c =

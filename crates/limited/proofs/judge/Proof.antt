@@ -10,12 +10,12 @@ analyse-requires : tie.Need-analyse-requires
 analyse-requires c κs = search rules
 
 verdict-of-requires : tie.Need-verdict_of-requires
-verdict-of-requires c κs z = (file_table c.before.before.args.file.now, c.analyse.ensures.found z)
+verdict-of-requires c κs z = (file_table c.args.file.now, c.analyse.ensures.found z)
 
 returns : tie.Need-returns
 returns c =
-    let a = c.before.before.before.args in
-    judged_on (limited_numbered a.file.now a.limits.ours a.limits.theirs) c.before.analyse.ensures c.verdict_of.ensures
+    let a = c.args in
+    judged_on (limited_numbered a.file.now a.limits.ours a.limits.theirs) c.analyse.ensures c.verdict_of.ensures
 
 pub judge_spec : {M : Type 1} → statement M
 judge_spec = tie.close (tie.spec analyse-requires verdict-of-requires returns)

@@ -10,16 +10,16 @@ analyse-requires : tie.Need-analyse-requires
 analyse-requires c κs = search rules
 
 plan-on-requires : tie.Need-plan_on-requires
-plan-on-requires c κs = usable (limited_ask _ _ _) c.before.analyse.ensures
+plan-on-requires c κs = usable (limited_ask _ _ _) c.analyse.ensures
 
 same_length : tie.Need-shape_of-plan
 same_length c = search rules
 
 returns : tie.Need-returns
 returns c =
-    let O = c.before.before in
-    let A = O.before.before in
-    let a = A.before.before.before.args in
+    let O = c in
+    let A = O in
+    let a = A.args in
     let f = a.file.now in
     let our = a.limits.ours in
     let their = a.limits.theirs in

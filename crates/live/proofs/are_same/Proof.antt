@@ -31,7 +31,7 @@ element-copy-out-if1-2 : tie.Need-bounds-b-s invariant-loop decreases-loop
 element-copy-out-if1-2 c = search rules
 
 returns : tie.Need-returns-then-a-s invariant-loop decreases-loop
-returns c = upto_stop c.before.before.before.before.loop-s.s (omega arith) c.if-a-s.true
+returns c = upto_stop c.loop-s.s (omega arith) c.if-a-s.true
 
 add-s : tie.Need-overflow_add-s invariant-loop decreases-loop
 add-s c = search rules
@@ -40,10 +40,10 @@ loop-less : tie.Need-loop-s-smaller invariant-loop decreases-loop
 loop-less c = search rules
 
 loop-again : tie.Need-loop-s-preserved invariant-loop decreases-loop
-loop-again c = upto_next c.before.before.before.before.loop-s.invariant (omega arith) c.if-a-s.false
+loop-again c = upto_next c.loop-s.invariant (omega arith) c.if-a-s.false
 
 returns-2 : tie.Need-returns invariant-loop decreases-loop
-returns-2 c = upto_end c.before.loop-s.invariant (omega arith)
+returns-2 c = upto_end c.loop-s.invariant (omega arith)
 
 pub are_same_spec : {M : Type 1} → statement M
 are_same_spec =

@@ -26,9 +26,9 @@ slots-at-requires c κs = search rules
 
 returns : tie.Need-returns-then-slots_at-eq0 invariant-loop decreases-loop
 returns c =
-    let d = c.before in
-    let u = d.before.before in
-    let p = at u.before.args.period.now u.loop-i.i in
+    let d = c in
+    let u = d in
+    let p = at u.args.period.now u.loop-i.i in
     sought_found u.loop-i.invariant (omega arith)
     (ap not (is_false (ltb 0 p) (λ t. omega (arith, ltb→lt 0 p t, d.slots_at.ensures, c.if-slots_at-eq0.true))))
 
@@ -40,14 +40,14 @@ loop-less c = search rules
 
 loop-again : tie.Need-loop-i-preserved invariant-loop decreases-loop
 loop-again c =
-    let d = c.before in
-    let u = d.before.before in
-    let p = at u.before.args.period.now u.loop-i.i in
+    let d = c in
+    let u = d in
+    let p = at u.args.period.now u.loop-i.i in
     sought_next u.loop-i.invariant (omega arith)
     (ap not (is_true (ltb 0 p) (lt→ltb 0 p (omega (arith, d.slots_at.ensures, c.if-slots_at-eq0.false)))))
 
 returns-2 : tie.Need-returns invariant-loop decreases-loop
-returns-2 c = sought_end c.before.loop-i.invariant (omega arith)
+returns-2 c = sought_end c.loop-i.invariant (omega arith)
 
 pub lowest_free_spec : {M : Type 1} → statement M
 lowest_free_spec =

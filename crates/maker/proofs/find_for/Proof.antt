@@ -53,7 +53,7 @@ returns c =
     let f = c.before.before.before.before in
     let a = (start f).args in
     fits_refused (one_ring_ask (bytes f)) (judged_numbered (bytes f)) a.plan.now a.element a.room (wants f)
-    f.find_in-found.ensures _ c.before.if-answer-ne-DONE.true c.nothing.ensures
+    f.find_in-found.ensures _ c.if-answer-ne-DONE.true c.nothing.ensures
 
 mul-if2 : tie.Need-overflow_mul-size
 mul-if2 c = omega (arith, few c.before)
@@ -73,7 +73,7 @@ returns-2 c =
     let f = found z in
     let a = (start f).args in
     fits_short (one_ring_ask (bytes f)) (judged_numbered (bytes f)) a.plan.now a.element a.room (wants f)
-    f.find_in-found.ensures z.if-answer-ne-DONE.false _ _ (omega (arith, wanted z, c.before.before.if-room-head.true)) c.before.at.ensures
+    f.find_in-found.ensures z.if-answer-ne-DONE.false _ _ (omega (arith, wanted z, c.if-room-head.true)) c.at.ensures
     c.nothing-then-room-head.ensures
 
 returns-3 : tie.Need-returns

@@ -18,7 +18,7 @@ bytes c = (start c).args.file.now
 
 -- the file has no other mark
 own : (c : tie.After-judge-verdict) → OtherMark (bytes c) → ⊥
-own c = c.before.before.has_other_mark.ensures.fails c.before.if-has_other_mark.false
+own c = c.has_other_mark.ensures.fails c.if-has_other_mark.false
 
 has-other-mark-requires : tie.Need-has_other_mark-requires
 has-other-mark-requires c κs = search rules
@@ -31,10 +31,10 @@ nothing-requires c κs = search rules
 
 returns : tie.Need-returns-then-has_other_mark
 returns c =
-    let m = c.before.before in
-    let a = m.before.before.before.before.args in
-    mark_stops a.file.now a.plan.now a.element c.before.at.result c.nothing.result c.nothing.ensures.answer
-    c.before.at.ensures (m.before.has_other_mark.ensures.holds m.if-has_other_mark.true)
+    let m = c in
+    let a = m.args in
+    mark_stops a.file.now a.plan.now a.element c.at.result c.nothing.result c.nothing.ensures.answer
+    c.at.ensures (m.has_other_mark.ensures.holds m.if-has_other_mark.true)
 
 judge-requires : tie.Need-judge-verdict-requires
 judge-requires c κs = search rules
@@ -59,8 +59,8 @@ returns-2 c =
     let j = c.before.before.before.before.before in
     let a = (start j).args in
     judged_refused (bytes j) a.plan.now a.element j.judge-verdict.result _ (own j) j.judge-verdict.ensures
-    c.before.before.before.enum_told-1.given.1
-    _ _ c.before.before.number.ensures c.before.place.ensures c.nothing-in_default.result c.nothing-in_default.ensures.answer
+    c.enum_told-1.given.1
+    _ _ c.number.ensures c.place.ensures c.nothing-in_default.result c.nothing-in_default.ensures.answer
 
 decode-requires : tie.Need-decode-found-requires
 decode-requires c κs = search rules
@@ -71,21 +71,21 @@ admitted : (c : tie.After-decode-found)
     None (one_ring_ask (bytes j)).checks
 admitted c =
     let j = c.before.before.before.before in
-    judged_none (bytes j) j.judge-verdict.result _ _ _ _ _ _ (own j) j.judge-verdict.ensures c.before.before.verdict-1.given.1
+    judged_none (bytes j) j.judge-verdict.result _ _ _ _ _ _ (own j) j.judge-verdict.ensures c.verdict-1.given.1
 
 cast-find-on : tie.Need-overflow_cast-hyper
 cast-find-on c = search rules
 
 find-on-requires : tie.Need-find_on-requires
 find-on-requires c κs =
-    let j = c.before.before.before.before in
+    let j = c.before.before.before.before.before in
     judged_table (bytes j) j.judge-verdict.result _ _ _ _ _ _ (own j) j.judge-verdict.ensures
-    c.before.before.verdict-1.given.1 c.decode-found.result
+    c.verdict-1.given.1 c.decode-found.result
     c.decode-found.ensures
 
 returns-3 : tie.Need-returns
 returns-3 c =
-    let d = c.before in
+    let d = c.before.before in
     let j = d.before.before.before.before in
     let a = (start j).args in
     admitted_finds (bytes j) a.plan.now a.element (admitted d) d.decode-found.result d.decode-found.ensures c.find_on.result

@@ -14,7 +14,7 @@ use Rattle.maker.proofs.find_on.Statement.{statement}
 use Rattle.maker.proofs.find_on.Tie as tie
 
 abbrev start : tie.After-fault-answer → tie.Start
-start c = c.before.before.before.before.before.before.before.before.before
+start c = c.before.before.before.before.before.before.before.before
 
 abbrev table : tie.Start → Table
 table c = table_of c.args.t1
@@ -25,8 +25,8 @@ checked : (c : tie.After-fault-answer)
     Answers (early_checks [] (table s) s.args.plan.now s.args.element) c.fault-answer.result.number c.fault-answer.result.place
 checked c =
     let s = start c in
-    let low = c.before.lowest_bad-slot.ensures (table s) refl
-    (laid_of _ s.requires.0 s.requires.3 c.before.before.before.lay_segments-routes.ensures) in
+    let low = c.lowest_bad-slot.ensures (table s) refl
+    (laid_of _ s.requires.0 s.requires.3 c.lay_segments-routes.ensures) in
     c.fault-answer.ensures (table s) s.args.plan.now refl refl s.requires.1 low
 
 abbrev faulted : tie.Else-answer-ne-DONE → tie.After-fault-answer
@@ -37,7 +37,7 @@ none : (c : tie.Else-answer-ne-DONE)
 none c = let s = start (faulted c) in found_none (table s) s.args.plan.now s.args.element _ _ c.if-answer-ne-DONE.false (checked (faulted c))
 
 lay-segments-requires : tie.Need-lay_segments-routes-requires
-lay-segments-requires c κs = let s = c.before.before.before.before.before in sound_routes {t = table s} s.requires.0
+lay-segments-requires c κs = let s = c.before.before.before.before in sound_routes {t = table s} s.requires.0
 
 lowest-bad-requires : tie.Need-lowest_bad-slot-requires
 lowest-bad-requires c κs = search rules
@@ -51,7 +51,7 @@ nothing-requires c κs = search rules
 returns : tie.Need-returns-then-answer-ne-DONE
 returns c =
     let f = c.before.before.before in
-    found_refused f.fault-answer.result c.nothing.result c.nothing.ensures.answer c.before.if-answer-ne-DONE.true (checked f)
+    found_refused f.fault-answer.result c.nothing.result c.nothing.ensures.answer c.if-answer-ne-DONE.true (checked f)
 
 ending-at-requires : tie.Need-ending_at-into-requires
 ending-at-requires c κs = search rules
@@ -61,21 +61,21 @@ ending-at-requires-2 c κs = search rules
 
 count-requires : tie.Need-count-requires
 count-requires c κs =
-    let e = c.before.before.before.before.before.before in
+    let e = c.before.before.before.before in
     let s = start (faulted e) in
     let n = none e in (
       omega (arith, s.requires.1, long_of s.requires.0 s.args.plan.now s.args.element n),
       s.requires.2,
-      rw (s.requires.1, c.ending_at-from.ensures, c.before.before.before.Ending-at.ensures)
+      rw (s.requires.1, c.ending_at-from.ensures, c.Ending-at.ensures)
           (clear_of s.requires.0 s.args.plan.now s.args.element s.requires.3 n),
     )
 
 returns-2 : tie.Need-returns
 returns-2 c =
-    let e = c.before.before.before.before.before.before.before in
+    let e = c.before.before.before.before.before in
     let s = start (faulted e) in
     found_ready s.requires.0 s.args.plan.now s.args.element _ s.requires.3 (none e) (checked (faulted e)) s.requires.1 s.requires.2
-    c.before.before.before.before.Ending-at.ensures c.before.ending_at-from.ensures c.count.ensures.0 c.count.ensures.1
+    c.Ending-at.ensures c.ending_at-from.ensures c.count.ensures.0 c.count.ensures.1
 
 pub find_on_spec : {M : Type 1} → statement M
 find_on_spec =

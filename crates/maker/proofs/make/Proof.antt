@@ -47,7 +47,7 @@ returns c =
     let f = c.before.before.before.before in
     let a = (start f).args in
     made_refused (one_ring_ask (bytes f)) a.plan.now a.element list_numbers a.out.now (wanted f) f.find_for-found.ensures
-    c.made_of.ensures c.before.if-answer-ne-DONE.true
+    c.made_of.ensures c.if-answer-ne-DONE.true
 
 put-numbers-requires : tie.Need-put_numbers-requires
 put-numbers-requires c κs =
@@ -63,8 +63,8 @@ same_length c = search rules
 
 returns-2 : tie.Need-returns
 returns-2 c =
-    let p = c.before.before.before in
-    let z = p.before.before in
+    let p = c in
+    let z = p.before.before.before.before.before in
     let f = found z in
     let a = (start f).args in
     made_done (one_ring_ask (bytes f)) a.plan.now a.element list_numbers a.out.now (wanted f) f.find_for-found.ensures

@@ -50,7 +50,7 @@ returns c =
     let f = c.before.before.before.before in
     let a = (start f).args in
     made_refused (one_ring_ask (bytes f)) a.plan.now a.element list_bytes a.out.now (wanted f) f.find_for-found.ensures
-    c.made_of.ensures c.before.if-answer-ne-DONE.true
+    c.made_of.ensures c.if-answer-ne-DONE.true
 
 cast-put-head : tie.Need-overflow_cast-element
 cast-put-head c = omega (arith, (ready c).element_small)
@@ -70,8 +70,8 @@ put-head-requires c κs = omega (arith, room c.before.before)
 
 put-bytes-requires : tie.Need-put_bytes-requires
 put-bytes-requires c κs =
-    let p = c.before.before.before in
-    let z = p.before.before.before in
+    let p = c in
+    let z = p.before.before.before.before.before.before in
     let f = found z in
     let R = ready z in
     let h = ap length p.put_head.ensures
@@ -86,9 +86,9 @@ same_length c = search rules
 
 returns-2 : tie.Need-returns
 returns-2 c =
-    let b = c.before.before.before in
-    let p = b.before.before.before.before in
-    let z = p.before.before.before in
+    let b = c in
+    let p = b in
+    let z = p.before.before.before.before.before.before.before.before.before.before in
     let f = found z in
     let a = (start f).args in
     let t = file_table (bytes f) in

@@ -31,39 +31,39 @@ returns-2 c =
     let e = c.before.before in
     let d = decoded e in
     no_first_row (bytes d) (entry d).args.i (entry d).args.j d.decode-found.result d.decode-found.ensures e.if-answer-ne-DONE.false _ _
-    c.before.if-i-rows.true c.at.ensures
+    c.if-i-rows.true c.at.ensures
 
 at-requires-2 : tie.Need-at-requires-then-j-rows
 at-requires-2 c κs = search rules
 
 returns-3 : tie.Need-returns-then-j-rows
 returns-3 c =
-    let l = c.before.before in
-    let e = l.before in
+    let l = c in
+    let e = l.before.before.before in
     let d = decoded e in
     no_second_row (bytes d) (entry d).args.i (entry d).args.j d.decode-found.result d.decode-found.ensures e.if-answer-ne-DONE.false l.if-i-rows.false _ _
-    c.before.if-j-rows.true c.at-then-j-rows.ensures
+    c.if-j-rows.true c.at-then-j-rows.ensures
 
 done-requires : tie.Need-done-requires
 done-requires c κs = search rules
 
 shared-requires : tie.Need-shared-requires
 shared-requires c κs =
-    let k = c.before.before.before.before.before in
-    let e = k.before.before in
+    let k = c in
+    let e = k.before.before.before.before.before.before in
     let d = decoded e in (
       d.decode-found.result.columns.rows,
       met_routes (bytes d) (entry d).args.i (entry d).args.j d.decode-found.result d.decode-found.ensures e.if-answer-ne-DONE.false,
-      k.before.if-i-rows.false,
+      k.if-i-rows.false,
       k.if-j-rows.false,
     )
 
 returns-4 : tie.Need-returns
 returns-4 c =
-    let n = c.before.before.before.before.before in
-    let k = n.before in
-    let l = k.before in
-    let e = l.before in
+    let n = c in
+    let k = n in
+    let l = k in
+    let e = l.before.before.before.before.before.before.before in
     let d = decoded e in
     met_done (bytes d) (entry d).args.i (entry d).args.j d.decode-found.result d.decode-found.ensures e.if-answer-ne-DONE.false l.if-i-rows.false _ _ _
     k.if-j-rows.false n.done.ensures (c.shared.ensures _)

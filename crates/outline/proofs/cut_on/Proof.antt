@@ -9,7 +9,7 @@ find-cut-requires : tie.Need-find_cut-requires
 find-cut-requires c κs = search rules
 
 returns : tie.Need-returns-then-d-rings
-returns c = searched_there c.before.if-d-rings.true c.find_cut.ensures
+returns c = searched_there c.if-d-rings.true c.find_cut.ensures
 
 returns-2 : tie.Need-returns
 returns-2 c = searched_not _ c.if-d-rings.false

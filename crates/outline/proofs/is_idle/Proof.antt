@@ -25,10 +25,10 @@ end-at-requires c κs = omega arith
 
 returns : tie.Need-returns-then-end_at-d invariant-loop decreases-loop
 returns c =
-    let u = c.before.before.before in
-    let z = u.before.args in
+    let u = c in
+    let z = u.args in
     some_row z.rows (λ j. eqb (at z.way.now j) z.d) u.loop-i.i (omega arith)
-    (eqb_of _ _ (sym c.before.end_at.ensures ∙ c.if-end_at-d.true))
+    (eqb_of _ _ (sym c.end_at.ensures ∙ c.if-end_at-d.true))
 
 add-i : tie.Need-overflow_add-i invariant-loop decreases-loop
 add-i c = omega arith
@@ -38,11 +38,11 @@ loop-less c = omega arith
 
 loop-again : tie.Need-loop-i-preserved invariant-loop decreases-loop
 loop-again c =
-    let u = c.before.before.before in
-    sought_next u.loop-i.invariant (omega arith) (ne_eqb _ _ (λ e. c.if-end_at-d.false (c.before.end_at.ensures ∙ e)))
+    let u = c in
+    sought_next u.loop-i.invariant (omega arith) (ne_eqb _ _ (λ e. c.if-end_at-d.false (c.end_at.ensures ∙ e)))
 
 returns-2 : tie.Need-returns invariant-loop decreases-loop
-returns-2 c = no_row _ _ c.before.loop-i.invariant (omega arith)
+returns-2 c = no_row _ _ c.loop-i.invariant (omega arith)
 
 pub is_idle_spec : {M : Type 1} → statement M
 is_idle_spec =

@@ -38,7 +38,7 @@ cut-on-requires : tie.Need-cut_on-cut-requires
 cut-on-requires c κs = (sound_routes c.requires.1, sound_one_way c.requires.1)
 
 cut-on-requires-2 : tie.Need-cut_on-other-requires
-cut-on-requires-2 c κs = (sound_routes c.before.requires.1, sound_one_way c.before.requires.1)
+cut-on-requires-2 c κs = (sound_routes c.requires.1, sound_one_way c.requires.1)
 
 lowest-uncut-requires : tie.Need-lowest_uncut-uncut-requires
 lowest-uncut-requires c κs = search rules
@@ -51,11 +51,11 @@ refused-requires c κs = search rules
 
 returns : tie.Need-returns-then-uncut-lt-RINGS
 returns c cost s =
-    let u = c.before.before.before in
+    let u = c in
     rw c.refused.ensures
-    (laid_refused _ (λ q. omega (arith, c.before.at.ensures.0))
-    (answers_at _ _ _ _ c.before.at.ensures
-    (uncut_refused s (is_cut u cost s) (is-other u cost s) u.lowest_uncut-uncut.ensures c.before.before.if-uncut-lt-RINGS.true)))
+    (laid_refused _ (λ q. omega (arith, c.at.ensures.0))
+    (answers_at _ _ _ _ c.at.ensures
+    (uncut_refused s (is_cut u cost s) (is-other u cost s) u.lowest_uncut-uncut.ensures c.if-uncut-lt-RINGS.true)))
 
 of-requires : tie.Need-of-time-requires
 of-requires c κs = periods_of (entry c.before).requires.1
@@ -85,12 +85,12 @@ module _ (e : tie.Else-uncut-lt-RINGS) (cost : ℕ → ℕ) (s : Sound (table (e
 
 returns-2 : tie.Need-returns-then-time-eq0
 returns-2 c cost s =
-    let h = c.before.before.before.before in
-    let t = table (entry h.before.before) cost in
+    let h = c in
+    let t = table (entry h.before.before.before.before.before.before) cost in
     rw c.refused-then-time-eq0.ensures
-    (laid_refused _ (λ q. omega (arith, c.before.at-then-time-eq0.ensures.0))
-    (answers_at _ _ _ _ c.before.at-then-time-eq0.ensures
-    (long_refused t (has_cuts h.before cost s) (clocks_long s h.of-time.ensures c.before.before.if-time-eq0.true))))
+    (laid_refused _ (λ q. omega (arith, c.at-then-time-eq0.ensures.0))
+    (answers_at _ _ _ _ c.at-then-time-eq0.ensures
+    (long_refused t (has_cuts h.before cost s) (clocks_long s h.of-time.ensures c.if-time-eq0.true))))
 
 -- ---- past both tests all is found
 
@@ -131,16 +131,16 @@ lay-requires c κs =
 returns-3 : tie.Need-returns
 returns-3 c cost z =
     let d = c.before.before.before in
-    let u = (asked d).before in
+    let u = (asked d) in
     let t = table (start d) cost in
     let q = is_cut u cost z in
     let o = is-other u cost z in
     laid_found t _ d.done.ensures
     (record {
-      timed = clocks_timed z d.before.before.before.of-time.ensures d.before.if-time-eq0.false;
+      timed = clocks_timed z d.of-time.ensures d.if-time-eq0.false;
       clear = has_cuts (asked d) cost z;
-      cut = cut_board z clockwise q c.before.before.board_cut.ensures;
-      other = cut_board z counterclockwise o c.before.board_cut-2.ensures;
+      cut = cut_board z clockwise q c.board_cut.ensures;
+      other = cut_board z counterclockwise o c.board_cut-2.ensures;
       top = refl;
       first = laid_first t (sound_routes z).ways q o c.lay.ensures;
       second = laid_second t (sound_routes z).ways q o c.lay.ensures;

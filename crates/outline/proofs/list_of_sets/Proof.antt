@@ -10,16 +10,16 @@ outline-file-requires : tie.Need-outline_file-requires
 outline-file-requires c κs = search rules
 
 list-on-requires : tie.Need-list_on-requires
-list-on-requires c κs = traced (line_ask _) c.before.outline_file.ensures
+list-on-requires c κs = traced (line_ask _) c.outline_file.ensures
 
 same_length : tie.Need-shape_of-out
 same_length c = search rules
 
 returns : tie.Need-returns
 returns c =
-    let L = c.before.before in
-    let O = L.before.before in
-    let a = O.before.before.before.args in
+    let L = c in
+    let O = L in
+    let a = O.args in
     list_asked (line_ask a.file.now) (outline_numbered a.file.now) O.outline_file.ensures L.list_on.result a.out.now _
     L.list_on.ensures
 

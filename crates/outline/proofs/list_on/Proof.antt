@@ -16,7 +16,7 @@ found : (c : tie.Else-answer-ne-DONE) → (t : Table) × Found t (entry c).args.
 found c = (entry c).requires c.if-answer-ne-DONE.false
 
 returns : tie.Need-returns-then-answer-ne-DONE
-returns c = let a = c.before.before.before.before.args in on_refused a.out.now c.if-answer-ne-DONE.true
+returns c = let a = c.args in on_refused a.out.now c.if-answer-ne-DONE.true
 
 at-requires : tie.Need-at-requires
 at-requires c κs = search rules
@@ -24,7 +24,7 @@ at-requires c κs = search rules
 returns-2 : tie.Need-returns-then-out-sets
 returns-2 c =
     let e = c.before.before in
-    on_short (entry e).args.out.now e.if-answer-ne-DONE.false _ c.at.ensures refl c.before.if-out-sets.true
+    on_short (entry e).args.out.now e.if-answer-ne-DONE.false _ c.at.ensures refl c.if-out-sets.true
 
 array-share-prefix-words : tie.Need-slice_bounds-words-end
 array-share-prefix-words c = let F = (found c.before.before).1 in omega (arith, found_few F, F.size)
@@ -33,7 +33,7 @@ slice-aggregate-write-front : tie.Need-slice_bounds-write_front-end
 slice-aggregate-write-front c = sym (found_count (found c.before.before.before).1)
 
 write-front-requires : tie.Need-write_front-requires
-write-front-requires c κs = omega (arith, found_count (found c.before.before.before.before).1, c.before.before.before.if-out-sets.false)
+write-front-requires c κs = omega (arith, found_count (found c.before.before.before.before).1, c.if-out-sets.false)
 
 done-requires : tie.Need-done-requires
 done-requires c κs = search rules
@@ -46,9 +46,9 @@ same_length c = search rules
 
 returns-3 : tie.Need-returns
 returns-3 c =
-    let w = c.before.before.before in
-    let e = w.before.before.before.before in
-    on_done (entry e.before).args.out.now e.before.if-answer-ne-DONE.false _ w.write_front.new.out c.done.ensures refl
+    let w = c in
+    let e = w in
+    on_done (entry e.before.before.before.before.before.before.before.before).args.out.now e.if-answer-ne-DONE.false _ w.write_front.new.out c.done.ensures refl
     e.if-out-sets.false w.write_front.ensures
 
 pub list_on_spec : {M : Type 1} → statement M

@@ -17,7 +17,7 @@ abbrev taken : tie.Else-answer-ne-DONE → tie.After-given-found
 taken c = c.before.before.before
 
 abbrev bytes : tie.Else-answer-ne-DONE → List ℕ
-bytes c = (taken c).before.before.args.file.now
+bytes c = (taken c).args.file.now
 
 checked : (c : tie.Else-answer-ne-DONE) → Answers (given_checks (bytes c)) 0 (taken c).given-found.result.answer-1.place
 checked c = answers_zero (given_checks (bytes c)) (taken c).given-found.result.answer c.if-answer-ne-DONE.false (taken c).given-found.ensures.answers
@@ -36,15 +36,15 @@ refused-requires c κs = search rules
 
 returns : tie.Need-returns-then-answer-ne-DONE
 returns c =
-    let a = c.before.before.before.before.given in
-    rw c.refused.ensures (outlined_given _ a.result.answer c.before.if-answer-ne-DONE.true a.ensures.answers)
+    let a = c.given-found in
+    rw c.refused.ensures (outlined_given _ a.result.answer c.if-answer-ne-DONE.true a.ensures.answers)
 
 outline-of-requires : tie.Need-outline_of-requires
-outline-of-requires c κs = let e = c.before.before.before.before.before in (at (taken e).given-found.result.columns.cost, sound e)
+outline-of-requires c κs = let e = c.before.before.before.before in (at (taken e).given-found.result.columns.cost, sound e)
 
 returns-2 : tie.Need-returns
 returns-2 c =
-    let e = c.before.before.before.before.before.before in
+    let e = c.before.before.before.before.before in
     outlined_past (bytes e) _ (checked e)
     (rw (held e) at (c.outline_of.ensures (at (taken e).given-found.result.columns.cost) (sound e)))
 

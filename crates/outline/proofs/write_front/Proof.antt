@@ -39,18 +39,18 @@ loop-less c = omega arith
 
 loop-again : tie.Need-loop-k-preserved invariant-loop decreases-loop
 loop-again c =
-    let u = c.before.before.loop-k in
-    let z = c.before.before.before.args in
+    let u = c.loop-k in
+    let z = c.args in
     (omega arith, rw (take_next z.words.now u.k (omega arith)) (filled_put (at z.words.now u.k) u.invariant.1 (omega arith)))
 
 same_length : tie.Need-shape_of-out invariant-loop decreases-loop
-same_length c = c.before.loop-k.invariant.1.same
+same_length c = c.loop-k.invariant.1.same
 
 returns : tie.Need-returns invariant-loop decreases-loop
 unfolding lent
 returns c =
-    let z = c.before.before.args in
-    let u = c.before.loop-k in
+    let z = c.args in
+    let u = c.loop-k in
     let e : take u.k z.words.now ≡ z.words.now = take_all u.k z.words.now (omega arith) in
     let q : length z.words.now ≡ u.k = omega arith in
     rw q (rw e at u.invariant.1.holds)

@@ -15,7 +15,7 @@ abbrev decoded : tie.Else-answer-ne-DONE → tie.After-decode-found
 decoded c = c.before.before.before
 
 abbrev bytes : tie.After-decode-found → List ℕ
-bytes d = d.before.before.args.file.now
+bytes d = d.args.file.now
 
 decode-requires : tie.Need-decode-found-requires
 decode-requires c κs = search rules
@@ -35,7 +35,7 @@ module _ (e : tie.Else-answer-ne-DONE) where
 
 returns : tie.Need-returns-then-answer-ne-DONE
 returns c =
-    let d = c.before.before.before.decode in
+    let d = c.decode-found in
     let D = d.ensures in
     decodes_as D (given_stopped _ d.result.answer d.result.columns D.answers D.passed c.if-answer-ne-DONE.true)
 
@@ -50,20 +50,20 @@ refused-requires c κs = search rules
 
 returns-2 : tie.Need-returns-then-row-found
 returns-2 c =
-    let p = c.before.before.before in
-    let e = p.before.before.before.before.before.before in
+    let p = c in
+    let e = p.before.before.before.before.before.before.before.before in
     let D = (decoded e).decode-found.ensures in
-    let a = c.before.at in
+    let a = c.at in
     let k = columns e in
     rw c.refused.ensures
     (decodes_refusal a.result (λ z. omega (arith, a.ensures.0))
     (rw (a.ensures.0, a.ensures.1)
     (given_pasted (bytes (decoded e)) (answer e) k D.answers D.passed e.if-answer-ne-DONE.false _
-    (p.lowest_pasted-row.ensures k.elements k.rings k.cost) c.before.before.if-row-found.true)))
+    (p.lowest_pasted-row.ensures k.elements k.rings k.cost) c.if-row-found.true)))
 
 returns-3 : tie.Need-returns
 returns-3 c =
-    let p = c.before in
+    let p = c in
     let e = p.before.before.before.before.before.before in
     let D = (decoded e).decode-found.ensures in
     let k = columns e in

@@ -17,14 +17,14 @@ columns d =
     columns_by d.decode_into-head.result xs.1.0 xs.1.1.0 xs.1.1.1.0 xs.1.1.1.1.0 xs.1.1.1.1.1.0
 
 abbrev bytes : tie.After-decode_into-head → List ℕ
-bytes d = d.before.before.before.before.before.before.before.args.file.now
+bytes d = d.args.file.now
 
 abbrev decoded : tie.Else-answer-ne-DONE → tie.After-decode_into-head
 decoded e = e.before.before.before
 
 -- the way back from 18 to the other checks
 abbrev passed : tie.After-lowest_pasted-row → tie.Else-answer-ne-DONE
-passed p = p.before.before.before.before.before
+passed p = p.before
 
 ends : (e : tie.Else-answer-ne-DONE)
     → (let k = columns (decoded e) in
@@ -44,7 +44,7 @@ returns c =
     into_as D (given_stopped (bytes d) d.decode_into-head.result.answer (columns d) D.answers D.passed c.if-answer-ne-DONE.true)
 
 lowest-pasted-requires : tie.Need-lowest_pasted-row-requires
-lowest-pasted-requires c κs = ends c.before.before.before.before
+lowest-pasted-requires c κs = ends c
 
 at-requires : tie.Need-at-requires
 at-requires c κs = omega (arith, c.if-row-head.true, (ends (passed c.before.before)).0)
@@ -54,13 +54,13 @@ refused-requires c κs = search rules
 
 returns-2 : tie.Need-returns-then-row-head
 returns-2 c =
-    let t = c.before.before in
-    let p = t.before.before in
+    let t = c in
+    let p = t.before.before.before.before in
     let e = passed p in
     let d = decoded e in
     let D = d.decode_into-head.ensures in
     let k = columns d in
-    let a = c.before.at in
+    let a = c.at in
     rw c.refused.ensures
     (into_refusal a.result (λ z. omega (arith, a.ensures.0))
     (rw (a.ensures.0, a.ensures.1)

@@ -15,17 +15,17 @@ refused-requires c κs = search rules
 
 returns : tie.Need-returns-then-has_other_mark
 returns c =
-    let t = c.before.before in
+    let t = c in
     rw c.refused.ensures
-    (given_other _ c.before.at.result c.before.at.ensures (t.before.has_other_mark.ensures.holds t.if-has_other_mark.true))
+    (given_other _ c.at.result c.at.ensures (t.has_other_mark.ensures.holds t.if-has_other_mark.true))
 
 given-requires : tie.Need-given-requires
 given-requires c κs = search rules
 
 returns-2 : tie.Need-returns
 returns-2 c =
-    let e = c.before in
-    given_own _ c.given.result (e.before.has_other_mark.ensures.fails e.if-has_other_mark.false) c.given.ensures
+    let e = c in
+    given_own _ c.given.result (e.has_other_mark.ensures.fails e.if-has_other_mark.false) c.given.ensures
 
 pub given_one_ring_spec : {M : Type 1} → statement M
 given_one_ring_spec =

@@ -35,8 +35,8 @@ end-at-requires-2 c κs = search rules
 
 returns : tie.Need-returns-then-end_at
 returns c =
-    let d = c.before in
-    first_fails _ _ (unlike d.before.end_at.ensures d.end_at-2.ensures c.if-end_at.true)
+    let d = c in
+    first_fails _ _ (unlike d.end_at.ensures d.end_at-2.ensures c.if-end_at.true)
 
 slots-at-requires : tie.Need-slots_at-requires
 slots-at-requires c κs = search rules
@@ -46,11 +46,11 @@ slots-at-requires-2 c κs = search rules
 
 returns-2 : tie.Need-returns-then-slots_at
 returns-2 c =
-    let p = c.before in
-    let e = p.before.before in
-    let d = e.before in
-    second_fails _ (like d.before.end_at.ensures d.end_at-2.ensures e.if-end_at.false)
-    (unlike p.before.slots_at.ensures p.slots_at-2.ensures c.if-slots_at.true)
+    let p = c in
+    let e = p in
+    let d = e in
+    second_fails _ (like d.end_at.ensures d.end_at-2.ensures e.if-end_at.false)
+    (unlike p.slots_at.ensures p.slots_at-2.ensures c.if-slots_at.true)
 
 end-at-requires-3 : tie.Need-end_at-requires-3
 end-at-requires-3 c κs = search rules
@@ -60,13 +60,13 @@ end-at-requires-4 c κs = search rules
 
 returns-3 : tie.Need-returns
 returns-3 c =
-    let f = c.before.before in
-    let p = f.before in
-    let e = p.before.before in
-    let d = e.before in
-    third_decides (like d.before.end_at.ensures d.end_at-2.ensures e.if-end_at.false)
-    (like p.before.slots_at.ensures p.slots_at-2.ensures f.if-slots_at.false)
-    (ap₂ eqb c.before.end_at-3.ensures c.end_at-4.ensures)
+    let f = c in
+    let p = f in
+    let e = p in
+    let d = e in
+    third_decides (like d.end_at.ensures d.end_at-2.ensures e.if-end_at.false)
+    (like p.slots_at.ensures p.slots_at-2.ensures f.if-slots_at.false)
+    (ap₂ eqb c.end_at-3.ensures c.end_at-4.ensures)
 
 pub is_alike_spec : {M : Type 1} → statement M
 is_alike_spec =

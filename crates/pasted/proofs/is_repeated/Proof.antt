@@ -31,40 +31,40 @@ lowest-row-requires : tie.Need-lowest_row-j-requires invariant-loop decreases-lo
 lowest-row-requires c κs = c.loop-left-test.true
 
 is-alike-requires : tie.Need-is_alike-requires invariant-loop decreases-loop
-is-alike-requires c κs = (omega (arith, c.lowest_row-j.ensures.0), c.before.before.before.requires)
+is-alike-requires c κs = (omega (arith, c.lowest_row-j.ensures.0), c.requires)
 
 returns : tie.Need-returns-then-is_alike invariant-loop decreases-loop
 returns c =
-    let d = c.before.before in
-    let z = d.before.before in
+    let d = c in
+    let z = d in
     let e = d.lowest_row-j.ensures in
     sym (is_true _ (any_of max_rows _ d.lowest_row-j.result (omega (arith, e.0))
-    (both (bit z.loop-left.left d.lowest_row-j.result) _ (of_true e.1) (of_true (sym c.before.is_alike.ensures ∙ c.if-is_alike.true)))))
+    (both (bit z.loop-left.left d.lowest_row-j.result) _ (of_true e.1) (of_true (sym c.is_alike.ensures ∙ c.if-is_alike.true)))))
     ∙ z.loop-left.invariant
 
 shl-left : tie.Need-overflow_shl-left invariant-loop decreases-loop
-shl-left c = omega (arith, c.before.before.lowest_row-j.ensures.0)
+shl-left c = omega (arith, c.lowest_row-j.ensures.0)
 
 loop-less : tie.Need-loop-left-smaller invariant-loop decreases-loop
 loop-less c =
-    let d = c.before.before in
+    let d = c in
     let e = d.lowest_row-j.ensures in
-    let s = sum_without d.before.before.loop-left.left d.lowest_row-j.result e.0 (λ j. 1) 64 e.0 e.1 in
+    let s = sum_without d.loop-left.left d.lowest_row-j.result e.0 (λ j. 1) 64 e.0 e.1 in
     omega (arith, s)
 
 loop-again : tie.Need-loop-left-preserved invariant-loop decreases-loop
 loop-again c =
-    let d = c.before.before in
-    let z = d.before.before in
-    let a = z.before.args in
+    let d = c in
+    let z = d in
+    let a = z.args in
     left_out z.loop-left.left d.lowest_row-j.result
     (alike (at a.period.now) (at a.second.now) (at a.way.now) a.i) d.lowest_row-j.ensures.0
-    (sym c.before.is_alike.ensures ∙ c.if-is_alike.false)
+    (sym c.is_alike.ensures ∙ c.if-is_alike.false)
     ∙ z.loop-left.invariant
 
 returns-2 : tie.Need-returns invariant-loop decreases-loop
 returns-2 c =
-    let z = c.before in
+    let z = c in
     sym (any_none max_rows _
     (λ j l t. of_false (ap (λ (v : ℕ). bit v j) c.loop-left-test.false ∙ bit_zero j) (fst (bit z.loop-left.left j) _ t)))
     ∙ z.loop-left.invariant

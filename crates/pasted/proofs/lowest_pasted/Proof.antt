@@ -29,36 +29,36 @@ decreases-loop rows period first second way starts₀ i₀ starts i = rows - i
 -- the row's first end is on the ring
 on-ring : (c : tie.After-end_at-from invariant-loop decreases-loop) → c.end_at-from.result < max_elements + 1
 on-ring c =
-    let u = c.before.before in
-    omega (arith, c.end_at-from.ensures, u.before.requires.1 u.loop-i.i (omega arith))
+    let u = c in
+    omega (arith, c.end_at-from.ensures, u.requires.1 u.loop-i.i (omega arith))
 
 loop-holds : tie.Need-loop-i-init invariant-loop decreases-loop
 loop-holds c = (sought_start, filling_start (max_elements + 1) _)
 
 end-at-requires : tie.Need-end_at-from-requires invariant-loop decreases-loop
-end-at-requires c κs = omega (arith, c.before.before.requires.0)
+end-at-requires c κs = omega (arith, c.requires.0)
 
 mul-earlier : tie.Need-offset_bounds-starts-from invariant-loop decreases-loop
 mul-earlier c = omega (arith, on-ring c)
 
 array-read-earlier : tie.Need-bounds-starts-from invariant-loop decreases-loop
-array-read-earlier c = omega (arith, on-ring c, c.before.before.loop-i.invariant.1.size)
+array-read-earlier c = omega (arith, on-ring c, c.loop-i.invariant.1.size)
 
 is-repeated-requires : tie.Need-is_repeated-requires invariant-loop decreases-loop
-is-repeated-requires c κs = omega (arith, c.before.before.before.requires.0)
+is-repeated-requires c κs = omega (arith, c.requires.0)
 
 -- what is found of row i
 found : (c : tie.After-is_repeated invariant-loop decreases-loop)
-    → (let u = c.before.before.before in
-    let z = u.before.args in
+    → (let u = c in
+    let z = u.args in
     pasted (plain z.rows z.period.now z.first.now z.second.now z.way.now) u.loop-i.i ≡ c.is_repeated.result)
 found c =
-    let u = c.before.before.before in
-    let z = u.before.args in
-    let d = c.before.end_at-from in
+    let u = c in
+    let z = u.args in
+    let d = c.end_at-from in
     sym (c.is_repeated.ensures
     ∙ earlier_pasted (plain z.rows z.period.now z.first.now z.second.now z.way.now) _ u.loop-i.i
-    (omega (arith, u.before.requires.0))
+    (omega (arith, u.requires.0))
     (u.loop-i.invariant.1.held d.result (on-ring c.before)
     ∙ ap (λ (e : ℕ). word u.loop-i.i (λ j. eqb (at z.first.now j) e)) d.ensures))
 
@@ -66,16 +66,16 @@ returns : tie.Need-returns-then-is_repeated invariant-loop decreases-loop
 unfolding pasted
 returns c elements rings cost =
     let d = c.before in
-    sought_found d.before.before.before.loop-i.invariant.0 (omega arith) (found d ∙ c.if-is_repeated.true)
+    sought_found d.loop-i.invariant.0 (omega arith) (found d ∙ c.if-is_repeated.true)
 
 shl-starts : tie.Need-overflow_shl-starts invariant-loop decreases-loop
-shl-starts c = omega (arith, c.before.before.before.before.before.requires.0)
+shl-starts c = omega (arith, c.requires.0)
 
 mul-starts : tie.Need-offset_bounds-starts-from-in-loop-i invariant-loop decreases-loop
 mul-starts c = omega (arith, on-ring c.before.before)
 
 array-write-starts : tie.Need-bounds-starts-from-in-loop-i invariant-loop decreases-loop
-array-write-starts c = let d = c.before.before in omega (arith, on-ring d, d.before.before.loop-i.invariant.1.size)
+array-write-starts c = let d = c.before.before in omega (arith, on-ring d, d.loop-i.invariant.1.size)
 
 add-i : tie.Need-overflow_add-i invariant-loop decreases-loop
 add-i c = omega arith
@@ -86,14 +86,14 @@ loop-less c = omega arith
 loop-again : tie.Need-loop-i-preserved invariant-loop decreases-loop
 loop-again c =
     let d = c.before in
-    let u = d.before.before.before in (
+    let u = d in (
       sought_next u.loop-i.invariant.0 (omega arith) (found d ∙ c.if-is_repeated.false),
-      filling_next _ u.loop-i.invariant.1 (omega (arith, u.before.requires.0)) d.before.end_at-from.ensures (on-ring d.before),
+      filling_next _ u.loop-i.invariant.1 (omega (arith, u.requires.0)) d.end_at-from.ensures (on-ring d.before),
     )
 
 returns-2 : tie.Need-returns invariant-loop decreases-loop
 unfolding pasted
-returns-2 c elements rings cost = sought_end c.before.loop-i.invariant.0 (omega arith)
+returns-2 c elements rings cost = sought_end c.loop-i.invariant.0 (omega arith)
 
 pub lowest_pasted_spec : {M : Type 1} → statement M
 lowest_pasted_spec =

@@ -35,14 +35,14 @@ returns-2 c =
     record {
       done = λ z t A.
           plan_own t c.at.ensures (omega arith) S.args.plan.now
-          (plan_short t (length S.args.plan.now) (omega (arith, hyper_is A, c.before.if-plan-hyper.true)));
+          (plan_short t (length S.args.plan.now) (omega (arith, hyper_is A, c.if-plan-hyper.true)));
       refused = λ h. absurd (h E.if-answer-ne-DONE.false);
     }
 
 plan-intervals-requires : tie.Need-plan_intervals-requires
 plan-intervals-requires c κs =
     let w = some c.before.before in
-    (w.0, 0, intervals w.0, whole_plannable w.1 _ c.before.if-plan-hyper.false)
+    (w.0, 0, intervals w.0, whole_plannable w.1 _ c.if-plan-hyper.false)
 
 done-requires : tie.Need-done-requires
 done-requires c κs = search rules
@@ -52,9 +52,9 @@ same_length c = search rules
 
 returns-3 : tie.Need-returns
 returns-3 c =
-    let G = c.before.before.before in
-    let N = G.before.before in
-    let E = N.before in
+    let G = c in
+    let N = G in
+    let E = N.before.before.before.before.before.before in
     let S = entry E in
     record {
       done = λ z t A.

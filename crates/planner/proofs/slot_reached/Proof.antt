@@ -13,7 +13,7 @@ enum_told : tie.Need-enum_told-1
 enum_told c = search rules
 
 returns : tie.Need-returns-in-Due
-returns c t T = rw c.before.before.stage-1.given.1 (c.start_of.ensures t T)
+returns c t T = rw c.stage-1.given.1 (c.start_of.ensures t T)
 
 returns-2 : tie.Need-returns-in-Finished
 returns-2 c t T = rw c.enum_told-1.given.1 T.hyper

@@ -9,16 +9,16 @@ analyse-requires : tie.Need-analyse-requires
 analyse-requires c κs = search rules
 
 plan-on-requires : tie.Need-plan_on-requires
-plan-on-requires c κs = usable (file_ask _) c.before.analyse.ensures
+plan-on-requires c κs = usable (file_ask _) c.analyse.ensures
 
 same_length : tie.Need-shape_of-plan
 same_length c = search rules
 
 returns : tie.Need-returns
 returns c =
-    let O = c.before.before in
-    let A = O.before.before in
-    let S = A.before.before.before in
+    let O = c in
+    let A = O in
+    let S = A in
     let f = S.args.file.now in
     plan_asked (file_ask f) (file_proper f).numbered A.analyse.ensures O.plan_on.result S.args.plan.now _ O.plan_on.ensures
 

@@ -18,7 +18,7 @@ abbrev found : tie.Else-answer-ne-DONE → tie.After-raised_table-found
 found e = e.before.before.before
 
 abbrev bytes : tie.After-raised_table-found → List ℕ
-bytes g = g.before.before.before.args.file.now
+bytes g = g.args.file.now
 
 none : (e : tie.Else-answer-ne-DONE) → None (before_13 (bytes (found e)))
 none e =
@@ -47,25 +47,25 @@ slice-aggregate-put-all-numbers c = search rules
 
 put-all-numbers-requires : tie.Need-put_all_numbers-requires
 put-all-numbers-requires c κs =
-    let l = rows c.before.before.before.before.before.before.before.before.before in (l, omega (arith, l))
+    let l = rows c.before.before.before.before.before.before.before in (l, omega (arith, l))
 
 version-of-requires : tie.Need-version_of-requires
 version-of-requires c κs =
-    let e = c.before.before.before.before.before.before.before.before.before.before.before in
+    let e = c.before.before.before.before.before.before.before.before.before in
     omega (arith, long_enough (bytes (found e)) (none e))
 
 mul-numbers : tie.Need-overflow_mul-numbers
-mul-numbers c = omega (arith, rows c.before.before.before.before.before.before.before.before.before.before.before.before)
+mul-numbers c = omega (arith, rows c.before.before.before.before.before.before.before.before.before.before)
 
 -- the numbers of all rows fit the array
 fit : (c : tie.After-version_of)
-    → row_numbers * (found c.before.before.before.before.before.before.before.before.before.before.before.before
+    → row_numbers * (found c.before.before.before.before.before.before.before.before.before.before
     ).raised_table-found.result.given.columns-1.rows
-    ≤ length c.before.before.put_all_numbers.new.out
+    ≤ length c.put_all_numbers.new.out
 fit c = omega (
   arith,
-  rows c.before.before.before.before.before.before.before.before.before.before.before.before,
-  c.before.before.put_all_numbers.auto,
+  rows c.before.before.before.before.before.before.before.before.before.before,
+  c.put_all_numbers.auto,
 )
 
 array-share-prefix-numbers : tie.Need-slice_bounds-numbers-end
@@ -82,18 +82,18 @@ same_length c = search rules
 
 returns-2 : tie.Need-returns
 returns-2 c =
-    let v = c.before.before.before.before.before in
-    let e = v.before.before.before.before.before.before.before.before.before.before.before.before in
+    let v = c in
+    let e = v.before.before.before.before.before.before.before.before.before.before.before.before.before.before.before in
     let g = found e in
     let x = g.raised_table-found.result in
     let R = g.raised_table-found.ensures in
     let z = e.if-answer-ne-DONE.false in
     let a = none e in
-    let xs : take (row_numbers * x.given.columns-1.rows) v.before.before.put_all_numbers.new.out
+    let xs : take (row_numbers * x.given.columns-1.rows) v.put_all_numbers.new.out
     ≡ numbers (raised_labelled (file_labelled (bytes g))) =
-    ap (take (row_numbers * x.given.columns-1.rows)) v.before.before.put_all_numbers.ensures ∙ numbers_are (bytes g) a x R z _ in
+    ap (take (row_numbers * x.given.columns-1.rows)) v.put_all_numbers.ensures ∙ numbers_are (bytes g) a x R z _ in
     raise_written (bytes g) a v.version_of.ensures (elements_are (bytes g) a x R z) (rows_are (bytes g) a x R z) xs
-    c.before.before.write_plain.ensures
+    c.write_plain.ensures
 
 pub raise_spec : {M : Type 1} → statement M
 raise_spec =

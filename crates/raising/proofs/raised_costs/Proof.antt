@@ -28,22 +28,22 @@ slots-at-requires-2 c κs = omega arith
 
 raised-cost-requires : tie.Need-raised_cost-requires invariant-loop decreases-loop
 raised-cost-requires c κs =
-    let u = c.before.before.before in
-    let p = u.before.requires in
+    let u = c in
+    let p = u.requires in
     (p.1, p.2, omega (arith, c.slots_at-in-loop-i.ensures, p.0.period_high u.loop-i.i (omega arith)))
 
 -- a row has no more than its period
 low : (c : tie.After-raised_cost invariant-loop decreases-loop) → c.raised_cost.result ≤ max_slots
 low c =
-    let s = c.before in
-    let u = s.before.before.before in
-    let p = u.before.requires in
+    let s = c in
+    let u = s in
+    let p = u.requires in
     omega (
       arith,
       c.raised_cost.ensures,
       s.slots_at-in-loop-i.ensures,
-      s.before.slots_at.ensures,
-      up_within s.slots_at-in-loop-i.result u.before.args.interval p.1,
+      s.slots_at.ensures,
+      up_within s.slots_at-in-loop-i.result u.args.interval p.1,
       p.0.period_high u.loop-i.i (omega arith),
       p.0.cost_high u.loop-i.i (omega arith),
     )
@@ -65,18 +65,18 @@ loop-less c = omega arith
 
 loop-again : tie.Need-loop-i-preserved invariant-loop decreases-loop
 loop-again c =
-    let s = c.before in
-    let u = s.before.before.before in (
+    let s = c in
+    let u = s in (
       omega arith,
       by_row_put _ u.loop-i.invariant.1 (omega arith)
           (c.raised_cost.ensures
-          ∙ ap₂ (λ (x y : ℕ). max x (up y u.before.args.interval)) s.before.slots_at.ensures s.slots_at-in-loop-i.ensures),
+          ∙ ap₂ (λ (x y : ℕ). max x (up y u.args.interval)) s.slots_at.ensures s.slots_at-in-loop-i.ensures),
     )
 
 returns : tie.Need-returns invariant-loop decreases-loop
 returns c =
-    let e : c.before.loop-i.i ≡ c.before.before.args.rows = omega arith in
-    rw e at c.before.loop-i.invariant.1
+    let e : c.loop-i.i ≡ c.args.rows = omega arith in
+    rw e at c.loop-i.invariant.1
 
 pub raised_costs_spec : {M : Type 1} → statement M
 raised_costs_spec =

@@ -13,10 +13,10 @@ abbrev taken : tie.Else-answer-ne-DONE → tie.After-given_one_ring-found
 taken e = e.before.before.before
 
 abbrev bytes : tie.After-given_one_ring-found → List ℕ
-bytes g = g.before.before.args.file.now
+bytes g = g.args.file.now
 
 abbrev passed : tie.After-layout_of-laid → tie.Else-answer-ne-DONE
-passed o = o.before.before.before.before.before.before
+passed o = o.before.before.before.before.before
 
 abbrev placed : tie.Else-placed-ne-DONE → tie.After-layout_of-laid
 placed l = l.before.before.before
@@ -37,11 +37,11 @@ refused-requires c κs = search rules
 returns : tie.Need-returns-then-answer-ne-DONE
 returns c =
     let g = c.before.before.before.before in
-    rw c.refused.ensures (raising_given (bytes g) g.given_one_ring-found.result g.given_one_ring-found.ensures c.before.if-answer-ne-DONE.true)
+    rw c.refused.ensures (raising_given (bytes g) g.given_one_ring-found.result g.given_one_ring-found.ensures c.if-answer-ne-DONE.true)
 
 layout-of-requires : tie.Need-layout_of-laid-requires
 layout-of-requires c κs =
-    let e = c.before.before.before.before.before in
+    let e = c.before.before.before.before in
     let g = taken e in (
       at g.given_one_ring-found.result.columns.cost,
       raising_sound (bytes g) g.given_one_ring-found.result g.given_one_ring-found.ensures e.if-answer-ne-DONE.false,
@@ -57,11 +57,11 @@ returns-2 c =
     let g = taken e in
     rw c.refused-then-placed-ne-DONE.ensures
     (raising_line (bytes g) g.given_one_ring-found.result g.given_one_ring-found.ensures e.if-answer-ne-DONE.left
-    o.layout_of-laid.result (laid o) c.before.if-placed-ne-DONE.true)
+    o.layout_of-laid.result (laid o) c.if-placed-ne-DONE.true)
 
 raised-costs-requires : tie.Need-raised_costs-cost-requires
 raised-costs-requires c κs =
-    let l = c.before.before.before in
+    let l = c.before.before in
     let o = placed l in
     let e = passed o in
     let g = taken e in
@@ -71,7 +71,7 @@ raised-costs-requires c κs =
 
 returns-3 : tie.Need-returns
 returns-3 c =
-    let l = c.before.before.before.before in
+    let l = c.before.before.before in
     let o = placed l in
     let e = passed o in
     let g = taken e in

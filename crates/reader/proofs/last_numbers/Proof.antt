@@ -44,12 +44,12 @@ loop-less : tie.Need-loop-i-smaller invariant-loop decreases-loop
 loop-less c = omega arith
 
 loop-again : tie.Need-loop-i-preserved invariant-loop decreases-loop
-loop-again c = (omega arith, by_row_put _ c.before.before.before.before.loop-i.invariant.1 (omega arith) c.last_number.ensures)
+loop-again c = (omega arith, by_row_put _ c.loop-i.invariant.1 (omega arith) c.last_number.ensures)
 
 returns : tie.Need-returns invariant-loop decreases-loop
 returns c =
-    let all : c.before.loop-i.i ≡ c.before.before.args.rows = omega arith in
-    rw all at c.before.loop-i.invariant.1
+    let all : c.loop-i.i ≡ c.args.rows = omega arith in
+    rw all at c.loop-i.invariant.1
 
 pub last_numbers_spec : {M : Type 1} → statement M
 last_numbers_spec =

@@ -32,16 +32,16 @@ mul-row-at : tie.Need-offset_bounds-last-i invariant-loop decreases-loop
 mul-row-at c = search rules
 
 element-copy-out-row-at : tie.Need-bounds-last-i invariant-loop decreases-loop
-element-copy-out-row-at c = omega (arith, c.before.before.before.requires.0)
+element-copy-out-row-at c = omega (arith, c.requires.0)
 
 row-at-requires : tie.Need-row_at-requires invariant-loop decreases-loop
-row-at-requires c κs = omega (arith, c.before.before.before.before.requires.0)
+row-at-requires c κs = omega (arith, c.requires.0)
 
 mul-put-numbers : tie.Need-overflow_mul-i invariant-loop decreases-loop
 mul-put-numbers c = search rules
 
 put-numbers-requires : tie.Need-put_numbers-requires invariant-loop decreases-loop
-put-numbers-requires c κs = omega (arith, c.before.before.before.before.before.before.requires.1)
+put-numbers-requires c κs = omega (arith, c.requires.1)
 
 add-i : tie.Need-overflow_add-i invariant-loop decreases-loop
 add-i c = search rules
@@ -51,21 +51,21 @@ loop-less c = search rules
 
 loop-again : tie.Need-loop-i-preserved invariant-loop decreases-loop
 loop-again c =
-    let z = c.before.before.before.before.before.before.before.before.before in
-    let u = c.before.before.before.before.before.before.before.loop-i in
-    let r = c.before.before.before.before.row_at.ensures in
+    let z = c in
+    let u = c.loop-i in
+    let r = c.row_at.ensures in
     let q = memory_row_lem (has_row 0 z.args.rows 1 no_labels z.args.last.now r (sym (zeros_at max_rows u.i)) refl) in
     let room : row_numbers * (u.i + 1) ≤ length z.args.out.now = omega (arith, z.requires.1) in
-    (omega arith, filled_row [] _ _ _ u.invariant.1 c.before.before.put_numbers.ensures q (omega arith) room)
+    (omega arith, filled_row [] _ _ _ u.invariant.1 c.put_numbers.ensures q (omega arith) room)
 
 same_length : tie.Need-shape_of-out invariant-loop decreases-loop
-same_length c = c.before.loop-i.invariant.1.same
+same_length c = c.loop-i.invariant.1.same
 
 returns : tie.Need-returns invariant-loop decreases-loop
 unfolding numbers
 returns c =
-    let e : c.before.loop-i.i ≡ c.before.before.before.args.rows = omega arith in
-    rw e at (filled_lent c.before.loop-i.invariant.1)
+    let e : c.loop-i.i ≡ c.args.rows = omega arith in
+    rw e at (filled_lent c.loop-i.invariant.1)
 
 pub put_all_numbers_spec : {M : Type 1} → statement M
 put_all_numbers_spec =

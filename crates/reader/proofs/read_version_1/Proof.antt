@@ -16,9 +16,9 @@ refuse-read-requires c κs = search rules
 returns : tie.Need-returns-then-has_other_mark
 returns c =
     let e = c.refuse_read.ensures in
-    let a = c.before.at.ensures in
-    let z = c.before.before in
-    rw (e.0, e.1, e.2, e.3, e.4, a.0, a.1) (other_refused _ _ (z.before.has_other_mark.ensures.holds z.if-has_other_mark.true))
+    let a = c.at.ensures in
+    let z = c in
+    rw (e.0, e.1, e.2, e.3, e.4, a.0, a.1) (other_refused _ _ (z.has_other_mark.ensures.holds z.if-has_other_mark.true))
 
 is-labelled-requires : tie.Need-is_labelled-requires
 is-labelled-requires c κs = search rules
@@ -32,9 +32,9 @@ refuse-read-requires-2 c κs = search rules
 returns-2 : tie.Need-returns-then-is_labelled
 returns-2 c =
     let e = c.refuse_read-then-is_labelled.ensures in
-    let a = c.before.at-then-is_labelled.ensures in
-    let z = c.before.before in
-    rw (e.0, e.1, e.2, e.3, e.4, a.0, a.1) (version_1_refused _ _ (z.before.is_labelled.ensures.holds z.if-is_labelled.true))
+    let a = c.at-then-is_labelled.ensures in
+    let z = c in
+    rw (e.0, e.1, e.2, e.3, e.4, a.0, a.1) (version_1_refused _ _ (z.is_labelled.ensures.holds z.if-is_labelled.true))
 
 read-requires : tie.Need-read-requires
 read-requires c κs = search rules
@@ -44,11 +44,11 @@ same_length c = search rules
 
 returns-3 : tie.Need-returns
 returns-3 c =
-    let w = c.before.before in
-    let z = w.before.before in
-    let y = z.before.before in
-    version_1_else _ _ _ _ _ _ _ _ _ (y.before.has_other_mark.ensures.fails y.if-has_other_mark.false)
-    (z.before.is_labelled.ensures.fails z.if-is_labelled.false) w.read.ensures
+    let w = c in
+    let z = w in
+    let y = z in
+    version_1_else _ _ _ _ _ _ _ _ _ (y.has_other_mark.ensures.fails y.if-has_other_mark.false)
+    (z.is_labelled.ensures.fails z.if-is_labelled.false) w.read.ensures
 
 pub read_version_1_spec : {M : Type 1} → statement M
 read_version_1_spec =

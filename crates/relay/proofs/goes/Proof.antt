@@ -6,20 +6,20 @@ use Rattle.relay.proofs.goes.Statement.{statement}
 use Rattle.relay.proofs.goes.Tie as tie
 
 end-at-requires : tie.Need-end_at-requires
-end-at-requires c κs = let S = c.before.before.requires in omega (arith, S.0.rows_high, S.2)
+end-at-requires c κs = let S = c.requires in omega (arith, S.0.rows_high, S.2)
 
 end-at-requires-2 : tie.Need-end_at-requires-2
-end-at-requires-2 c κs = let S = c.before.before.before.before.before.requires in omega (arith, S.0.rows_high, S.2)
+end-at-requires-2 c κs = let S = c.requires in omega (arith, S.0.rows_high, S.2)
 
 end-at-requires-3 : tie.Need-end_at-requires-3
 end-at-requires-3 c κs =
-    let S = c.before.before.before.before.before.before.before.before.requires in
+    let S = c.requires in
     omega (arith, S.0.rows_high, S.2)
 
 goes-through-requires : tie.Need-goes_through-requires
 goes-through-requires c κs =
-    let from = c.before.before.before in
-    let z = from.before.before.before.before.before.before in
+    let from = c in
+    let z = from in
     let R = z.requires.0.row z.args.i z.requires.2 in (
       z.requires.0.elements_high,
       record {
@@ -32,10 +32,10 @@ goes-through-requires c κs =
 
 returns : tie.Need-returns
 returns c =
-    let from = c.before.before.before.before in
-    let way = from.before.before.before in
-    let a = way.before.before.before.args in
-    through_is (table_of a.t1) a.i a.relay way.end_at.ensures from.end_at-2.ensures c.before.end_at-3.ensures
+    let from = c in
+    let way = from in
+    let a = way.args in
+    through_is (table_of a.t1) a.i a.relay way.end_at.ensures from.end_at-2.ensures c.end_at-3.ensures
     c.Goes-through.ensures
 
 pub goes_spec : {M : Type 1} → statement M

@@ -24,7 +24,7 @@ no-rows-requires c κs = search rules
 
 loop-holds : tie.Need-loop-i-init invariant-loop decreases-loop
 loop-holds c =
-    let a = c.before.args in
+    let a = c.args in
     let g = a.given in (
       omega arith,
       subst (λ (xs : List Row). Holds (of_rows g.elements g.rings xs) c.no_rows-split.result) (sym (rows_none (table_of g) a.relay))
@@ -32,21 +32,21 @@ loop-holds c =
     )
 
 row-of-requires : tie.Need-row_of-row-requires invariant-loop decreases-loop
-row-of-requires c κs = let S = c.before.before.before.before.requires in omega (arith, S.0.rows_high)
+row-of-requires c κs = let S = c.requires in omega (arith, S.0.rows_high)
 
 goes-requires : tie.Need-goes-through-requires invariant-loop decreases-loop
-goes-requires c κs = let S = c.before.before.before.before.before.requires in (S.0, S.1, omega arith)
+goes-requires c κs = let S = c.requires in (S.0, S.1, omega arith)
 
 cast-with-parts : tie.Need-overflow_cast-relay invariant-loop decreases-loop
 cast-with-parts c =
-    let S = c.before.before.before.before.before.before.requires in
+    let S = c.requires in
     omega (arith, S.0.elements_high, S.1.high)
 
 with-parts-requires : tie.Need-with_parts-split-requires invariant-loop decreases-loop
 with-parts-requires c κs =
-    let R = c.before in
-    let L = R.before.before.before in
-    let S = L.before.before in
+    let R = c in
+    let L = R in
+    let S = L in
     let t = table_of S.args.given in
     let row = numbers_of R.row_of-row.result in (
       room_for t S.args.relay L.loop-i.i row (omega arith) S.requires.2 c.goes-through.ensures L.loop-i.invariant.1,
@@ -62,10 +62,10 @@ loop-less c = omega arith
 
 loop-again : tie.Need-loop-i-preserved invariant-loop decreases-loop
 loop-again c =
-    let G = c.before in
-    let R = G.before in
-    let L = R.before.before.before in
-    let S = L.before.before in
+    let G = c in
+    let R = G in
+    let L = R in
+    let S = L in
     let g = S.args.given in
     let t = table_of g in
     let r = S.args.relay in
@@ -78,8 +78,8 @@ loop-again c =
 
 returns : tie.Need-returns invariant-loop decreases-loop
 returns c =
-    let L = c.before.before in
-    let all : L.loop-i.i ≡ L.before.before.args.given.rows = omega arith in
+    let L = c in
+    let all : L.loop-i.i ≡ L.args.given.rows = omega arith in
     rw all at L.loop-i.invariant.1
 
 pub split_at_spec : {M : Type 1} → statement M

@@ -17,10 +17,10 @@ abbrev taken : tie.Else-answer-ne-DONE → tie.After-given_one_ring-found
 taken z = z.before.before.before
 
 abbrev bytes : tie.Else-answer-ne-DONE → List ℕ
-bytes z = (taken z).before.before.args.file.now
+bytes z = (taken z).args.file.now
 
 abbrev relay : tie.Else-answer-ne-DONE → ℕ
-relay z = (taken z).before.before.args.relay
+relay z = (taken z).args.relay
 
 none : (z : tie.Else-answer-ne-DONE) → None (one_ring_checks (bytes z) (given_checks (bytes z)))
 none z = given_zero (bytes z) (relay z) (taken z).given_one_ring-found.result.answer z.if-answer-ne-DONE.false (taken z).given_one_ring-found.ensures.answers
@@ -33,9 +33,9 @@ sound z = columns_sound (bytes z) (relay z) _ (none z) (held z)
 
 -- past 27 and 28
 none_relay : (z : tie.Else-number-ne-DONE)
-    → let e = z.before.before in
+    → let e = z.before.before.before in
     None (relay_checks (table_of (taken e).given_one_ring-found.result.columns) (relay e))
-none_relay z = relay_zero _ _ _ z.if-number-ne-DONE.false z.before.relay_fault-number.ensures
+none_relay z = relay_zero _ _ _ z.if-number-ne-DONE.false z.relay_fault-number.ensures
 
 given-one-ring-requires : tie.Need-given_one_ring-found-requires
 given-one-ring-requires c κs = search rules
@@ -45,14 +45,14 @@ refused-requires c κs = search rules
 
 returns : tie.Need-returns-then-answer-ne-DONE
 returns c =
-    let g = c.before.before.before.before in
-    let a = g.before.before.args in
+    let g = c in
+    let a = g.args in
     let o = g.given_one_ring-found in
     rw c.refused.ensures
-    (splits_given a.file.now a.relay o.result.answer c.before.if-answer-ne-DONE.true o.ensures.answers)
+    (splits_given a.file.now a.relay o.result.answer c.if-answer-ne-DONE.true o.ensures.answers)
 
 relay-fault-requires : tie.Need-relay_fault-number-requires
-relay-fault-requires c κs = sound c
+relay-fault-requires c κs = sound c.before
 
 at-requires : tie.Need-at-requires
 at-requires c κs = search rules
@@ -62,28 +62,28 @@ refused-requires-2 c κs = search rules
 
 returns-2 : tie.Need-returns-then-number-ne-DONE
 returns-2 c =
-    let h = c.before.before.before in
-    let e = h.before in
+    let h = c in
+    let e = h.before.before.before.before.before in
     let r = relay e in
     rw c.refused-then-number-ne-DONE.ensures
-    (splits_relay (bytes e) r c.before.at.result (none e) (relay_held (bytes e) r _ (held e) _ h.relay_fault-number.ensures)
-    c.before.before.if-number-ne-DONE.true c.before.at.ensures)
+    (splits_relay (bytes e) r c.at.result (none e) (relay_held (bytes e) r _ (held e) _ h.relay_fault-number.ensures)
+    c.if-number-ne-DONE.true c.at.ensures)
 
 done-requires : tie.Need-done-requires
 done-requires c κs = search rules
 
 split-at-requires : tie.Need-split_at-requires
 split-at-requires c κs =
-    let z = c.before in
+    let z = c.before.before in
     let n = none_relay z in
-    (sound z.before.before, relay_element _ _ n, few_rows _ _ n)
+    (sound z.before.before.before, relay_element _ _ n, few_rows _ _ n)
 
 returns-3 : tie.Need-returns
 returns-3 c =
-    let z = c.before.before in
-    let e = z.before.before in
+    let z = c.before.before.before in
+    let e = z.before.before.before in
     let r = relay e in
-    splits_done (bytes e) r c.before.done.result (none e) (none_held (bytes e) r _ (held e) (none_relay z)) c.before.done.ensures
+    splits_done (bytes e) r c.done.result (none e) (none_held (bytes e) r _ (held e) (none_relay z)) c.done.ensures
     (split_held (bytes e) r _ (held e) c.split_at.ensures)
 
 pub split_file_spec : {M : Type 1} → statement M

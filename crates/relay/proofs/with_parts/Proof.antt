@@ -14,15 +14,15 @@ use Rattle.relay.proofs.with_parts.Statement.{statement}
 use Rattle.relay.proofs.with_parts.Tie as tie
 
 -- there is room for both halves, and for one row
-two : (z : tie.Then-goes) → z.before.args.columns.rows + 2 ≤ max_rows
+two : (z : tie.Then-goes) → z.args.columns.rows + 2 ≤ max_rows
 two z =
-    let a = z.before.args in
-    omega (arith, z.before.requires.0, ap (λ (b : Bool). length (becomes a.relay b (numbers_of a.row))) z.if-goes.true)
+    let a = z.args in
+    omega (arith, z.requires.0, ap (λ (b : Bool). length (becomes a.relay b (numbers_of a.row))) z.if-goes.true)
 
-one : (z : tie.Else-goes) → z.before.args.columns.rows + 1 ≤ max_rows
+one : (z : tie.Else-goes) → z.args.columns.rows + 1 ≤ max_rows
 one z =
-    let a = z.before.args in
-    omega (arith, z.before.requires.0, ap (λ (b : Bool). length (becomes a.relay b (numbers_of a.row))) z.if-goes.false)
+    let a = z.args in
+    omega (arith, z.requires.0, ap (λ (b : Bool). length (becomes a.relay b (numbers_of a.row))) z.if-goes.false)
 
 to-relay-requires : tie.Need-to_relay-requires
 to-relay-requires c κs = search rules
@@ -30,7 +30,7 @@ to-relay-requires c κs = search rules
 with-row-requires : tie.Need-with_row-half-requires
 with-row-requires c κs =
     let z = c.before in
-    (omega (arith, two z), fits_first z.before.requires.1 z.before.requires.2 c.to_relay_jobs.ensures)
+    (omega (arith, two z), fits_first z.requires.1 z.requires.2 c.to_relay_jobs.ensures)
 
 from-relay-requires : tie.Need-from_relay-requires
 from-relay-requires c κs = search rules
@@ -38,23 +38,23 @@ from-relay-requires c κs = search rules
 with-row-requires-2 : tie.Need-with_row-requires
 with-row-requires-2 c κs =
     let z = c.before.before.before in
-    (omega (arith, two z, c.before.with_row-half.ensures.0), fits_second z.before.requires.1 z.before.requires.2 c.from_relay_jobs.ensures)
+    (omega (arith, two z, c.with_row-half.ensures.0), fits_second z.requires.1 z.requires.2 c.from_relay_jobs.ensures)
 
 returns : tie.Need-returns-then-goes
 returns c M d xs H =
-    let z = c.before.before.before.before in
-    let a = z.before.args in
-    let half = numbers_of c.before.before.before.to_relay_jobs.result in
-    holds_two M d xs a.relay a.goes (numbers_of a.row) _ _ z.if-goes.true c.before.before.before.to_relay_jobs.ensures
-    c.before.from_relay_jobs.ensures (c.with_row.ensures.1 M d (xs ++ (half ∷ [])) (c.before.before.with_row-half.ensures.1 M d xs H))
+    let z = c in
+    let a = z.args in
+    let half = numbers_of c.to_relay_jobs.result in
+    holds_two M d xs a.relay a.goes (numbers_of a.row) _ _ z.if-goes.true c.to_relay_jobs.ensures
+    c.from_relay_jobs.ensures (c.with_row-half.ensures.1 M d (xs ++ (half ∷ [])) (c.with_row-half.ensures.1 M d xs H))
 
 with-row-requires-3 : tie.Need-with_row-requires-2
-with-row-requires-3 c κs = (omega (arith, one c), c.before.requires.1)
+with-row-requires-3 c κs = (omega (arith, one c), c.requires.1)
 
 returns-2 : tie.Need-returns
 returns-2 c M d xs H =
-    let z = c.before in
-    let a = z.before.args in
+    let z = c in
+    let a = z.args in
     holds_one M d xs a.relay a.goes (numbers_of a.row) z.if-goes.false (c.with_row-2.ensures.1 M d xs H)
 
 pub with_parts_spec : {M : Type 1} → statement M

@@ -40,7 +40,7 @@ add-t9 c = search rules
 
 returns : tie.Need-returns
 returns c =
-    let z = c.before.before.before.before.before.before.before.before in
+    let z = c in
     (refl, λ M d xs H. holds_more M d xs z.args.columns z.args.row z.requires.0 H)
 
 pub with_row_spec : {M : Type 1} → statement M

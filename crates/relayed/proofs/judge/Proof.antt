@@ -12,13 +12,13 @@ analyse-requires c κs = search rules
 
 verdict-of-requires : tie.Need-verdict_of-requires
 verdict-of-requires c κs z =
-    let a = c.before.before.args in
+    let a = c.args in
     (split (file_table a.file.now) a.relay, c.analyse.ensures.found z)
 
 returns : tie.Need-returns
 returns c =
-    let a = c.before.before.before.args in
-    judged_on (relayed_numbered a.file.now a.relay) c.before.analyse.ensures c.verdict_of.ensures
+    let a = c.args in
+    judged_on (relayed_numbered a.file.now a.relay) c.analyse.ensures c.verdict_of.ensures
 
 pub judge_spec : {M : Type 1} → statement M
 judge_spec = tie.close (tie.spec analyse-requires verdict-of-requires returns)

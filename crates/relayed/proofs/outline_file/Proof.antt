@@ -18,10 +18,10 @@ abbrev taken : tie.Else-answer-ne-DONE → tie.After-split_file-found
 taken z = z.before.before.before
 
 abbrev bytes : tie.Else-answer-ne-DONE → List ℕ
-bytes z = (taken z).before.before.args.file.now
+bytes z = (taken z).args.file.now
 
 abbrev relay : tie.Else-answer-ne-DONE → ℕ
-relay z = (taken z).before.before.args.relay
+relay z = (taken z).args.relay
 
 none : (z : tie.Else-answer-ne-DONE) → None (split_checks (bytes z) (relay z))
 none z = split_zero (bytes z) (relay z) (taken z).split_file-found.result.answer z.if-answer-ne-DONE.false (taken z).split_file-found.ensures.answers
@@ -40,19 +40,19 @@ refused-requires c κs = search rules
 
 returns : tie.Need-returns-then-answer-ne-DONE
 returns c =
-    let s = c.before.before.before.before in
-    let a = s.before.before.args in
+    let s = c in
+    let a = s.args in
     rw c.refused.ensures
-    (line_stopped a.file.now a.relay s.split_file-found.result.answer c.before.if-answer-ne-DONE.true s.split_file-found.ensures.answers)
+    (line_stopped a.file.now a.relay s.split_file-found.result.answer c.if-answer-ne-DONE.true s.split_file-found.ensures.answers)
 
 outline-of-requires : tie.Need-outline_of-requires
 outline-of-requires c κs =
-    let z = c.before.before.before.before.before in
+    let z = c.before.before.before.before in
     (at (taken z).split_file-found.result.columns.cost, sound z)
 
 returns-2 : tie.Need-returns
 returns-2 c =
-    let z = c.before.before.before.before.before.before in
+    let z = c.before.before.before.before.before in
     line_past (bytes z) (relay z) (none z) _ (held z) (c.outline_of.ensures (at (taken z).split_file-found.result.columns.cost) (sound z))
 
 pub outline_file_spec : {M : Type 1} → statement M

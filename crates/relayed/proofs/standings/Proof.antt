@@ -14,8 +14,8 @@ standings-on-requires c κs = usable (relayed_ask _ _) c.analyse.ensures
 
 returns : tie.Need-returns
 returns c =
-    let A = c.before.analyse in
-    let a = c.before.before.before.args in
+    let A = c.analyse in
+    let a = c.args in
     standings_asked (relayed_ask a.file.now a.relay) (relayed_numbered a.file.now a.relay) A.ensures a.p
     c.standings_on.result c.standings_on.ensures
 

@@ -16,16 +16,16 @@ analyse-requires : tie.Need-analyse-requires
 analyse-requires c κs = search rules
 
 step-on-requires : tie.Need-step_on-requires
-step-on-requires c κs = usable (relayed_ask _ _) c.before.analyse.ensures
+step-on-requires c κs = usable (relayed_ask _ _) c.analyse.ensures
 
 same_length : tie.Need-shape_of-out
 same_length c = search rules
 
 returns : tie.Need-returns
 returns c =
-    let O = c.before.before in
-    let A = O.before.before in
-    let S = A.before.before.before in
+    let O = c in
+    let A = O in
+    let S = A.before.before.before.before.before.before.before in
     let f = S.args.file.now in
     let r = S.args.relay in
     step_asked (relayed_ask f r) (relayed_numbered f r) A.analyse.ensures S.args.p O.step_on.result

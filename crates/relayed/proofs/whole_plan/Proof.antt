@@ -10,16 +10,16 @@ analyse-requires : tie.Need-analyse-requires
 analyse-requires c κs = search rules
 
 plan-on-requires : tie.Need-plan_on-requires
-plan-on-requires c κs = usable (relayed_ask _ _) c.before.analyse.ensures
+plan-on-requires c κs = usable (relayed_ask _ _) c.analyse.ensures
 
 same_length : tie.Need-shape_of-plan
 same_length c = search rules
 
 returns : tie.Need-returns
 returns c =
-    let O = c.before.before in
-    let A = O.before.before in
-    let a = A.before.before.before.args in
+    let O = c in
+    let A = O in
+    let a = A.args in
     let f = a.file.now in
     let r = a.relay in
     plan_asked (relayed_ask f r) (relayed_numbered f r) A.analyse.ensures O.plan_on.result a.plan.now _

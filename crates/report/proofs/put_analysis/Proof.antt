@@ -24,7 +24,7 @@ admitted : (d : tie.In-Admitted-2) → (entry (judged (written d))).args.table.o
 admitted d = let z = judged (written d) in is_admitted (usable z) z.verdict_of-answer.ensures _ _ _ _ _ _ d.answer-1.given.1
 
 verdict-of-requires : tie.Need-verdict_of-answer-requires
-verdict-of-requires c κs = c.before.requires
+verdict-of-requires c κs = c.requires
 
 number-requires : tie.Need-number-requires
 number-requires c κs = search rules
@@ -46,10 +46,10 @@ same_length c = search rules
 
 returns : tie.Need-returns-in_default
 returns c =
-    let v = c.before.before.before.before in
-    let p = v.before.before in
-    let n = p.before in
-    let z = n.before in
+    let v = c in
+    let p = v in
+    let n = p in
+    let z = n.before.before.before.before.before.before.before.before in
     on_refused (usable z) z.verdict_of-answer.ensures n.number.result p.place.result n.number.ensures p.place.ensures
     v.put_verdict-first.ensures _ c.enum_told-1.given.1
 
@@ -65,8 +65,8 @@ told q = q.before.before.before
 
 put-list-requires : tie.Need-put_list-listed-requires
 put-list-requires c κs =
-    let w = c.before.before.before in
-    let q = w.before.before.before.before in
+    let w = c in
+    let q = w.before.before.before.before.before.before.before in
     let d = told q in
     let v = written d in (
       usable (judged v),
@@ -76,9 +76,9 @@ put-list-requires c κs =
 
 put-plan-requires : tie.Need-put_plan-requires
 put-plan-requires c κs =
-    let l = c.before.before.before in
-    let w = l.before.before.before.before in
-    let q = w.before.before.before.before in
+    let l = c in
+    let w = l in
+    let q = w.before.before.before.before.before.before.before.before.before.before.before in
     let d = told q in
     let v = written d in
     let S = entry (judged v) in
@@ -100,17 +100,17 @@ same-length-2 c = search rules
 
 returns-2 : tie.Need-returns
 returns-2 c =
-    let l = c.before.before.before.before.before.before in
-    let w = l.before.before.before.before in
-    let q = w.before.before.before.before in
+    let l = c in
+    let w = l in
+    let q = w.before.before.before.before.before.before.before.before.before.before.before.before.before.before in
     let d = told q in
     let v = written d in
-    let p = v.before.before in
-    let n = p.before in
-    let z = n.before in
+    let p = v in
+    let n = p in
+    let z = n.before.before.before.before in
     on_admitted (usable z) z.verdict_of-answer.ensures n.number.result p.place.result n.number.ensures p.place.ensures
     v.put_verdict-first.ensures _ _ _ _ _ _ d.answer-1.given.1 q.put_cuts-parted.ensures w.put_values-valued.ensures l.put_list-listed.ensures
-    c.before.before.put_plan.ensures
+    c.put_plan.ensures
 
 pub put_analysis_spec : {M : Type 1} → statement M
 put_analysis_spec =

@@ -15,7 +15,7 @@ same_length : tie.Need-shape_of-out-then-other-eq0
 same_length c = search rules
 
 returns : tie.Need-returns-then-other-eq0
-returns c = cuts_one _ _ c.if-other-eq0.true c.before.before.before.put_value-next.ensures
+returns c = cuts_one _ _ c.if-other-eq0.true c.put_value-next.ensures
 
 slice-aggregate-put-value-2 : tie.Need-slice-aggregate-put-value-2
 slice-aggregate-put-value-2 c = search rules
@@ -28,8 +28,8 @@ same-length-2 c = search rules
 
 returns-2 : tie.Need-returns
 returns-2 c =
-    let e = c.before.before.before.before.before in
-    cuts_two _ _ e.if-other-eq0.false e.before.before.before.put_value-next.ensures c.before.before.put_value.ensures
+    let e = c in
+    cuts_two _ _ e.if-other-eq0.false e.put_value-next.ensures c.put_value-next.ensures
 
 pub put_cuts_spec : {M : Type 1} → statement M
 put_cuts_spec =

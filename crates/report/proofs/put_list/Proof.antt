@@ -36,7 +36,7 @@ same_length c = search rules
 returns : tie.Need-returns
 returns c t A =
     let z = c.before.before.before.before.before.before.before in
-    let P = c.before.before.put_words.ensures in
+    let P = c.put_words.ensures in
     (list z, A.outline.list, (P.0, omega (arith, P.1, (found z).0, (found z).1)))
 
 pub put_list_spec : {M : Type 1} → statement M

@@ -31,7 +31,7 @@ slice-aggregate-plan-on : tie.Need-slice_bounds-plan_on-end
 slice-aggregate-plan-on c = search rules
 
 plan-on-requires : tie.Need-plan_on-requires
-plan-on-requires c κs = c.before.before.requires.0
+plan-on-requires c κs = c.requires.0
 
 array-share-prefix-plan : tie.Need-slice_bounds-plan-end
 array-share-prefix-plan c = let z = c.before in omega (arith, length-take (hyper z) (words z), (found z).0)
@@ -48,7 +48,7 @@ same_length c = search rules
 returns : tie.Need-returns
 returns c t A =
     let z = c.before.before.before.before.before.before in
-    let P = c.before.before.put_words.ensures in
+    let P = c.put_words.ensures in
     (take (hyper z) (words z), (found z).2 t A, (P.0, omega (arith, P.1, (found z).0, (found z).1)))
 
 pub put_plan_spec : {M : Type 1} → statement M

@@ -30,9 +30,9 @@ same_length c = search rules
 returns : tie.Need-returns
 unfolding text
 returns c =
-    let D = c.before.before.put_value.ensures in
-    let b = c.before.before.before.before.before.before.before in
-    let A = b.before.before.before.before.before.put_value-next.ensures in (
+    let D = c.put_value-next.ensures in
+    let b = c in
+    let A = b.put_value-next.ensures in (
       puts_more A.0 (puts_more b.put_value-last.ensures.0 (puts_more D.0 (puts_none _ _))),
       omega (arith, A.1, b.put_value-last.ensures.1, D.1),
     )

@@ -18,8 +18,8 @@ same_length c = search rules
 
 returns : tie.Need-returns-then-slots
 returns c =
-    let p = c.before.before.put_line.ensures in
-    rw c.before.before.before.before.before.before.if-slots.true (p.0, omega (arith, p.1))
+    let p = c.put_line.ensures in
+    rw c.if-slots.true (p.0, omega (arith, p.1))
 
 slice-aggregate-put-value : tie.Need-slice-aggregate-put-value
 slice-aggregate-put-value c = search rules
@@ -31,7 +31,7 @@ same-length-2 : tie.Need-shape_of-out
 same-length-2 c = search rules
 
 returns-2 : tie.Need-returns
-returns-2 c = rw c.before.before.before.before.before.if-slots.false c.before.before.put_value.ensures
+returns-2 c = rw c.if-slots.false c.put_value.ensures
 
 pub put_word_spec : {M : Type 1} → statement M
 put_word_spec =

@@ -20,7 +20,7 @@ decreases-loop slots words out₀ at₀ next₀ k₀ out next k = length words -
 
 loop-holds : tie.Need-loop-k-init invariant-loop decreases-loop
 loop-holds c =
-    let a = c.before.before.args in (omega arith, lines_none (λ i. word_line a.slots i (at a.words.now i) ∷ []) _ _)
+    let a = c.args in (omega arith, lines_none (λ i. word_line a.slots i (at a.words.now i) ∷ []) _ _)
 
 mul-put-word : tie.Need-offset_bounds-words-k invariant-loop decreases-loop
 mul-put-word c = omega arith
@@ -39,19 +39,19 @@ loop-less c = omega arith
 
 loop-again : tie.Need-loop-k-preserved invariant-loop decreases-loop
 loop-again c =
-    let z = c.before.before.before.before.before.before in
-    let a = z.before.before.before.args in
-    let put = c.before.before.put_word-next.ensures in
+    let z = c in
+    let a = z.args in
+    let put = c.put_word-next.ensures in
     (omega arith, lines_next (λ i. word_line a.slots i (at a.words.now i) ∷ []) z.loop-k.k z.loop-k.invariant.1 _ refl put)
 
 same_length : tie.Need-shape_of-out invariant-loop decreases-loop
-same_length c = c.before.loop-k.invariant.1.0.same
+same_length c = c.loop-k.invariant.1.0.same
 
 returns : tie.Need-returns invariant-loop decreases-loop
 returns c =
-    let words = c.before.before.before.before.args.words.now in
-    let e : c.before.loop-k.k ≡ length words = omega arith in
-    rw e at c.before.loop-k.invariant.1
+    let words = c.args.words.now in
+    let e : c.loop-k.k ≡ length words = omega arith in
+    rw e at c.loop-k.invariant.1
 
 pub put_words_spec : {M : Type 1} → statement M
 put_words_spec =

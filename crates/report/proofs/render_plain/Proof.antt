@@ -18,25 +18,25 @@ use Rattle.report.proofs.render_plain.Statement.{statement}
 use Rattle.report.proofs.render_plain.Tie as tie
 
 abbrev file : tie.After-analyse-table → List ℕ
-file a = a.before.before.before.args.file.now
+file a = a.args.file.now
 
 usable : (a : tie.After-analyse-table) → Usable a.analyse-table.result
 usable a = asks.usable (file_ask (file a)) a.analyse-table.ensures
 
 judged : (z : tie.After-verdict_of-answer) → IsVerdict (file z.before) z.verdict_of-answer.result
-judged z = judged_on (verdict_numbered (file z.before)) z.before.analyse-table.ensures z.verdict_of-answer.ensures
+judged z = judged_on (verdict_numbered (file z.before)) z.analyse-table.ensures z.verdict_of-answer.ensures
 
 -- where the verdict is taken apart
 abbrev opened : tie.In-Admitted → tie.After-verdict_of-answer
 opened d = d.before.before
 
-zero_is : (d : tie.In-Admitted) → (opened d).before.analyse-table.result.outline.answer.number ≡ 0
+zero_is : (d : tie.In-Admitted) → (opened d).analyse-table.result.outline.answer.number ≡ 0
 zero_is d =
     let z = opened d in
     is_admitted (usable z.before) z.verdict_of-answer.ensures _ _ _ _ _ _ d.enum_told-1.given.1
 
-accepted : (d : tie.In-Admitted) → Accepted (file_table (file (opened d).before)) (opened d).before.analyse-table.result
-accepted d = (opened d).before.analyse-table.ensures.found (zero_is d)
+accepted : (d : tie.In-Admitted) → Accepted (file_table (file (opened d).before)) (opened d).analyse-table.result
+accepted d = (opened d).analyse-table.ensures.found (zero_is d)
 
 -- where the plain plan's lines are put
 abbrev told : tie.After-put_plan-next → tie.In-Admitted
@@ -68,12 +68,12 @@ same_length c = search rules
 
 returns : tie.Need-returns-in_default
 returns c =
-    let v = c.before.before in
-    let p = v.before.before in
-    let n = p.before in
-    let z = n.before.before.before in
+    let v = c in
+    let p = v in
+    let n = p in
+    let z = n.before.before.before.before.before.before.before.before in
     rendered_refused (file z.before) z.verdict_of-answer.result (judged z) n.number.result p.place.result
-    n.number.ensures p.place.ensures _ n.before.enum_told-in_default-1.given.1 v.put_verdict.ensures
+    n.number.ensures p.place.ensures _ n.enum_told-in_default-1.given.1 v.put_verdict.ensures
 
 put-plan-requires : tie.Need-put_plan-next-requires
 put-plan-requires c κs = let d = c.before in (usable (opened d).before, zero_is d, omega arith)
@@ -89,12 +89,12 @@ same-length-2 c = search rules
 
 returns-2 : tie.Need-returns
 returns-2 c =
-    let m = c.before.before in
-    let l = m.before.before.before.before in
+    let m = c in
+    let l = m.before.before.before.before.before.before in
     let d = told l in
     let z = opened d in
     rendered_admitted (file z.before) z.verdict_of-answer.result (judged z) _ _ _ _ _ _ d.enum_told-1.given.1
-    (l.put_plan-next.ensures _ (accepted d)) (m.put_plan.ensures _ (accepted d))
+    (l.put_plan-next.ensures _ (accepted d)) (m.put_plan-next.ensures _ (accepted d))
 
 pub render_plain_spec : {M : Type 1} → statement M
 render_plain_spec =

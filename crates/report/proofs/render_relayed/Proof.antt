@@ -30,16 +30,16 @@ analyse-requires : tie.Need-analyse-requires
 analyse-requires c κs = search rules
 
 put-analysis-requires : tie.Need-put_analysis-requires
-put-analysis-requires c κs = usable (relayed_ask _ _) c.before.analyse.ensures
+put-analysis-requires c κs = usable (relayed_ask _ _) c.analyse.ensures
 
 same_length : tie.Need-shape_of-out
 same_length c = search rules
 
 returns : tie.Need-returns
 returns c =
-    let P = c.before.before in
-    let A = P.before.before in
-    let z = A.before.before in
+    let P = c in
+    let A = P in
+    let z = A.before.before.before.before.before in
     let a = (entry z).args in
     let w = P.put_analysis in
     subst (λ (f : List ℕ). RenderedFor (relayed_ask f a.relay) a.out.now w.new.1.0 w.result)

@@ -119,9 +119,9 @@ end_of c = c.before.before.before.before.before.before.before
 -- ---- before the first element
 
 cleared : (c : tie.After-clear invariant-slots decreases-slots invariant-loop2 decreases-loop2 invariant-loop decreases-loop)
-    → Kept c.before.before.before.args.slots c.before.before.before.args.words.now c.clear.new.words
+    → Kept c.args.slots c.args.words.now c.clear.new.words
 cleared c =
-    kept_cleared c.before.before.before.args.slots c.before.before.before.args.words.now c.clear.new.words
+    kept_cleared c.args.slots c.args.words.now c.clear.new.words
     c.clear.ensures.0 c.clear.ensures.1
 
 cast-end : tie.Need-overflow_cast-end invariant-slots decreases-slots invariant-loop2 decreases-loop2 invariant-loop decreases-loop
@@ -135,14 +135,14 @@ clear-requires c κs = omega arith
 
 loop-holds : tie.Need-loop-element-init invariant-slots decreases-slots invariant-loop2 decreases-loop2 invariant-loop decreases-loop
 loop-holds c =
-    let S = c.before.before.before.before.before in
+    let S = c in
     let K = cleared c.before.before in (
       refl,
       refl,
       kept_none _ _,
       λ n f O.
           coming_start (λ j h. (O.line j h).0) refl refl
-          (λ h. ap (λ (ws : List ℕ). at ws 0) (c.before.before.clear.ensures.0 h)
+          (λ h. ap (λ (ws : List ℕ). at ws 0) (c.clear.ensures.0 h)
           ∙ get_or-set_same S.args.words.now 0 0 0 (omega (arith, S.requires.2)))
           refl refl refl (omega (arith, K.long, S.requires.2)),
     )
@@ -154,20 +154,20 @@ element-copy-out-r c = omega (arith, (start c.before).requires.0.2.low, c.loop-e
 
 loop2-holds : tie.Need-loop-r-init invariant-slots decreases-slots invariant-loop2 decreases-loop2 invariant-loop decreases-loop
 loop2-holds c =
-    let l = c.before.before.loop-element in (
+    let l = c.loop-element in (
       kept_none _ _,
       λ n f O.
           along_start (l.invariant.3 n f O) l.invariant.0 l.invariant.1
-          (O.chained.heads l.element (omega (arith, O.low, c.before.loop-element-test.true))),
+          (O.chained.heads l.element (omega (arith, O.low, c.loop-element-test.true))),
     )
 
 -- ---- a row's turn
 
 -- r links to one of the rows
-row_is : (c : InRows) → (1 ≤ c.before.loop-r.r) × (c.before.loop-r.r ≤ max_rows)
+row_is : (c : InRows) → (1 ≤ c.loop-r.r) × (c.loop-r.r ≤ max_rows)
 row_is c =
     let O = (start_rows c.before).requires.0.2 in
-    (omega (arith, c.loop-r-test.true), omega (arith, link_row (c.before.loop-r.invariant.1 _ _ O).link, O.few))
+    (omega (arith, c.loop-r-test.true), omega (arith, link_row (c.loop-r.invariant.1 _ _ O).link, O.few))
 
 sub-i : tie.Need-overflow_sub-i invariant-slots decreases-slots invariant-loop2 decreases-loop2 invariant-loop decreases-loop
 sub-i c = (row_is c).0
@@ -183,7 +183,7 @@ slots-at-requires c κs = omega (arith, row_is c)
 
 slots-holds : tie.Need-slots-init invariant-slots decreases-slots invariant-loop2 decreases-loop2 invariant-loop decreases-loop
 slots-holds c =
-    let l = c.before.before.loop-r in
+    let l = c.loop-r in
     let r = row_is c.before in (
       kept_none _ _,
       λ n f O.
@@ -194,7 +194,7 @@ slots-holds c =
 -- ---- a stretch
 
 here : (c : Loaded) → (slots_of c).slots.s < (start_slots (slots_of c)).args.slots
-here c = c.before.slots-test.true
+here c = c.slots-test.true
 
 some : (c : Loaded) → 0 < (slots_of c).slots.left
 some c = omega (arith, c.if-left-eq0.false)
@@ -242,18 +242,18 @@ wide-requires-2 c κs = search rules
 
 slots-less : tie.Need-slots-smaller-then-element-wide invariant-slots decreases-slots invariant-loop2 decreases-loop2 invariant-loop decreases-loop
 slots-less c =
-    let S = c.before.before.before in
+    let S = c in
     omega (arith, S.slot-to.ensures, ends S.before)
 
 slots-again : tie.Need-slots-preserved-then-element-wide invariant-slots decreases-slots invariant-loop2 decreases-loop2 invariant-loop decreases-loop
 slots-again c =
-    let W = c.before.before in
-    let L = W.before.before in
+    let W = c in
+    let L = W in
     let I = (slots_of L).slots.invariant in (
       I.0,
       λ n f O.
           let T = I.1 n f O in
-          (turning_skip T (here L) (some L) (omega (arith, c.before.if-element-wide.true, W.wide.ensures, T.start)) W.before.slot-to.ensures
+          (turning_skip T (here L) (some L) (omega (arith, c.if-element-wide.true, W.wide.ensures, T.start)) W.slot-to.ensures
           c.wide-k.ensures).0,
     )
 
@@ -266,13 +266,13 @@ slice-read-word : tie.Need-bounds-words-s invariant-slots decreases-slots invari
 slice-read-word c = omega (arith, ends (free_of c.before))
 
 sub-if3 : tie.Need-overflow_sub-to invariant-slots decreases-slots invariant-loop2 decreases-loop2 invariant-loop decreases-loop
-sub-if3 c = omega (arith, ends (free_of c.before), c.before.before.before.slot-to.ensures)
+sub-if3 c = omega (arith, ends (free_of c.before), c.slot-to.ensures)
 
 -- ---- it has more slots than load is left
 
 longer : (c : TooLong) → (slots_of (long_of c)).slots.s + (slots_of (long_of c)).slots.left
     < at (slots_of (long_of c)).slots.end (slots_of (long_of c)).slots.k
-longer c = omega (arith, c.if-left-to.true, c.before.before.before.before.slot-to.ensures)
+longer c = omega (arith, c.if-left-to.true, c.slot-to.ensures)
 
 middle : (c : TooLong)
     → ((slots_of (long_of c)).slots.s + (slots_of (long_of c)).slots.left < (start_slots (slots_of (long_of c))).args.slots)
@@ -303,7 +303,7 @@ add-part-2 c = record { fits = omega (arith, row_is (row_of (long_of c.before.be
 
 part-requires : tie.Need-part-requires invariant-slots decreases-slots invariant-loop2 decreases-loop2 invariant-loop decreases-loop
 part-requires c κs =
-    let M = c.before.before.before in
+    let M = c in
     let L = long_of M in
     let S = start_slots (slots_of L) in
     let T = ((slots_of L).slots.invariant.1 _ _ S.requires.0.2).stretched in (
@@ -329,16 +329,16 @@ add-k c = record { fits = omega (arith, row_is (row_of (long_of c.before.before.
 
 slots-less-2 : tie.Need-slots-smaller-then-left-to invariant-slots decreases-slots invariant-loop2 decreases-loop2 invariant-loop decreases-loop
 slots-less-2 c =
-    let M = c.before.before.before.before.before in
+    let M = c in
     omega (arith, some (long_of M), here (long_of M))
 
 slots-again-2 : tie.Need-slots-preserved-then-left-to invariant-slots decreases-slots invariant-loop2 decreases-loop2 invariant-loop decreases-loop
 slots-again-2 c =
-    let P = c.before.part.ensures in
-    let M = c.before.before.before.before.before in
+    let P = c.part.ensures in
+    let M = c in
     let L = long_of M in
     let l = (slots_of L).slots in
-    let i = (row_of L).before.loop-r.r - 1 in
+    let i = (row_of L).loop-r.r - 1 in
     let ws = set l.words (l.s + l.left) (at l.words l.s) in
     let F : Fitted l.k l.s l.left (i + 1) l.left l.end l.last l.after l.words _ _ _ ws =
     fitted_parted (longer M) P refl in
@@ -350,7 +350,7 @@ slots-again-2 c =
       λ n f O.
           let T = l.invariant.1 n f O in
           (turning_take T (here L) (some L) F O.few
-          (omega (arith, M.before.before.if-element-wide.false, M.before.before.before.wide.ensures, T.start))
+          (omega (arith, M.if-element-wide.false, M.wide.ensures, T.start))
           (ap (bit_or (at l.words l.s)) (one_shl i (omega (arith, row_is (row_of L)))) ∙ ap (λ (v : ℕ). bit_or v (2 ^ i)) (sym away))
           (sym fits.2)
           (sym (ap (λ (fs : List ℕ). at fs l.k) P.afters
@@ -363,7 +363,7 @@ slots-again-2 c =
 
 fitting : (c : Short) → at (slots_of (short_of c)).slots.end (slots_of (short_of c)).slots.k
     ≤ (slots_of (short_of c)).slots.s + (slots_of (short_of c)).slots.left
-fitting c = omega (arith, c.if-left-to.false, c.before.before.before.before.slot-to.ensures)
+fitting c = omega (arith, c.if-left-to.false, c.slot-to.ensures)
 
 mul-words-3 : tie.Need-offset_bounds-words-s-else-left-to invariant-slots decreases-slots invariant-loop2 decreases-loop2 invariant-loop decreases-loop
 mul-words-3 c = record { fits = omega (arith, ends (short_of c)) }
@@ -379,13 +379,13 @@ array-write-last-2 c = low (short_of c.before)
 
 sub-left : tie.Need-overflow_sub-left invariant-slots decreases-slots invariant-loop2 decreases-loop2 invariant-loop decreases-loop
 sub-left c =
-    let S = c.before in
-    omega (arith, ends (short_of S), S.before.before.before.before.slot-to.ensures)
+    let S = c in
+    omega (arith, ends (short_of S), S.slot-to.ensures)
 
 sub-left-2 : tie.Need-overflow_sub-left-else-left-to invariant-slots decreases-slots invariant-loop2 decreases-loop2 invariant-loop decreases-loop
 sub-left-2 c =
-    let S = c.before in
-    omega (arith, fitting S, S.before.before.before.before.slot-to.ensures)
+    let S = c in
+    omega (arith, fitting S, S.slot-to.ensures)
 
 array-read-wide-3 : tie.Need-bounds-after-k-else-left-to invariant-slots decreases-slots invariant-loop2 decreases-loop2 invariant-loop decreases-loop
 array-read-wide-3 c = low (short_of c.before)
@@ -395,21 +395,21 @@ wide-requires-3 c κs = search rules
 
 slots-less-3 : tie.Need-slots-smaller invariant-slots decreases-slots invariant-loop2 decreases-loop2 invariant-loop decreases-loop
 slots-less-3 c =
-    let S = c.before.before in
-    omega (arith, ends (short_of S), S.before.before.before.before.slot-to.ensures)
+    let S = c in
+    omega (arith, ends (short_of S), S.slot-to.ensures)
 
 slots-again-3 : tie.Need-slots-preserved invariant-slots decreases-slots invariant-loop2 decreases-loop2 invariant-loop decreases-loop
 slots-again-3 c =
-    let S = c.before.before in
+    let S = c in
     let L = short_of S in
     let l = (slots_of L).slots in
-    let i = (row_of L).before.loop-r.r - 1 in
-    let to = S.before.before.before.before.slot-to.ensures in (
+    let i = (row_of L).loop-r.r - 1 in
+    let to = S.slot-to.ensures in (
       kept_set l.s _ l.invariant.0 (here L),
       λ n f O.
           let T = l.invariant.1 n f O in
           (turning_take T (here L) (some L) (fitted_whole (i + 1) (fitting S) (ap (λ (e : ℕ). e - l.s) to)) O.few
-          (omega (arith, S.before.before.if-element-wide.false, S.before.before.before.wide.ensures, T.start))
+          (omega (arith, S.if-element-wide.false, S.wide.ensures, T.start))
           (ap (bit_or (at l.words l.s)) (one_shl i (omega (arith, row_is (row_of L)))))
           to c.wide-k-else-left-to.ensures refl).0,
     )
@@ -424,18 +424,18 @@ loop2-less c =
     let I = rows_of c.before.before in
     let r = row_is I in
     let O = (start_rows I.before).requires.0.2 in
-    let m = link_row (I.before.loop-r.invariant.1 _ _ O).link in
-    rest_less (O.chained.nexts (I.before.loop-r.r - 1) (omega arith) (omega arith)) O.few r.0 (omega arith) m
+    let m = link_row (I.loop-r.invariant.1 _ _ O).link in
+    rest_less (O.chained.nexts (I.loop-r.r - 1) (omega arith) (omega arith)) O.few r.0 (omega arith) m
 
 loop2-again : tie.Need-loop-r-preserved invariant-slots decreases-slots invariant-loop2 decreases-loop2 invariant-loop decreases-loop
 loop2-again c =
     let I = rows_of c.before.before in
-    let l = c.before.before.slots in (
-      kept_trans I.before.loop-r.invariant.0 l.invariant.0,
+    let l = c.slots in (
+      kept_trans I.loop-r.invariant.0 l.invariant.0,
       λ n f O.
           let T = l.invariant.1 n f O in
-          turning_end T (⊎_elim (λ z. inl z.left) (λ z. inr (omega (arith, z.1.true))) c.before.slots-test.branch)
-          (O.chained.nexts (I.before.loop-r.r - 1) (omega arith) T.row),
+          turning_end T (⊎_elim (λ z. inl z.left) (λ z. inr (omega (arith, z.1.true))) c.slots-test.branch)
+          (O.chained.nexts (I.loop-r.r - 1) (omega arith) T.row),
     )
 
 -- ---- on to the next element
@@ -448,10 +448,10 @@ loop-less c = omega arith
 
 loop-again : tie.Need-loop-element-preserved invariant-slots decreases-slots invariant-loop2 decreases-loop2 invariant-loop decreases-loop
 loop-again c =
-    let l = c.before.loop-r in (
+    let l = c.loop-r in (
       refl,
       refl,
-      kept_trans c.before.before.before.before.loop-element.invariant.2 l.invariant.0,
+      kept_trans c.loop-element.invariant.2 l.invariant.0,
       λ n f O. along_end (l.invariant.1 n f O) c.loop-r-test.false,
     )
 
@@ -459,7 +459,7 @@ loop-again c =
 
 spread-requires : tie.Need-spread-requires invariant-slots decreases-slots invariant-loop2 decreases-loop2 invariant-loop decreases-loop
 spread-requires c κs =
-    let L = c.before.before.before.before in
+    let L = c in
     let S = (L.loop-element.invariant.3 _ _ (start L).requires.0.2).stretched in
     ((S.of, S.begin, S.tiles), S.room)
 
@@ -467,13 +467,13 @@ filled : (c : Done) → (n : ℕ) (f : ℕ → ℕ)
     → ChainedRows n f (at (start (end_of c)).args.second.now) (start (end_of c)).args.top (start (end_of c)).args.head.now
     (start (end_of c)).args.next.now
     → FilledSlots n f (at (start (end_of c)).args.second.now) (at (start (end_of c)).args.load.now) (start (end_of c)).args.slots
-    (start (end_of c)).args.words.now c.before.before.spread.new.words
+    (start (end_of c)).args.words.now c.spread.new.words
 filled c n f O =
     let L = end_of c in
     coming_end (L.loop-element.invariant.3 n f O)
-    (λ j h. omega (arith, O.line j h, c.before.before.before.before.before.before.loop-element-test.false))
+    (λ j h. omega (arith, O.line j h, c.loop-element-test.false))
     (kept_trans (cleared L.before.before.before) L.loop-element.invariant.2)
-    c.before.before.spread.ensures
+    c.spread.ensures
 
 same_length : tie.Need-shape_of-words invariant-slots decreases-slots invariant-loop2 decreases-loop2 invariant-loop decreases-loop
 same_length c = (filled c _ _ (start (end_of c)).requires.0.2).kept.long

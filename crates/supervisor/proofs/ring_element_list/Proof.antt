@@ -10,10 +10,10 @@ use Rattle.supervisor.proofs.ring_element_list.Statement.{statement}
 use Rattle.supervisor.proofs.ring_element_list.Tie as tie
 
 -- a list that was made is short
-few : (c : tie.Else-made-ne-DONE) → c.before.before.before.before.make_file-made.result.entries ≤ 2 * max_slots
+few : (c : tie.Else-made-ne-DONE) → c.make_file-made.result.entries ≤ 2 * max_slots
 few c =
-    let m = c.before.before.before.before in
-    let z = m.before.before.before.before.before in
+    let m = c in
+    let z = m in
     made_entries z.args.file.now _ _ list_bytes _ _ _ _ _ _ c.if-made-ne-DONE.false m.make_file-made.ensures
 
 make-file-requires : tie.Need-make_file-made-requires
@@ -27,14 +27,14 @@ same_length c = search rules
 
 returns : tie.Need-returns-then-made-ne-DONE
 returns c =
-    let m = c.before.before.before.before.before in
+    let m = c in
     record {
       number = _;
       place = _;
       hyper = _;
       entries = _;
       made = m.make_file-made.ensures;
-      size = λ z. absurd (c.before.if-made-ne-DONE.true z);
+      size = λ z. absurd (c.if-made-ne-DONE.true z);
       refused = λ z. c.refusal.ensures;
     }
 
@@ -49,7 +49,7 @@ same-length-2 c = search rules
 
 returns-2 : tie.Need-returns
 returns-2 c =
-    let m = c.before.before.before.before.before in
+    let m = c in
     record {
       number = _;
       place = _;
@@ -57,7 +57,7 @@ returns-2 c =
       entries = _;
       made = m.make_file-made.ensures;
       size = λ z. refl;
-      refused = λ z. absurd (z c.before.if-made-ne-DONE.false);
+      refused = λ z. absurd (z c.if-made-ne-DONE.false);
     }
 
 pub ring_element_list_spec : {M : Type 1} → statement M

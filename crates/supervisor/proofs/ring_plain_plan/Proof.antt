@@ -8,7 +8,7 @@ plain-plan-requires : tie.Need-plain_plan-found-requires
 plain-plan-requires c κs = search rules
 
 joined-requires : tie.Need-joined-requires
-joined-requires c κs = plan_small _ _ _ _ _ (verdict_small _ _ _) c.before.before.plain_plan-found.ensures.planned.answers
+joined-requires c κs = plan_small _ _ _ _ _ (verdict_small _ _ _) c.plain_plan-found.ensures.planned.answers
 
 same_length : tie.Need-shape_of-plan
 same_length c = search rules

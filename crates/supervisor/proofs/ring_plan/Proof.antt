@@ -8,7 +8,7 @@ whole-plan-requires : tie.Need-whole_plan-answer-requires
 whole-plan-requires c κs = search rules
 
 joined-requires : tie.Need-joined-requires
-joined-requires c κs = plan_small _ _ _ _ _ (verdict_small _ _ _) c.before.before.whole_plan-answer.ensures.planned.answers
+joined-requires c κs = plan_small _ _ _ _ _ (verdict_small _ _ _) c.whole_plan-answer.ensures.planned.answers
 
 same_length : tie.Need-shape_of-plan
 same_length c = search rules

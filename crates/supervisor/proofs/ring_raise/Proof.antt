@@ -8,7 +8,7 @@ raise-requires : tie.Need-raise-raised-requires
 raise-requires c κs = search rules
 
 joined-requires : tie.Need-joined-requires
-joined-requires c κs = raise_small _ _ _ _ c.before.before.raise-raised.ensures.answers
+joined-requires c κs = raise_small _ _ _ _ c.raise-raised.ensures.answers
 
 same_length : tie.Need-shape_of-out
 same_length c = search rules

@@ -8,7 +8,7 @@ list-of-sets-requires : tie.Need-list_of_sets-listing-requires
 list-of-sets-requires c κs = search rules
 
 joined-requires : tie.Need-joined-requires
-joined-requires c κs = sets_small _ _ _ _ c.before.before.list_of_sets-listing.ensures.answers
+joined-requires c κs = sets_small _ _ _ _ c.list_of_sets-listing.ensures.answers
 
 same_length : tie.Need-shape_of-sets
 same_length c = search rules

@@ -11,18 +11,18 @@ meet-requires : tie.Need-meet-found-requires
 meet-requires c κs = search rules
 
 joined-requires : tie.Need-joined-requires
-joined-requires c κs = shared_small _ _ _ _ _ c.before.before.meet-found.ensures.answers
+joined-requires c κs = shared_small _ _ _ _ _ c.meet-found.ensures.answers
 
 returns : tie.Need-returns
 returns c =
-    let m = c.before.before.before.meet-found.ensures in
+    let m = c.meet-found.ensures in
     record {
       number = _;
       place = _;
       called = record {
         answers = m.answers;
-        done = λ z. ⊎_elim (λ w. w.1 ∙ m.done z) (λ w. absurd (w.0.left z)) c.before.if-found-eq-DONE.branch;
-        refused = λ h. ⊎_elim (λ w. absurd (h w.0.true)) (λ w. w.1) c.before.if-found-eq-DONE.branch;
+        done = λ z. ⊎_elim (λ w. w.1 ∙ m.done z) (λ w. absurd (w.0.left z)) c.if-found-eq-DONE.branch;
+        refused = λ h. ⊎_elim (λ w. absurd (h w.0.true)) (λ w. w.1) c.if-found-eq-DONE.branch;
       };
       as_one = c.joined.ensures;
     }

@@ -25,18 +25,18 @@ place-requires c κs = search rules
 
 joined-requires : tie.Need-joined-requires
 joined-requires c κs =
-    let s = verdict_small _ _ _ c.before.before.before.before.judge-answer.ensures.answers in
-    (omega (arith, s.0, c.before.number.ensures), omega (arith, s.1, c.place.ensures))
+    let s = verdict_small _ _ _ c.judge-answer.ensures.answers in
+    (omega (arith, s.0, c.number.ensures), omega (arith, s.1, c.place.ensures))
 
 returns : tie.Need-returns-in_default
 returns c =
-    let z = c.before.before.before.before.before.before.before.before.args in
-    let j = c.before.before.before.before.before.judge in
+    let z = c.args in
+    let j = c.judge-answer in
     record {
       number = _;
       place = _;
-      called = values_refused z.file.now z.out.now j.result _ j.ensures c.before.before.before.enum_told-1.given.1;
-      as_one = c.joined.ensures ∙ ap₂ c_answer c.before.before.number.ensures c.before.place.ensures;
+      called = values_refused z.file.now z.out.now j.result _ j.ensures c.enum_told-1.given.1;
+      as_one = c.joined.ensures ∙ ap₂ c_answer c.number.ensures c.place.ensures;
     }
 
 joined-requires-2 : tie.Need-joined-requires-then-out-lt-VALUES
@@ -44,14 +44,14 @@ joined-requires-2 c κs = search rules
 
 returns-2 : tie.Need-returns-then-out-lt-VALUES
 returns-2 c =
-    let z = c.before.before.before.before.before.before.before.before.args in
-    let j = c.before.before.before.before.before.judge in
+    let z = c.args in
+    let j = c.judge-answer in
     record {
       number = 17;
       place = 0;
       called =
-          values_short z.file.now z.out.now j.result _ _ _ _ _ _ j.ensures c.before.before.before.answer-1.given.1
-          c.before.if-out-lt-VALUES.true;
+          values_short z.file.now z.out.now j.result _ _ _ _ _ _ j.ensures c.answer-1.given.1
+          c.if-out-lt-VALUES.true;
       as_one = c.joined-then-out-lt-VALUES.ensures;
     }
 
@@ -66,16 +66,16 @@ same_length c = search rules
 
 returns-3 : tie.Need-returns
 returns-3 c =
-    let z = c.before.before.before.before.before.before.before.before.before.before.before.before.args in
-    let e = c.before.before.before.before.before in
-    let j = e.before.before.before.before.judge in
-    let w = c.before.before.before.write_values in
+    let z = c.args in
+    let e = c in
+    let j = e.judge-answer in
+    let w = c.write_values in
     record {
       number = 0;
       place = 0;
       called =
           values_done z.file.now z.out.now j.result _ _ _ _ _ _ j.ensures
-          e.before.before.answer-1.given.1 _ e.if-out-lt-VALUES.false
+          e.answer-1.given.1 _ e.if-out-lt-VALUES.false
           w.ensures;
       as_one = c.joined-2.ensures;
     }

@@ -18,15 +18,15 @@ place-requires c κs = search rules
 
 joined-requires : tie.Need-joined-requires
 joined-requires c κs =
-    let s = verdict_small _ _ _ c.before.before.judge-answer.ensures.answers in
-    (omega (arith, s.0, c.before.number.ensures), omega (arith, s.1, c.place.ensures))
+    let s = verdict_small _ _ _ c.judge-answer.ensures.answers in
+    (omega (arith, s.0, c.number.ensures), omega (arith, s.1, c.place.ensures))
 
 returns : tie.Need-returns
 returns c = record {
   number = _;
   place = _;
-  answers = c.before.before.before.judge-answer.ensures.answers;
-  as_one = c.joined.ensures ∙ ap₂ c_answer c.before.before.number.ensures c.before.place.ensures;
+  answers = c.judge-answer.ensures.answers;
+  as_one = c.joined.ensures ∙ ap₂ c_answer c.number.ensures c.place.ensures;
 }
 
 pub ring_verdict_spec : {M : Type 1} → statement M

@@ -19,15 +19,15 @@ place-requires c κs = search rules
 
 joined-requires : tie.Need-joined-requires
 joined-requires c κs =
-    let s = limited_small _ _ _ _ _ c.before.before.judge-verdict.ensures.answers in
-    (omega (arith, s.0, c.before.number.ensures), omega (arith, s.1, c.place.ensures))
+    let s = limited_small _ _ _ _ _ c.judge-verdict.ensures.answers in
+    (omega (arith, s.0, c.number.ensures), omega (arith, s.1, c.place.ensures))
 
 returns : tie.Need-returns
 returns c = record {
   number = _;
   place = _;
-  answers = c.before.before.before.judge-verdict.ensures.answers;
-  as_one = c.joined.ensures ∙ ap₂ c_answer c.before.before.number.ensures c.before.place.ensures;
+  answers = c.judge-verdict.ensures.answers;
+  as_one = c.joined.ensures ∙ ap₂ c_answer c.number.ensures c.place.ensures;
 }
 
 pub ring_verdict_limited_spec : {M : Type 1} → statement M

@@ -15,37 +15,37 @@ returns-3 c = rw c.if-number-eq-WRONG_WAY.true
 
 returns-4 : tie.Need-returns-then-first-lt1
 returns-4 c =
-    let y = c.before.before in
-    let z = y.before in
+    let y = c in
+    let z = y in
     rw (
       ne_eqb _ _ z.if-number-eq-WRONG_PERIOD.false,
       ne_eqb _ _ y.if-number-eq-WRONG_COST.false,
-      ne_eqb _ _ c.before.if-number-eq-WRONG_WAY.false,
-      lt-leb 1 z.before.args.first (omega arith),
+      ne_eqb _ _ c.if-number-eq-WRONG_WAY.false,
+      lt-leb 1 z.args.first (omega arith),
     )
 
 returns-5 : tie.Need-returns-then-first-elements
 returns-5 c =
-    let y = c.before.before.before in
-    let z = y.before in
-    let a = z.before.args in
+    let y = c in
+    let z = y in
+    let a = z.args in
     rw (
       ne_eqb _ _ z.if-number-eq-WRONG_PERIOD.false,
       ne_eqb _ _ y.if-number-eq-WRONG_COST.false,
-      ne_eqb _ _ c.before.before.if-number-eq-WRONG_WAY.false,
+      ne_eqb _ _ c.if-number-eq-WRONG_WAY.false,
       le-leb 1 a.first (omega arith),
       lt-leb a.first a.elements (omega arith),
     )
 
 returns-6 : tie.Need-returns
 returns-6 c =
-    let y = c.before.before.before in
-    let z = y.before in
-    let a = z.before.args in
+    let y = c in
+    let z = y in
+    let a = z.args in
     rw (
       ne_eqb _ _ z.if-number-eq-WRONG_PERIOD.false,
       ne_eqb _ _ y.if-number-eq-WRONG_COST.false,
-      ne_eqb _ _ c.before.before.if-number-eq-WRONG_WAY.false,
+      ne_eqb _ _ c.if-number-eq-WRONG_WAY.false,
       le-leb 1 a.first (omega arith),
       le-leb a.first a.elements (omega arith),
     )

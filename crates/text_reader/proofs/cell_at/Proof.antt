@@ -19,16 +19,16 @@ part-number-end c = omega (arith, (c.field-found.ensures 0).high)
 
 add-number : tie.Need-overflow_add-from
 add-number c =
-    let f = c.before.field-found.ensures 0 in
-    omega (arith, f.ordered, f.high, c.before.before.before.requires)
+    let f = c.field-found.ensures 0 in
+    omega (arith, f.ordered, f.high, c.requires)
 
 number-requires : tie.Need-number-requires
 number-requires c κs = search rules
 
 returns : tie.Need-returns
 returns c =
-    let z = c.before.before in
-    field_cell (z.field-found.ensures z.before.before.args.from) c.number.ensures
+    let z = c in
+    field_cell (z.field-found.ensures z.args.from) c.number.ensures
 
 pub cell_at_spec : {M : Type 1} → statement M
 cell_at_spec =

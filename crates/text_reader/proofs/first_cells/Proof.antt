@@ -18,12 +18,12 @@ loop-holds : tie.Need-loop-k-init invariant-loop decreases-loop
 loop-holds c = celled_start _ _ refl
 
 cell-at-requires : tie.Need-cell_at-cell-requires invariant-loop decreases-loop
-cell-at-requires c κs = c.before.before.before.requires
+cell-at-requires c κs = c.requires
 
 returns : tie.Need-returns-then-cell-ne0 invariant-loop decreases-loop
 returns c =
-    let l = c.before.before in
-    let u = l.before.before in
+    let l = c in
+    let u = l in
     record {
       answers = celled_stop u.loop-k.invariant (omega arith) l.Cell-at.ensures c.if-cell-ne0.true;
       value = λ z. absurd (c.if-cell-ne0.true z);
@@ -34,7 +34,7 @@ mul-value : tie.Need-offset_bounds-value-k invariant-loop decreases-loop
 mul-value c = omega arith
 
 array-write-value : tie.Need-bounds-value-k invariant-loop decreases-loop
-array-write-value c = omega (arith, c.before.before.before.before.loop-k.invariant.size)
+array-write-value c = omega (arith, c.loop-k.invariant.size)
 
 add-k : tie.Need-overflow_add-k invariant-loop decreases-loop
 add-k c = omega arith
@@ -44,12 +44,12 @@ loop-less c = omega arith
 
 loop-again : tie.Need-loop-k-preserved invariant-loop decreases-loop
 loop-again c =
-    let l = c.before.before in
-    celled_next l.before.before.loop-k.invariant (omega arith) l.Cell-at.ensures c.if-cell-ne0.false
+    let l = c in
+    celled_next l.loop-k.invariant (omega arith) l.Cell-at.ensures c.if-cell-ne0.false
 
 returns-2 : tie.Need-returns invariant-loop decreases-loop
 returns-2 c =
-    let i = c.before.loop-k.invariant in
+    let i = c.loop-k.invariant in
     let a = celled_all i (omega arith) in
     record { answers = answered _ a.0; value = λ z. a.1; size = i.size }
 

@@ -12,15 +12,15 @@ use Rattle.text_reader.proofs.form_of.Tie as tie
 
 -- the first four fields are numbers
 cells : (z : tie.Else-cells-ne0)
-    → let a = z.before.before.before.before.args in
+    → let a = z.args in
     None (each 4 (λ k. number_checks (field (part a.from a.line.now) k)))
-cells z = none_of _ _ (cells_numbered _) (rw z.if-cells-ne0.false at z.before.before.first_cells-cells.ensures.answers)
+cells z = none_of _ _ (cells_numbered _) (rw z.if-cells-ne0.false at z.first_cells-cells.ensures.answers)
 
 -- and so is the last
 lasts : (z : tie.Else-last-ne0)
-    → let a = z.before.before.before.before.before.before.before.args in
+    → let a = z.args in
     None (number_checks (last (part a.from a.line.now)))
-lasts z = none_of _ _ (numbers_numbered _) (rw z.if-last-ne0.false at z.before.before.Cell-at.ensures.answers)
+lasts z = none_of _ _ (numbers_numbered _) (rw z.if-last-ne0.false at z.Cell-at.ensures.answers)
 
 first-cells-requires : tie.Need-first_cells-cells-requires
 first-cells-requires c κs = search rules
@@ -31,8 +31,8 @@ refuse-row-requires c κs = search rules
 returns : tie.Need-returns-then-cells-ne0
 returns c =
     let e = c.refuse_row.ensures in
-    let h = c.before.if-cells-ne0.true in
-    let f = c.before.before.before.first_cells-cells.ensures in
+    let h = c.if-cells-ne0.true in
+    let f = c.first_cells-cells.ensures in
     record { answers = rw (e.0, e.1) (form_cells _ _ _ _ h f.answers); row = λ z. absurd (h (sym e.0 ∙ z)) }
 
 cell-at-requires : tie.Need-cell_at-last-requires
@@ -44,10 +44,10 @@ refuse-row-requires-2 c κs = search rules
 returns-2 : tie.Need-returns-then-last-ne0
 returns-2 c =
     let e = c.refuse_row-then-last-ne0.ensures in
-    let h = c.before.if-last-ne0.true in
-    let a = c.before.before.before in
+    let h = c.if-last-ne0.true in
+    let a = c in
     record {
-      answers = rw (e.0, e.1) (form_last _ _ (cells a.before) _ _ h a.Cell-at.ensures.answers);
+      answers = rw (e.0, e.1) (form_last _ _ (cells a.before.before.before.before) _ _ h a.Cell-at.ensures.answers);
       row = λ z. absurd (h (sym e.0 ∙ z));
     }
 
@@ -63,21 +63,21 @@ refuse-row-requires-3 c κs = search rules
 returns-3 : tie.Need-returns-then-shape-ne0
 returns-3 c =
     let e = c.refuse_row-then-shape-ne0.ensures in
-    let h = c.before.if-shape-ne0.true in
-    let s = c.before.before.before in
-    let n = s.before in
-    let a = n.before.before.before in
+    let h = c.if-shape-ne0.true in
+    let s = c in
+    let n = s in
+    let a = n in
     record {
       answers =
           rw (e.0, e.1)
-          (form_ends _ _ (cells a.before) _ _ (lasts n.before) (rw n.needed.ensures at s.shape_fault-shape.ensures));
+          (form_ends _ _ (cells a.before.before.before.before.before.before.before.before) _ _ (lasts n.before.before.before.before.before) (rw n.needed.ensures at s.shape_fault-shape.ensures));
       row = λ z. absurd (h (sym e.0 ∙ z));
     }
 
 -- there are four numbers
 four : (c : tie.After-value-1)
-    → length c.before.before.before.before.before.before.before.before.before.before.first_cells-cells.result.value ≡ 4
-four c = c.before.before.before.before.before.before.before.before.before.before.first_cells-cells.ensures.size
+    → length c.first_cells-cells.result.value ≡ 4
+four c = c.first_cells-cells.ensures.size
 
 array-read-t12 : tie.Need-bounds-value-0
 array-read-t12 c = omega (arith, four c)
@@ -93,22 +93,22 @@ array-read-t21 c = omega (arith, four c)
 
 returns-4 : tie.Need-returns
 returns-4 c =
-    let z = c.before in
-    let s = z.before.before in
-    let n = s.before in
-    let a = n.before.before.before in
-    let f = a.before.before.before in
-    let v = f.first_cells-cells.ensures.value a.before.if-cells-ne0.false in
+    let z = c in
+    let s = z in
+    let n = s in
+    let a = n in
+    let f = a in
+    let v = f.first_cells-cells.ensures.value a.if-cells-ne0.false in
     record {
       answers =
-          form_ends _ _ (cells a.before) 0 0 (lasts n.before)
+          form_ends _ _ (cells a.before.before.before.before.before.before.before.before) 0 0 (lasts n.before.before.before.before.before)
           (answered _ (none_of _ _ (shape_numbered _ _) (rw (z.if-shape-ne0.false, n.needed.ensures) at s.shape_fault-shape.ensures)));
       row = λ e. record {
         cost = v 0 (omega arith);
         period = v 1 (omega arith);
         first = v 2 (omega arith);
         second = v 3 (omega arith);
-        label = a.Cell-at.ensures.value n.before.if-last-ne0.false;
+        label = a.Cell-at.ensures.value n.if-last-ne0.false;
       };
     }
 

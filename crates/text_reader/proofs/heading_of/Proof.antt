@@ -11,20 +11,20 @@ use Rattle.text_reader.proofs.heading_of.Statement.{statement}
 use Rattle.text_reader.proofs.heading_of.Tie as tie
 
 -- it begins with `elements` or `board`
-worded : (z : tie.Else-is_no_heading) → let a = z.before.before.before.args in (no_heading (part a.from a.line.now)).applies → ⊥
-worded z = (z.before.is_no_heading.ensures z.before.before.before.args.from).fails z.if-is_no_heading.false
+worded : (z : tie.Else-is_no_heading) → let a = z.args in (no_heading (part a.from a.line.now)).applies → ⊥
+worded z = (z.is_no_heading.ensures z.args.from).fails z.if-is_no_heading.false
 
 -- then comes a number
 cell : (z : tie.Else-cell-ne0)
-    → let a = z.before.before.before.before.before.before.args in
+    → let a = z.args in
     None (number_checks (field (part a.from a.line.now) 1))
-cell z = none_of _ _ (numbers_numbered _) (rw z.if-cell-ne0.false at z.before.before.Cell-at.ensures.answers)
+cell z = none_of _ _ (numbers_numbered _) (rw z.if-cell-ne0.false at z.Cell-at.ensures.answers)
 
 -- and nothing else
 shape : (z : tie.Else-shape-ne0)
-    → let a = z.before.before.before.before.before.before.before.before.before.args in
+    → let a = z.args in
     None (missing_field (field (part a.from a.line.now) 1) ∷ spare_field (field (part a.from a.line.now) 2) ∷ [])
-shape z = none_of _ _ (shape_numbered _ _) (rw z.if-shape-ne0.false at z.before.before.shape_fault-shape.ensures)
+shape z = none_of _ _ (shape_numbered _ _) (rw z.if-shape-ne0.false at z.shape_fault-shape.ensures)
 
 is-no-heading-requires : tie.Need-is_no_heading-requires
 is-no-heading-requires c κs = search rules
@@ -38,12 +38,12 @@ refuse-heading-requires c κs = search rules
 returns : tie.Need-returns-then-is_no_heading
 returns c =
     let e = c.refuse_heading.ensures in
-    let p = c.before in
-    let w = p.before.before in
+    let p = c in
+    let w = p in
     record {
       answers =
           heading_none _ _ _ e.0 (e.1 ∙ p.place_of.ensures)
-          ((w.is_no_heading.ensures w.before.before.args.from).holds p.before.if-is_no_heading.true);
+          ((w.is_no_heading.ensures w.args.from).holds p.if-is_no_heading.true);
       elements = λ z. absurd (let y : ⊥ = omega (arith, e.0, z) in y);
       rings = λ z. absurd (let y : ⊥ = omega (arith, e.0, z) in y);
     }
@@ -57,10 +57,10 @@ refuse-heading-requires-2 c κs = search rules
 returns-2 : tie.Need-returns-then-cell-ne0
 returns-2 c =
     let e = c.refuse_heading-then-cell-ne0.ensures in
-    let h = c.before.if-cell-ne0.true in
-    let a = c.before.before.before in
+    let h = c.if-cell-ne0.true in
+    let a = c in
     record {
-      answers = rw (e.0, e.1) (heading_cell _ (worded a.before) _ _ h a.Cell-at.ensures.answers);
+      answers = rw (e.0, e.1) (heading_cell _ (worded a.before.before.before.before) _ _ h a.Cell-at.ensures.answers);
       elements = λ z. absurd (h (sym e.0 ∙ z));
       rings = λ z. absurd (h (sym e.0 ∙ z));
     }
@@ -74,11 +74,11 @@ refuse-heading-requires-3 c κs = search rules
 returns-3 : tie.Need-returns-then-shape-ne0
 returns-3 c =
     let e = c.refuse_heading-then-shape-ne0.ensures in
-    let h = c.before.if-shape-ne0.true in
-    let s = c.before.before.before in
-    let a = s.before.before.before in
+    let h = c.if-shape-ne0.true in
+    let s = c in
+    let a = s in
     record {
-      answers = rw (e.0, e.1) (heading_shape _ (worded a.before) (cell s.before) _ _ h s.shape_fault-shape.ensures);
+      answers = rw (e.0, e.1) (heading_shape _ (worded a.before.before.before.before.before.before.before) (cell s.before.before.before.before) _ _ h s.shape_fault-shape.ensures);
       elements = λ z. absurd (h (sym e.0 ∙ z));
       rings = λ z. absurd (h (sym e.0 ∙ z));
     }
@@ -95,15 +95,15 @@ refuse-heading-requires-4 c κs = search rules
 returns-4 : tie.Need-returns-then-is_wrong_size
 returns-4 c =
     let e = c.refuse_heading-then-is_wrong_size.ensures in
-    let p = c.before in
-    let w = p.before.before in
-    let s = w.before.before.before in
-    let a = s.before.before.before in
+    let p = c in
+    let w = p in
+    let s = w in
+    let a = s in
     record {
       answers =
-          heading_wrong _ (worded a.before) (cell s.before) (shape w.before) _
-          (a.Cell-at.ensures.value s.before.if-cell-ne0.false) _ _ e.0 (e.1 ∙ p.place_of-then-is_wrong_size.ensures)
-          (w.is_wrong_size.ensures.holds p.before.if-is_wrong_size.true);
+          heading_wrong _ (worded a.before.before.before.before.before.before.before.before.before.before) (cell s.before.before.before.before.before.before.before) (shape w.before.before.before.before) _
+          (a.Cell-at.ensures.value s.if-cell-ne0.false) _ _ e.0 (e.1 ∙ p.place_of-then-is_wrong_size.ensures)
+          (w.is_wrong_size.ensures.holds p.if-is_wrong_size.true);
       elements = λ z. absurd (let y : ⊥ = omega (arith, e.0, z) in y);
       rings = λ z. absurd (let y : ⊥ = omega (arith, e.0, z) in y);
     }
@@ -113,14 +113,14 @@ rings-in-requires c κs = search rules
 
 returns-5 : tie.Need-returns
 returns-5 c =
-    let w = c.before.before in
-    let s = w.before.before.before in
-    let a = s.before.before.before in
-    let v = a.Cell-at.ensures.value s.before.if-cell-ne0.false in
+    let w = c in
+    let s = w in
+    let a = s in
+    let v = a.Cell-at.ensures.value s.if-cell-ne0.false in
     record {
       answers =
-          heading_right _ (worded a.before) (cell s.before) (shape w.before) _ v
-          (w.is_wrong_size.ensures.fails c.before.if-is_wrong_size.false);
+          heading_right _ (worded a.before.before.before.before.before.before.before.before.before) (cell s.before.before.before.before.before.before) (shape w.before.before.before) _ v
+          (w.is_wrong_size.ensures.fails c.if-is_wrong_size.false);
       elements = λ z. v;
       rings = λ z. c.rings_in.ensures _;
     }

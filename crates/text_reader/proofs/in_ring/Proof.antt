@@ -10,7 +10,7 @@ label-in-requires : tie.Need-label_in-requires
 label-in-requires c κs = search rules
 
 returns : tie.Need-returns
-returns c = rw (c.before.way_in.ensures, c.label_in.ensures)
+returns c = rw (c.way_in.ensures, c.label_in.ensures)
 
 pub in_ring_spec : {M : Type 1} → statement M
 in_ring_spec = tie.close (tie.spec way-in-requires label-in-requires returns)

@@ -11,7 +11,7 @@ is-word-requires : tie.Need-is_word-requires
 is-word-requires c κs = search rules
 
 returns : tie.Need-returns-then-is_word
-returns c = λ from. decides_no (λ w. w.0 ((c.before.is_IsWord.ensures from).holds c.if-is_word.true))
+returns c = λ from. decides_no (λ w. w.0 ((c.is_IsWord.ensures from).holds c.if-is_word.true))
 
 slice-aggregate-is-word-2 : tie.Need-slice-aggregate-is-word-2
 slice-aggregate-is-word-2 c = search rules
@@ -20,12 +20,12 @@ is-word-requires-2 : tie.Need-is_word-requires-2
 is-word-requires-2 c κs = search rules
 
 returns-2 : tie.Need-returns-then-is_word-2
-returns-2 c = λ from. decides_no (λ w. w.1 ((c.before.is_word-2.ensures from).holds c.if-is_word-2.true))
+returns-2 c = λ from. decides_no (λ w. w.1 ((c.is_word-2.ensures from).holds c.if-is_word-2.true))
 
 returns-3 : tie.Need-returns
 returns-3 c =
-    let z = c.before.before.before in
-    λ from. decides_yes ((z.before.is_IsWord.ensures from).fails z.if-is_word.false, (c.before.is_word-2.ensures from).fails c.if-is_word-2.false)
+    let z = c in
+    λ from. decides_yes ((z.is_IsWord.ensures from).fails z.if-is_word.false, (c.is_word-2.ensures from).fails c.if-is_word-2.false)
 
 pub is_no_heading_spec : {M : Type 1} → statement M
 is_no_heading_spec =

@@ -24,7 +24,7 @@ same-requires c κs = search rules
 
 returns : tie.Need-returns
 returns c =
-    let z = c.before.before in
+    let z = c in
     λ from.
     let word = ap (λ (q : Part). q.bytes) (z.field-first.ensures from).is in
     let s = c.same.ensures in

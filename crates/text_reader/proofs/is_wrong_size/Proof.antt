@@ -10,7 +10,7 @@ returns c = decides_yes (λ w. let z : ⊥ = omega (arith, w.0) in z)
 
 returns-2 : tie.Need-returns
 returns-2 c =
-    let x = c.before.args.elements in
+    let x = c.args.elements in
     record {
       holds = λ e w. let z : ⊥ = omega (arith, ltb-true 32 x e, w.1) in z;
       fails = λ e h. h (omega arith, omega (arith, ltb-false 32 x e));

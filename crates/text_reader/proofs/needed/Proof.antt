@@ -7,11 +7,11 @@ use Rattle.text_reader.proofs.needed.Tie as tie
 
 returns : tie.Need-returns-then-rings-eq-RINGS
 unfolding needed
-returns c = rw (eq-eqb c.before.args.rings max_rings c.if-rings-eq-RINGS.true)
+returns c = rw (eq-eqb c.args.rings max_rings c.if-rings-eq-RINGS.true)
 
 returns-2 : tie.Need-returns-else-rings-eq-RINGS
 unfolding needed
-returns-2 c = rw (ne_eqb c.before.args.rings max_rings c.if-rings-eq-RINGS.false)
+returns-2 c = rw (ne_eqb c.args.rings max_rings c.if-rings-eq-RINGS.false)
 
 pub needed_spec : {M : Type 1} → statement M
 needed_spec = tie.close (tie.spec returns returns-2)

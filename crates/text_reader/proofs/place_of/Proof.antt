@@ -10,11 +10,11 @@ field-requires c κs = search rules
 
 add-result : tie.Need-overflow_add-result
 add-result c =
-    let f = c.before.field.ensures 0 in
-    omega (arith, f.ordered, f.high, c.before.before.before.requires)
+    let f = c.field.ensures 0 in
+    omega (arith, f.ordered, f.high, c.requires)
 
 returns : tie.Need-returns
-returns c = field_start (c.before.field.ensures c.before.before.before.args.from)
+returns c = field_start (c.field.ensures c.args.from)
 
 pub place_of_spec : {M : Type 1} → statement M
 place_of_spec = tie.close (tie.spec field-requires add-result returns)

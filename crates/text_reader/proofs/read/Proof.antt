@@ -26,46 +26,46 @@ read-lines-requires c κs = search rules
 
 returns-2 : tie.Need-returns-then-found-ne0
 returns-2 c =
-    let l = c.before.before.before in
+    let l = c in
     read_refused _ _ (omega arith) l.read_lines-found.ensures c.if-found-ne0.true
 
 mul-size : tie.Need-overflow_mul-size
-mul-size c = omega (arith, c.before.before.before.before.read_lines-found.ensures.few c.before.if-found-ne0.false)
+mul-size c = omega (arith, c.read_lines-found.ensures.few c.if-found-ne0.false)
 
 refuse-text-requires-2 : tie.Need-refuse_text-requires-then-out-size
 refuse-text-requires-2 c κs = search rules
 
 returns-3 : tie.Need-returns-then-out-size
 returns-3 c =
-    let e = c.before.before.before in
-    let l = e.before.before.before in
+    let e = c in
+    let l = e in
     read_short _ _ (omega arith) l.read_lines-found.ensures e.if-found-ne0.false _ (omega arith) c.refuse_text-then-out-size.ensures
 
 -- the rows that were read have room
-few : (z : tie.Else-found-ne0) → z.before.before.before.read_lines-found.result.table.rows ≤ max_rows
-few z = z.before.before.before.read_lines-found.ensures.few z.if-found-ne0.false
+few : (z : tie.Else-found-ne0) → z.read_lines-found.result.table.rows ≤ max_rows
+few z = z.read_lines-found.ensures.few z.if-found-ne0.false
 
 array-share-prefix-numbers : tie.Need-slice_bounds-numbers-end
-array-share-prefix-numbers c = let l = c.before.before in omega (arith, few l, l.before.before.before.read_lines-found.ensures.same)
+array-share-prefix-numbers c = let l = c.before.before in omega (arith, few l, l.read_lines-found.ensures.same)
 
 slice-aggregate-put-front : tie.Need-slice_bounds-put_front-end
 slice-aggregate-put-front c =
     let l = c.before.before.before in
-    sym (length-take-le _ _ (omega (arith, few l, l.before.before.before.read_lines-found.ensures.same)))
+    sym (length-take-le _ _ (omega (arith, few l, l.read_lines-found.ensures.same)))
 
 put-front-requires : tie.Need-put_front-requires
-put-front-requires c κs = simp length-take (omega (arith, c.before.before.if-out-size.false))
+put-front-requires c κs = simp length-take (omega (arith, c.if-out-size.false))
 
 same_length : tie.Need-shape_of-out
 same_length c = search rules
 
 returns-4 : tie.Need-returns
 returns-4 c =
-    let p = c.before.before in
-    let s = p.before.before.before in
-    let e = s.before.before in
-    let l = e.before.before.before in
-    let was = l.before.before.before.before.before.args.out.now in
+    let p = c in
+    let s = p in
+    let e = s in
+    let l = e in
+    let was = l.args.out.now in
     read_done _ _ (omega arith) l.read_lines-found.ensures e.if-found-ne0.false _ (omega arith)
     (p.put_front.ensures ∙ ap (λ (xs : List ℕ). lent xs was) (front_of l.read_lines-found.ensures e.if-found-ne0.false))
 

@@ -23,8 +23,8 @@ part-heading-of-end c = omega (arith, c.next_line-first.ensures.high)
 
 heading-of-requires : tie.Need-heading_of-heading-requires
 heading-of-requires c κs =
-    let n = c.before in
-    let z = n.before.before.before in
+    let n = c in
+    let z = n in
     let l = n.next_line-first.result in
     omega (
       arith,
@@ -39,19 +39,19 @@ refuse-text-requires c κs = search rules
 
 returns : tie.Need-returns-then-heading-ne0
 returns c =
-    let h = c.before.before.before in
-    let n = h.before.before in
-    lines_heading _ _ _ _ _ _ c.before.if-heading-ne0.true (here n.next_line-first.ensures h.heading_of-heading.ensures) c.refuse_text.ensures refl
+    let h = c in
+    let n = h in
+    lines_heading _ _ _ _ _ _ c.if-heading-ne0.true (here n.next_line-first.ensures h.heading_of-heading.ensures) c.refuse_text.ensures refl
 
 cast-elements : tie.Need-overflow_cast-elements
 cast-elements c = search rules
 
 read-rows-requires : tie.Need-read_rows-found-requires
 read-rows-requires c κs =
-    let e = c.before.before in
-    let h = e.before.before in
-    let n = h.before.before in
-    let z = n.before.before.before in (
+    let e = c in
+    let h = e in
+    let n = h in
+    let z = n in (
       z.requires.0,
       rest n.next_line-first.ensures h.heading_of-heading.ensures e.if-heading-ne0.false,
       rings_are n.next_line-first.ensures h.heading_of-heading.ensures e.if-heading-ne0.false,
@@ -67,12 +67,12 @@ same_length c = search rules
 
 returns-2 : tie.Need-returns-then-found-ne0
 returns-2 c =
-    let r = c.before.before.before.before.before in
-    let e = r.before.before.before in
-    let h = e.before.before in
-    let n = h.before.before in
+    let r = c in
+    let e = r in
+    let h = e in
+    let n = h in
     lines_rows _ _ _ (heading_passes n.next_line-first.ensures h.heading_of-heading.ensures e.if-heading-ne0.false) r.read_rows-found.ensures _
-    c.before.if-found-ne0.true c.refuse_text-then-found-ne0.ensures
+    c.if-found-ne0.true c.refuse_text-then-found-ne0.ensures
 
 refuse-text-requires-3 : tie.Need-refuse_text-requires-then-found-eq0
 refuse-text-requires-3 c κs = search rules
@@ -82,13 +82,13 @@ same-length-2 c = search rules
 
 returns-3 : tie.Need-returns-then-found-eq0
 returns-3 c =
-    let f = c.before.before.before in
-    let r = f.before.before.before.before in
-    let e = r.before.before.before in
-    let h = e.before.before in
-    let n = h.before.before in
+    let f = c in
+    let r = f in
+    let e = r in
+    let h = e in
+    let n = h in
     lines_empty _ _ _ (heading_passes n.next_line-first.ensures h.heading_of-heading.ensures e.if-heading-ne0.false) r.read_rows-found.ensures
-    f.if-found-ne0.false _ c.before.if-found-eq0.true c.refuse_text-then-found-eq0.ensures
+    f.if-found-ne0.false _ c.if-found-eq0.true c.refuse_text-then-found-eq0.ensures
 
 array-read-t21 : tie.Need-bounds-0
 array-read-t21 c = search rules
@@ -107,14 +107,14 @@ same-length-3 c = search rules
 
 returns-4 : tie.Need-returns
 returns-4 c =
-    let m = c.before in
-    let f = m.before.before.before in
-    let r = f.before.before.before.before in
-    let e = r.before.before.before in
-    let h = e.before.before in
-    let n = h.before.before in
+    let m = c in
+    let f = m in
+    let r = f in
+    let e = r in
+    let h = e in
+    let n = h in
     lines_done _ _ _ (heading_passes n.next_line-first.ensures h.heading_of-heading.ensures e.if-heading-ne0.false) r.read_rows-found.ensures
-    f.if-found-ne0.false _ _ _ _ m.before.if-found-eq0.false (rings_are n.next_line-first.ensures h.heading_of-heading.ensures e.if-heading-ne0.false)
+    f.if-found-ne0.false _ _ _ _ m.if-found-eq0.false (rings_are n.next_line-first.ensures h.heading_of-heading.ensures e.if-heading-ne0.false)
     (elements_are n.next_line-first.ensures h.heading_of-heading.ensures e.if-heading-ne0.false) m.mark_byte.ensures c.version_for.ensures
 
 pub read_lines_spec : {M : Type 1} → statement M

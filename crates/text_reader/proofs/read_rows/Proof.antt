@@ -15,65 +15,65 @@ abbrev decreases-loop : tie.decreases-loop-line
 decreases-loop text from rings elements numbers₀ labelled₀ i₀ line₀ numbers labelled i line = max_rows + 1 - i
 
 next-line-requires : tie.Need-next_line-line-requires invariant-loop decreases-loop
-next-line-requires c κs = c.before.before.requires.1.inside
+next-line-requires c κs = c.requires.1.inside
 
 loop-holds : tie.Need-loop-line-init invariant-loop decreases-loop
 loop-holds c =
-    let z = c.before.before.before in
+    let z = c in
     reading_start _ z.requires.1 c.next_line-line.ensures
 
 sub-row-at : tie.Need-slice_bounds-row_at-count invariant-loop decreases-loop
-sub-row-at c = omega (arith, c.before.before.loop-line.invariant.next.ordered)
+sub-row-at c = omega (arith, c.loop-line.invariant.next.ordered)
 
 part-row-at-start : tie.Need-slice_bounds-row_at-start invariant-loop decreases-loop
-part-row-at-start c = omega (arith, c.before.before.loop-line.invariant.next.ordered)
+part-row-at-start c = omega (arith, c.loop-line.invariant.next.ordered)
 
 part-row-at-end : tie.Need-slice_bounds-row_at-end invariant-loop decreases-loop
-part-row-at-end c = omega (arith, c.before.before.loop-line.invariant.next.high)
+part-row-at-end c = omega (arith, c.loop-line.invariant.next.high)
 
 row-at-requires : tie.Need-row_at-found-requires invariant-loop decreases-loop
 row-at-requires c κs =
-    let u = c.before.before.before in
-    let z = u.before.before.before.before in
+    let u = c in
+    let z = u in
     let n = u.loop-line.invariant.next in
     let l = u.loop-line.line in
     omega (arith, n.ordered, n.high, z.requires.0, length-take (l.end - l.start) (drop l.start z.args.text.now))
 
 same_length : tie.Need-shape_of-numbers-then-found-ne0 invariant-loop decreases-loop
-same_length c = c.before.before.before.before.before.before.loop-line.invariant.filled.same
+same_length c = c.loop-line.invariant.filled.same
 
 returns : tie.Need-returns-then-found-ne0 invariant-loop decreases-loop
 returns c =
-    let r = c.before.before in
-    let t = r.before.before in
-    let u = t.before.before in
-    let z = u.before.before.before.before in
+    let r = c in
+    let t = r in
+    let u = t in
+    let z = u in
     reading_refused _ _ _ _ _ c.if-found-ne0.true
     (reading_stop u.loop-line.invariant t.loop-line-test.true (rw (z.requires.2, z.requires.3) at r.row_at-found.ensures) c.if-found-ne0.true)
     u.loop-line.invariant.filled.same
 
 mul-put-numbers : tie.Need-overflow_mul-i invariant-loop decreases-loop
-mul-put-numbers c = omega (arith, c.before.before.before.before.before.before.loop-line.invariant.few)
+mul-put-numbers c = omega (arith, c.loop-line.invariant.few)
 
 put-numbers-requires : tie.Need-put_numbers-requires invariant-loop decreases-loop
 put-numbers-requires c κs =
-    let e = c.before in
-    let r = e.before.before in
-    let u = r.before.before.before.before in
-    let z = u.before.before.before.before in
+    let e = c in
+    let r = e in
+    let u = r in
+    let z = u in
     omega (arith, r.row_at-found.ensures.few e.if-found-ne0.false, u.loop-line.invariant.filled.same, z.requires.4)
 
 sub-has-field : tie.Need-slice_bounds-has_field-count invariant-loop decreases-loop
-sub-has-field c = omega (arith, c.before.before.before.before.before.before.before.before.before.before.loop-line.invariant.next.ordered)
+sub-has-field c = omega (arith, c.loop-line.invariant.next.ordered)
 
 part-has-field-start : tie.Need-slice_bounds-has_field-start invariant-loop decreases-loop
 part-has-field-start c =
-    let u = c.before.before.before.before.before.before.before.before.before.before in
+    let u = c in
     omega (arith, u.loop-line.invariant.next.ordered)
 
 part-has-field-end : tie.Need-slice_bounds-has_field-end invariant-loop decreases-loop
 part-has-field-end c =
-    let u = c.before.before.before.before.before.before.before.before.before.before in
+    let u = c in
     omega (arith, u.loop-line.invariant.next.high)
 
 has-field-requires : tie.Need-has_field-requires invariant-loop decreases-loop
@@ -84,37 +84,37 @@ either-requires c κs = search rules
 
 add-i : tie.Need-overflow_add-i invariant-loop decreases-loop
 add-i c =
-    let u = c.before.before.before.before.before.before.before.before.before.before.before.before.before in
+    let u = c in
     omega (arith, u.loop-line.invariant.few)
 
 next-line-requires-2 : tie.Need-next_line-line-requires-in-loop-line invariant-loop decreases-loop
 next-line-requires-2 c κs =
-    let u = c.before.before.before.before.before.before.before.before.before.before.before.before.before in
+    let u = c in
     u.loop-line.invariant.next.past
 
 loop-less : tie.Need-loop-line-smaller invariant-loop decreases-loop
 loop-less c =
-    let r = c.before.before.before.before.before.before.before.before.before.before in
-    let e = c.before.before.before.before.before.before.before.before in
+    let r = c in
+    let e = c in
     omega (arith, r.row_at-found.ensures.few e.if-found-ne0.false)
 
 loop-again : tie.Need-loop-line-preserved invariant-loop decreases-loop
 loop-again c =
-    let h = c.before.before in
-    let p = h.before.before.before.before in
-    let e = p.before.before in
-    let r = e.before.before in
-    let t = r.before.before in
-    let u = t.before.before in
-    let z = u.before.before.before.before in
+    let h = c in
+    let p = h in
+    let e = p in
+    let r = e in
+    let t = r in
+    let u = t in
+    let z = u in
     reading_next u.loop-line.invariant t.loop-line-test.true (rw (z.requires.2, z.requires.3) at r.row_at-found.ensures) e.if-found-ne0.false _ _ _ _ z.requires.4
-    p.put_numbers.ensures (h.has_field.ensures u.loop-line.line.start) c.before.either-labelled.ensures c.next_line-line-in-loop-line.ensures
+    p.put_numbers.ensures (h.has_field.ensures u.loop-line.line.start) c.either-labelled.ensures c.next_line-line-in-loop-line.ensures
 
 same-length-2 : tie.Need-shape_of-numbers invariant-loop decreases-loop
-same-length-2 c = c.before.before.loop-line.invariant.filled.same
+same-length-2 c = c.loop-line.invariant.filled.same
 
 returns-2 : tie.Need-returns invariant-loop decreases-loop
-returns-2 c = reading_end c.before.before.loop-line.invariant (omega arith)
+returns-2 c = reading_end c.loop-line.invariant (omega arith)
 
 pub read_rows_spec : {M : Type 1} → statement M
 read_rows_spec =

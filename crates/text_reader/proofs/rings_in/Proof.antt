@@ -12,25 +12,25 @@ field-requires c κs = search rules
 
 returns : tie.Need-returns-then-start-word
 unfolding rings_in
-returns c = λ from. rw (first_none (c.before.before.field-word.ensures from) c.if-start-word.true)
+returns c = λ from. rw (first_none (c.field-word.ensures from) c.if-start-word.true)
 
 shared-slice-read-if2 : tie.Need-bounds-line-start
 shared-slice-read-if2 c =
-    let f = c.before.before.before.field-word.ensures 0 in
+    let f = c.field-word.ensures 0 in
     omega (arith, f.ordered, f.high)
 
 returns-2 : tie.Need-returns-then-line-start-eq98
 unfolding rings_in
 returns-2 c =
-    let e = c.before.before in
-    let f = e.before.before.field-word.ensures in
+    let e = c in
+    let f = e.field-word.ensures in
     λ from. rw (first_byte (f from) (omega (arith, (f 0).ordered, e.if-start-word.false)), eq-eqb _ _ c.if-line-start-eq98.true)
 
 returns-3 : tie.Need-returns
 unfolding rings_in
 returns-3 c =
-    let e = c.before.before in
-    let f = e.before.before.field-word.ensures in
+    let e = c in
+    let f = e.field-word.ensures in
     λ from. rw (first_byte (f from) (omega (arith, (f 0).ordered, e.if-start-word.false)), ne_eqb _ _ c.if-line-start-eq98.false)
 
 pub rings_in_spec : {M : Type 1} → statement M

@@ -16,9 +16,9 @@ refuse-row-requires c κs = search rules
 returns : tie.Need-returns-then-i-ge-ROWS
 returns c =
     let e = c.refuse_row.ensures in
-    let p = c.before in
+    let p = c in
     record {
-      answers = row_many _ _ _ _ _ _ p.before.if-i-ge-ROWS.true e.0 (e.1 ∙ p.place_of.ensures);
+      answers = row_many _ _ _ _ _ _ p.if-i-ge-ROWS.true e.0 (e.1 ∙ p.place_of.ensures);
       row = λ z. absurd (let y : ⊥ = omega (arith, e.0, z) in y);
       few = λ z. absurd (let y : ⊥ = omega (arith, e.0, z) in y);
     }
@@ -28,7 +28,7 @@ form-of-requires c κs = search rules
 
 returns-2 : tie.Need-returns-then-form-ne0
 returns-2 c =
-    let f = c.before.before in
+    let f = c in
     record {
       answers = row_form _ _ _ _ (omega arith) _ _ c.if-form-ne0.true f.form_of-form.ensures.answers;
       row = f.form_of-form.ensures.row;
@@ -37,8 +37,8 @@ returns-2 c =
 
 value-fault-requires : tie.Need-value_fault-fault-requires
 value-fault-requires c κs =
-    let f = c.before.before in
-    (f.before.before.before.requires, f.form_of-form.ensures.row c.if-form-ne0.false)
+    let f = c in
+    (f.requires, f.form_of-form.ensures.row c.if-form-ne0.false)
 
 refuse-row-requires-2 : tie.Need-refuse_row-requires-then-fault-ne0
 refuse-row-requires-2 c κs = search rules
@@ -46,14 +46,14 @@ refuse-row-requires-2 c κs = search rules
 returns-3 : tie.Need-returns-then-fault-ne0
 returns-3 c =
     let e = c.refuse_row-then-fault-ne0.ensures in
-    let h = c.before.if-fault-ne0.true in
-    let v = c.before.before.before in
-    let f = v.before.before.before in
+    let h = c.if-fault-ne0.true in
+    let v = c in
+    let f = v in
     record {
       answers =
           rw (e.0, e.1)
           (row_values _ _ _ _ (omega arith) _ _
-          (none_of _ _ (form_numbered _ _) (rw v.before.if-form-ne0.false at f.form_of-form.ensures.answers))
+          (none_of _ _ (form_numbered _ _) (rw v.if-form-ne0.false at f.form_of-form.ensures.answers))
           v.value_fault-fault.ensures);
       row = λ z. absurd (h (sym e.0 ∙ z));
       few = λ z. omega arith;
@@ -61,11 +61,11 @@ returns-3 c =
 
 returns-4 : tie.Need-returns
 returns-4 c =
-    let v = c.before.before in
-    let f = v.before.before.before in
+    let v = c in
+    let f = v in
     record {
       answers =
-          row_done _ _ _ _ _ _ _ _ (omega arith) v.before.if-form-ne0.false f.form_of-form.ensures.answers c.if-fault-ne0.false
+          row_done _ _ _ _ _ _ _ _ (omega arith) v.if-form-ne0.false f.form_of-form.ensures.answers c.if-fault-ne0.false
           v.value_fault-fault.ensures;
       row = f.form_of-form.ensures.row;
       few = λ z. omega arith;

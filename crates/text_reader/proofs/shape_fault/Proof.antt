@@ -14,9 +14,9 @@ place-of-requires c κs = search rules
 
 returns : tie.Need-returns-then-not-has_field
 returns c =
-    let h = c.before.before in
-    let from = h.before.before.args.from in
-    shape_missing _ _ _ _ refl c.place_of.ensures (denied (h.has_field.ensures from) c.before.if-not-has_field.true)
+    let h = c in
+    let from = h.args.from in
+    shape_missing _ _ _ _ refl c.place_of.ensures (denied (h.has_field.ensures from) c.if-not-has_field.true)
 
 has-field-requires-2 : tie.Need-has_field-requires-2
 has-field-requires-2 c κs = search rules
@@ -26,18 +26,18 @@ place-of-requires-2 c κs = search rules
 
 returns-2 : tie.Need-returns-then-has_field
 returns-2 c =
-    let s = c.before.before in
-    let h = s.before.before in
-    let from = h.before.before.args.from in
-    shape_spare _ _ _ _ refl c.place_of-then-has_field.ensures (granted (h.has_field.ensures from) s.before.if-not-has_field.false)
-    ((s.has_field-2.ensures from).holds c.before.if-has_field.true)
+    let s = c in
+    let h = s in
+    let from = h.args.from in
+    shape_spare _ _ _ _ refl c.place_of-then-has_field.ensures (granted (h.has_field.ensures from) s.if-not-has_field.false)
+    ((s.has_field-2.ensures from).holds c.if-has_field.true)
 
 returns-3 : tie.Need-returns
 returns-3 c =
-    let s = c.before in
-    let h = s.before.before in
-    let from = h.before.before.args.from in
-    shape_right _ _ (granted (h.has_field.ensures from) s.before.if-not-has_field.false) ((s.has_field-2.ensures from).fails c.if-has_field.false)
+    let s = c in
+    let h = s in
+    let from = h.args.from in
+    shape_right _ _ (granted (h.has_field.ensures from) s.if-not-has_field.false) ((s.has_field-2.ensures from).fails c.if-has_field.false)
 
 pub shape_fault_spec : {M : Type 1} → statement M
 shape_fault_spec =

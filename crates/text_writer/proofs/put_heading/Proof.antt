@@ -22,9 +22,9 @@ same_length c = search rules
 returns : tie.Need-returns-then-rings-eq-RINGS
 unfolding head_line
 returns c =
-    let p = c.before.before.put_line.ensures in
-    let z = c.before.before.before.before.before.before in
-    rw (eq-eqb z.before.before.args.rings max_rings z.if-rings-eq-RINGS.true) (p.0, omega (arith, p.1))
+    let p = c.put_line.ensures in
+    let z = c in
+    rw (eq-eqb z.args.rings max_rings z.if-rings-eq-RINGS.true) (p.0, omega (arith, p.1))
 
 slice-aggregate-put-line-3 : tie.Need-slice-aggregate-put-line-3
 slice-aggregate-put-line-3 c = search rules
@@ -41,9 +41,9 @@ same-length-2 c = search rules
 returns-2 : tie.Need-returns
 unfolding head_line
 returns-2 c =
-    let p = c.before.before.put_line-2.ensures in
-    let z = c.before.before.before.before.before.before in
-    rw (ne_eqb z.before.before.args.rings max_rings z.if-rings-eq-RINGS.false) (p.0, omega (arith, p.1))
+    let p = c.put_line-2.ensures in
+    let z = c in
+    rw (ne_eqb z.args.rings max_rings z.if-rings-eq-RINGS.false) (p.0, omega (arith, p.1))
 
 pub put_heading_spec : {M : Type 1} → statement M
 put_heading_spec =

@@ -21,9 +21,9 @@ same_length c = search rules
 returns : tie.Need-returns-then-rings-eq-RINGS
 unfolding note each
 returns c =
-    let p = c.before.before.put_bytes.ensures in
-    let z = c.before.before.before.before.before in
-    rw (eq-eqb z.before.before.args.rings max_rings z.if-rings-eq-RINGS.true) (p, omega (arith, p.after))
+    let p = c.put_bytes.ensures in
+    let z = c in
+    rw (eq-eqb z.args.rings max_rings z.if-rings-eq-RINGS.true) (p, omega (arith, p.after))
 
 slice-aggregate-put-bytes-2 : tie.Need-slice-aggregate-put-bytes-2
 slice-aggregate-put-bytes-2 c = search rules
@@ -37,10 +37,10 @@ same-length-2 c = search rules
 returns-2 : tie.Need-returns-then-version-eq-VERSION_2
 unfolding note each
 returns-2 c =
-    let p = c.before.before.put_bytes-then-version-eq-VERSION_2.ensures in
-    let y = c.before.before.before.before.before in
-    let z = y.before in
-    let a = z.before.before.args in
+    let p = c.put_bytes-then-version-eq-VERSION_2.ensures in
+    let y = c in
+    let z = y in
+    let a = z.args in
     rw (ne_eqb a.rings max_rings z.if-rings-eq-RINGS.false, eq-eqb a.version version_2 y.if-version-eq-VERSION_2.true) (p, omega (arith, p.after))
 
 slice-aggregate-put-bytes-3 : tie.Need-slice-aggregate-put-bytes-3
@@ -55,10 +55,10 @@ same-length-3 c = search rules
 returns-3 : tie.Need-returns
 unfolding note each
 returns-3 c =
-    let p = c.before.before.put_bytes-2.ensures in
-    let y = c.before.before.before.before.before in
-    let z = y.before in
-    let a = z.before.before.args in
+    let p = c.put_bytes-2.ensures in
+    let y = c in
+    let z = y in
+    let a = z.args in
     rw (ne_eqb a.rings max_rings z.if-rings-eq-RINGS.false, ne_eqb a.version version_2 y.if-version-eq-VERSION_2.false) (p, omega (arith, p.after))
 
 pub put_note_spec : {M : Type 1} → statement M

@@ -22,7 +22,7 @@ decreases-loop rings version numbers rows out₀ at next₀ i₀ out next i = ro
 
 loop-holds : tie.Need-loop-i-init invariant-loop decreases-loop
 loop-holds c =
-    let a = c.before.before.args in
+    let a = c.args in
     (omega arith, lines_none (λ k. row_line a.version (memory_labelled_with a.rings 0 a.rows a.numbers.now) k ∷ []) _ _)
 
 row-of-requires : tie.Need-row_of-requires invariant-loop decreases-loop
@@ -39,10 +39,10 @@ loop-less c = omega arith
 
 loop-again : tie.Need-loop-i-preserved invariant-loop decreases-loop
 loop-again c =
-    let p = c.before.before in
-    let y = p.before.before in
-    let u = y.before.before in
-    let a = u.before.before.before.args in
+    let p = c in
+    let y = p in
+    let u = y in
+    let a = u.args in
     let i = u.loop-i.i in (
       omega arith,
       lines_next (λ k. row_line a.version (memory_labelled_with a.rings 0 a.rows a.numbers.now) k ∷ []) i u.loop-i.invariant.1 _
@@ -52,13 +52,13 @@ loop-again c =
     )
 
 same_length : tie.Need-shape_of-out invariant-loop decreases-loop
-same_length c = c.before.loop-i.invariant.1.0.same
+same_length c = c.loop-i.invariant.1.0.same
 
 returns : tie.Need-returns invariant-loop decreases-loop
 returns c =
-    let e : c.before.loop-i.i ≡ c.before.before.before.before.args.rows = omega arith in
-    let a = c.before.before.before.before.args in
-    rw e at c.before.loop-i.invariant.1
+    let e : c.loop-i.i ≡ c.args.rows = omega arith in
+    let a = c.args in
+    rw e at c.loop-i.invariant.1
 
 pub put_rows_spec : {M : Type 1} → statement M
 put_rows_spec =

@@ -21,18 +21,18 @@ refuse-write-requires c κs = search rules
 
 returns : tie.Need-returns-then-is_no_mark
 returns c =
-    let z = c.before.before in
+    let z = c in
     let e = c.refuse_write.ensures in
-    let w = c.before.at.ensures in
+    let w = c.at.ensures in
     rw (ap (λ (w : Answer). w.number) e.0, ap (λ (w : Answer). w.place) e.0, w.0, w.1, e.1)
-    (mark_refused _ _ _ _ _ _ (z.before.is_no_mark.ensures.holds z.if-is_no_mark.true))
+    (mark_refused _ _ _ _ _ _ (z.is_no_mark.ensures.holds z.if-is_no_mark.true))
 
 rings-of-requires : tie.Need-rings_of-requires
 rings-of-requires c κs =
-    let m = c.before.before.before.before.before.args.mark.now in
+    let m = c.args.mark.now in
     ⊎_elim (λ l. l)
     (λ l.
-    absurd (c.before.is_no_mark.ensures.fails c.if-is_no_mark.false
+    absurd (c.is_no_mark.ensures.fails c.if-is_no_mark.false
     ((λ e. let z : length m ≡ 3 = ap length e in omega (arith, l, z)), (λ e. let z : length m ≡ 3 = ap length e in omega (arith, l, z)))))
     (le_or_lt 3 (length m))
 
@@ -44,10 +44,10 @@ same_length c = search rules
 
 returns-2 : tie.Need-returns
 returns-2 c =
-    let w = c.before.before in
-    let r = w.before.before in
-    let z = r.before in
-    mark_known _ _ _ _ _ _ _ _ _ _ (z.before.is_no_mark.ensures.fails z.if-is_no_mark.false)
+    let w = c in
+    let r = w in
+    let z = r in
+    mark_known _ _ _ _ _ _ _ _ _ _ (z.is_no_mark.ensures.fails z.if-is_no_mark.false)
     (rw r.rings_of.ensures at w.write_with.ensures)
 
 pub write_spec : {M : Type 1} → statement M

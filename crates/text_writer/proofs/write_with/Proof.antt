@@ -16,13 +16,13 @@ use Rattle.text_writer.proofs.write_with.Tie as tie
 
 -- the slice has passed
 none : (z : tie.Else-answer-ne-DONE)
-    → let a = z.before.before.before.before.before.args in
+    → let a = z.args in
     None (version_checks a.rings a.version a.elements a.rows a.numbers.now)
-none z = none_of _ _ (version_numbered _ _ _ _ _) (rw z.if-answer-ne-DONE.false at z.before.before.check_version-answer.ensures)
+none z = none_of _ _ (version_numbered _ _ _ _ _) (rw z.if-answer-ne-DONE.false at z.check_version-answer.ensures)
 
 -- and holds its rows
 rows : (z : tie.Else-answer-ne-DONE)
-    → let a = z.before.before.before.before.before.args in
+    → let a = z.args in
     (a.rows ≤ max_rows) × (row_numbers * a.rows ≤ length a.numbers.now)
 rows z = let s = memory_sizes _ _ _ _ (version_known _ _ _ _ _ (none z)).1 in (s.0, omega (arith, s.1))
 
@@ -34,10 +34,10 @@ refuse-write-requires c κs = search rules
 
 returns : tie.Need-returns-then-answer-ne-DONE
 returns c =
-    let v = c.before.before.before in
+    let v = c in
     let e = c.refuse_write.ensures in
     rw (ap (λ (w : Answer). w.number) e.0, ap (λ (w : Answer). w.place) e.0, e.1)
-    (write_refused _ _ _ _ _ _ _ _ v.check_version-answer.ensures c.before.if-answer-ne-DONE.true)
+    (write_refused _ _ _ _ _ _ _ _ v.check_version-answer.ensures c.if-answer-ne-DONE.true)
 
 text-size-requires : tie.Need-text_size-size-requires
 text-size-requires c κs = rows c
@@ -50,11 +50,11 @@ refuse-write-requires-2 c κs = search rules
 
 returns-2 : tie.Need-returns-then-out-size
 returns-2 c =
-    let t = c.before.before.before in
+    let t = c in
     let e = c.refuse_write-then-out-size.ensures in
-    let w = c.before.at.ensures in
+    let w = c.at.ensures in
     rw (ap (λ (w : Answer). w.number) e.0, ap (λ (w : Answer). w.place) e.0, w.0, w.1, e.1)
-    (write_short _ _ _ _ _ _ (none t.before) (omega (arith, t.text_size-size.ensures, c.before.before.if-out-size.true)))
+    (write_short _ _ _ _ _ _ (none t.before.before.before.before) (omega (arith, t.text_size-size.ensures, c.if-out-size.true)))
 
 put-text-requires : tie.Need-put_text-requires
 put-text-requires c κs = rows c.before.before.before
@@ -64,11 +64,11 @@ same_length c = search rules
 
 returns-3 : tie.Need-returns
 returns-3 c =
-    let p = c.before.before in
-    let o = p.before.before in
-    let t = o.before in
-    let z = t.before in
-    write_done _ _ _ _ _ _ _ _ _ _ z.before.before.check_version-answer.ensures z.if-answer-ne-DONE.false
+    let p = c in
+    let o = p in
+    let t = o in
+    let z = t in
+    write_done _ _ _ _ _ _ _ _ _ _ z.check_version-answer.ensures z.if-answer-ne-DONE.false
     (λ l. let q : ⊥ = omega (arith, t.text_size-size.ensures, o.if-out-size.false) in q)
     (put_front p.put_text.ensures (omega (arith, t.text_size-size.ensures, o.if-out-size.false))) t.text_size-size.ensures
 

@@ -12,7 +12,7 @@ use Rattle.time.proofs.end_of.Tie as tie
 
 add-result : tie.Need-overflow_add-result
 add-result c =
-    let z = c.before in
+    let z = c in
     let P = z.requires.0 in
     record {
       fits = omega (
@@ -24,10 +24,10 @@ add-result c =
     }
 
 returns : tie.Need-returns-then-even
-returns c t k h M B = let z = c.before in even_is M (of_true (sym z.requires.1 ∙ c.if-even.true)) B
+returns c t k h M B = let z = c in even_is M (of_true (sym z.requires.1 ∙ c.if-even.true)) B
 
 multiple-past-requires : tie.Need-multiple_past-requires
-multiple-past-requires c κs = let P = c.before.requires.0 in past_fits P.3 P.4
+multiple-past-requires c κs = let P = c.requires.0 in past_fits P.3 P.4
 
 returns-2 : tie.Need-returns
 returns-2 c t k h M B = past_is M B c.multiple_past.ensures

@@ -24,10 +24,10 @@ slots-at-requires c κs = omega arith
 
 returns : tie.Need-returns-then-slots_at-interval invariant-loop decreases-loop
 returns c =
-    let u = c.before.before.before in
-    let a = u.before.args in
+    let u = c in
+    let a = u.args in
     sym (is_true _ (any_of a.count (λ k. eqb (at a.period.now k) a.interval) u.loop-k.k (omega arith)
-    (eqb_of (at a.period.now u.loop-k.k) a.interval (sym c.before.slots_at.ensures ∙ c.if-slots_at-interval.true))))
+    (eqb_of (at a.period.now u.loop-k.k) a.interval (sym c.slots_at.ensures ∙ c.if-slots_at-interval.true))))
 
 add-k : tie.Need-overflow_add-k invariant-loop decreases-loop
 add-k c = omega arith
@@ -37,15 +37,15 @@ loop-less c = omega arith
 
 loop-again : tie.Need-loop-k-preserved invariant-loop decreases-loop
 loop-again c =
-    let u = c.before.before.before in
-    let a = u.before.args in
+    let u = c in
+    let a = u.args in
     sought_next u.loop-k.invariant (omega arith)
-    (ne_eqb (at a.period.now u.loop-k.k) a.interval (rw c.before.slots_at.ensures at c.if-slots_at-interval.false))
+    (ne_eqb (at a.period.now u.loop-k.k) a.interval (rw c.slots_at.ensures at c.if-slots_at-interval.false))
 
 returns-2 : tie.Need-returns invariant-loop decreases-loop
 returns-2 c =
-    let u = c.before in
-    let a = u.before.args in
+    let u = c in
+    let a = u.args in
     sym (any_none a.count (λ k. eqb (at a.period.now k) a.interval) (λ k l. u.loop-k.invariant.none k (omega arith)))
 
 pub has_shortest_spec : {M : Type 1} → statement M

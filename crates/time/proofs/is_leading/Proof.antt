@@ -20,19 +20,19 @@ loop-holds : tie.Need-loop-k-init invariant-loop decreases-loop
 loop-holds c = sought_start
 
 slots-at-requires : tie.Need-slots_at-requires invariant-loop decreases-loop
-slots-at-requires c κs = omega (arith, c.before.before.requires.0)
+slots-at-requires c κs = omega (arith, c.requires.0)
 
 rem-if1 : tie.Need-nonzero_rem-next invariant-loop decreases-loop
 rem-if1 c =
-    let u = c.before.before in
-    omega (arith, c.slots_at.ensures, u.before.requires.1 u.loop-k.k (omega arith))
+    let u = c in
+    omega (arith, c.slots_at.ensures, u.requires.1 u.loop-k.k (omega arith))
 
 returns : tie.Need-returns-then-next-slots_at-eq0 invariant-loop decreases-loop
 returns c =
-    let u = c.before.before.before in
-    let a = u.before.args in
+    let u = c in
+    let a = u.args in
     divided a.count (at a.kept.now) a.next u.loop-k.k (omega arith)
-    (dvd_of_mod-eq-zero _ (rw c.before.slots_at.ensures at c.if-next-slots_at-eq0.true))
+    (dvd_of_mod-eq-zero _ (rw c.slots_at.ensures at c.if-next-slots_at-eq0.true))
 
 add-k : tie.Need-overflow_add-k invariant-loop decreases-loop
 add-k c = omega arith
@@ -42,15 +42,15 @@ loop-less c = omega arith
 
 loop-again : tie.Need-loop-k-preserved invariant-loop decreases-loop
 loop-again c =
-    let u = c.before.before.before in
-    let a = u.before.args in
+    let u = c in
+    let a = u.args in
     sought_next u.loop-k.invariant (omega arith)
-    (ne_eqb (a.next % at a.kept.now u.loop-k.k) 0 (rw c.before.slots_at.ensures at c.if-next-slots_at-eq0.false))
+    (ne_eqb (a.next % at a.kept.now u.loop-k.k) 0 (rw c.slots_at.ensures at c.if-next-slots_at-eq0.false))
 
 returns-2 : tie.Need-returns invariant-loop decreases-loop
 returns-2 c =
-    let u = c.before in
-    let a = u.before.args in
+    let u = c in
+    let a = u.args in
     undivided a.count (at a.kept.now) a.next (λ k l. u.loop-k.invariant.none k (omega arith))
 
 pub is_leading_spec : {M : Type 1} → statement M

@@ -22,7 +22,7 @@ loop-holds : tie.Need-loop-j-init invariant-loop decreases-loop
 loop-holds c = (omega arith, λ n P N l. N)
 
 slots-at-requires-2 : tie.Need-slots_at-requires invariant-loop decreases-loop
-slots-at-requires-2 c κs = let z = c.before.before.before in omega (arith, z.requires.1.few, z.requires.3)
+slots-at-requires-2 c κs = let z = c in omega (arith, z.requires.1.few, z.requires.3)
 
 gcd-of-requires : tie.Need-gcd_of-requires invariant-loop decreases-loop
 gcd-of-requires c κs = search rules
@@ -38,17 +38,17 @@ loop-less c = omega arith
 
 loop-again : tie.Need-loop-j-preserved invariant-loop decreases-loop
 loop-again c =
-    let u = c.before.before.before.before in (
+    let u = c in (
       omega arith,
       λ n P N l.
           rw c.lower-least.ensures
           (nearing_next P (u.loop-j.invariant.1 n P N l) l (omega arith)
-          (rw (u.before.slots_at-own.ensures, c.before.before.slots_at.ensures) at c.before.gcd_of.ensures)),
+          (rw (u.slots_at-own.ensures, c.slots_at-own.ensures) at c.gcd_of.ensures)),
     )
 
 returns : tie.Need-returns invariant-loop decreases-loop
 returns c n P N l =
-    let u = c.before in
+    let u = c in
     nearing_row P (u.loop-j.invariant.1 n P N l) l (omega arith)
 
 pub lowered_spec : {M : Type 1} → statement M

@@ -20,24 +20,24 @@ slots-at-requires c κs = omega arith
 
 after-requires : tie.Need-after-end-requires invariant-loop decreases-loop
 after-requires c κs =
-    let z = c.before in
+    let z = c in
     let P = z.requires.0 in
     let e = c.slots_at.ensures in
     (omega (arith, e, P.low 0 P.some), omega (arith, e, P.high 0 P.some), z.requires.1)
 
 loop-holds : tie.Need-loop-k-init invariant-loop decreases-loop
 loop-holds c =
-    let z = c.before.before in
+    let z = c in
     let P = z.requires.0 in
-    (P.some, rw (c.after-end.ensures, c.before.slots_at.ensures) (past_one _ z.args.slot (P.low 0 P.some)))
+    (P.some, rw (c.after-end.ensures, c.slots_at.ensures) (past_one _ z.args.slot (P.low 0 P.some)))
 
 slots-at-requires-2 : tie.Need-slots_at-requires-in-loop-k invariant-loop decreases-loop
-slots-at-requires-2 c κs = let z = c.before.before.before.before in omega (arith, z.requires.0.few)
+slots-at-requires-2 c κs = let z = c in omega (arith, z.requires.0.few)
 
 after-requires-2 : tie.Need-after-requires invariant-loop decreases-loop
 after-requires-2 c κs =
-    let u = c.before.before in
-    let z = u.before.before.before in
+    let u = c in
+    let z = u in
     let P = z.requires.0 in
     let e = c.slots_at-in-loop-k.ensures in
     (omega (arith, e, P.low u.loop-k.k (omega arith)), omega (arith, e, P.high u.loop-k.k (omega arith)), z.requires.1)
@@ -53,17 +53,17 @@ loop-less c = omega arith
 
 loop-again : tie.Need-loop-k-preserved invariant-loop decreases-loop
 loop-again c =
-    let u = c.before.before.before.before in
-    let z = u.before.before.before in (
+    let u = c in
+    let z = u in (
       omega arith,
-      rw (c.lower-end.ensures, c.before.after.ensures, c.before.before.slots_at-in-loop-k.ensures)
+      rw (c.lower-end.ensures, c.after-end.ensures, c.slots_at-in-loop-k.ensures)
           (past_next u.loop-k.invariant.1 (z.requires.0.low u.loop-k.k (omega arith))),
     )
 
 returns : tie.Need-returns invariant-loop decreases-loop
 returns c =
-    let u = c.before in
-    let z = u.before.before.before in
+    let u = c in
+    let z = u in
     let e : u.loop-k.k ≡ z.args.count = omega arith in
     rw e at u.loop-k.invariant.1
 

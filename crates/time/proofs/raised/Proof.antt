@@ -20,17 +20,17 @@ gcd-of-requires : tie.Need-gcd_of-requires
 gcd-of-requires c κs = search rules
 
 div-result : tie.Need-nonzero_div-result
-div-result c = pos_of_dvd_of_pos c.gcd_of.ensures.left c.before.before.before.requires.2
+div-result c = pos_of_dvd_of_pos c.gcd_of.ensures.left c.requires.2
 
 mul-result : tie.Need-overflow_mul-result
 mul-result c =
-    let z = c.before.before.before in
+    let z = c in
     let small = le_trans (div-le_self z.args.h c.gcd_of.result) z.requires.1 in
     omega (arith, mul-le-mul small z.requires.3)
 
 returns-3 : tie.Need-returns
 returns-3 c =
-    let z = c.before.before.before in
+    let z = c in
     pair_lcm_by z.args.h z.args.period c.gcd_of.result z.requires.0
     (pair_gcd_step z.args.h z.args.period c.gcd_of.result c.gcd_of.ensures)
 

@@ -17,12 +17,12 @@ slots-at-requires : tie.Need-slots_at-l-requires invariant-loop decreases-loop
 slots-at-requires c κs = omega arith
 
 loop-holds : tie.Need-loop-i-init invariant-loop decreases-loop
-loop-holds c = (c.before.requires.some, rw c.slots_at-l.ensures (nearing_start c.before.requires))
+loop-holds c = (c.requires.some, rw c.slots_at-l.ensures (nearing_start c.requires))
 
 lowered-requires : tie.Need-lowered-l-requires invariant-loop decreases-loop
 lowered-requires c κs =
-    let z = c.before.before.before in
-    (z.args.count, z.requires, c.before.loop-i.invariant.1, omega arith)
+    let z = c in
+    (z.args.count, z.requires, c.loop-i.invariant.1, omega arith)
 
 add-i : tie.Need-overflow_add-i invariant-loop decreases-loop
 add-i c = omega arith
@@ -32,12 +32,12 @@ loop-less c = omega arith
 
 loop-again : tie.Need-loop-i-preserved invariant-loop decreases-loop
 loop-again c =
-    let u = c.before.before in
-    let z = u.before.before in
+    let u = c in
+    let z = u in
     (omega arith, c.lowered-l.ensures z.args.count z.requires u.loop-i.invariant.1 (omega arith))
 
 returns : tie.Need-returns invariant-loop decreases-loop
-returns c = nearing_end c.before.loop-i.invariant.1 (omega arith)
+returns c = nearing_end c.loop-i.invariant.1 (omega arith)
 
 pub shortest_of_spec : {M : Type 1} → statement M
 shortest_of_spec =

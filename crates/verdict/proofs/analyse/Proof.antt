@@ -19,7 +19,7 @@ abbrev taken : tie.Else-answer-ne-DONE → tie.After-given_into-head
 taken c = c.before.before.before
 
 abbrev bytes : tie.Else-answer-ne-DONE → List ℕ
-bytes c = (taken c).before.before.before.before.before.before.before.args.file.now
+bytes c = (taken c).args.file.now
 
 -- what is written
 abbrev columns : tie.Else-answer-ne-DONE → Columns
@@ -47,8 +47,8 @@ refused-requires c κs = search rules
 
 returns : tie.Need-returns-then-answer-ne-DONE
 returns c =
-    let a = c.before.before.before.before.given_into-head in
-    rw c.refused.ensures (analysed_given _ a.result.answer c.before.if-answer-ne-DONE.true a.ensures.answers)
+    let a = c.given_into-head in
+    rw c.refused.ensures (analysed_given _ a.result.answer c.if-answer-ne-DONE.true a.ensures.answers)
 
 analysis-of-requires : tie.Need-analysis_of-requires
 analysis-of-requires c κs = sound c.before.before.before.before.before

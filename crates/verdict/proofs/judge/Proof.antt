@@ -20,7 +20,7 @@ abbrev taken : tie.Else-answer-ne-DONE → tie.After-given_into-head
 taken c = c.before.before.before
 
 abbrev bytes : tie.Else-answer-ne-DONE → List ℕ
-bytes c = (taken c).before.before.before.before.before.before.before.args.file.now
+bytes c = (taken c).args.file.now
 
 -- what is written
 abbrev columns : tie.Else-answer-ne-DONE → Columns
@@ -45,7 +45,7 @@ given-into-requires c κs = search rules
 
 returns : tie.Need-returns-then-answer-ne-DONE
 returns c =
-    let a = c.before.before.before.given_into-head in
+    let a = c.given_into-head in
     judged_refused a.result.answer c.if-answer-ne-DONE.true (given_stops _ _ _ c.if-answer-ne-DONE.true a.ensures.answers)
 
 judge-table-requires : tie.Need-judge_table-requires

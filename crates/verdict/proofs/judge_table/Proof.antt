@@ -18,11 +18,11 @@ use Rattle.verdict.proofs.judge_table.Tie as tie
 
 abbrev table : tie.After-layout_of-laid → Table
 table d =
-    let a = d.before.args in
+    let a = d.args in
     column_table a.elements a.rows a.rings a.cost.now a.period.now a.first.now a.second.now a.way.now
 
 laid : (d : tie.After-layout_of-laid) → LaidOut (table d) d.layout_of-laid.result
-laid d = d.layout_of-laid.ensures (at d.before.args.cost.now) d.before.requires
+laid d = d.layout_of-laid.ensures (at d.args.cost.now) d.requires
 
 layout-of-requires : tie.Need-layout_of-laid-requires
 layout-of-requires c κs = (at c.args.cost.now, c.requires)
@@ -40,7 +40,7 @@ abbrev unrefused : tie.After-put_rates-light → tie.Else-answer-ne-DONE
 unrefused d = d.before.before.before
 
 abbrev rated : tie.After-weigh-weighing → tie.After-put_rates-light
-rated w = w.before.before.before.before.before
+rated w = w.before.before.before.before
 
 ready : (d : tie.After-put_rates-light)
     → let a = asked (unrefused d) in
@@ -71,7 +71,7 @@ put-rates-requires c κs =
 
 weigh-requires : tie.Need-weigh-weighing-requires
 weigh-requires c κs =
-    let d = c.before.before.before.before in
+    let d = c.before.before.before in
     (table (asked (unrefused d)), ready d)
 
 returns-2 : tie.Need-returns-then-next-ne-DONE

@@ -12,8 +12,8 @@ use Rattle.verdict.proofs.verdict_of.Tie as tie
 returns : tie.Need-returns-then-answer-ne-DONE
 returns c = record { done = λ z. absurd (c.if-answer-ne-DONE.true z); refused = λ h. refl }
 
-accepted : (e : tie.Else-answer-ne-DONE) → (t : Table) × Accepted t e.before.before.before.args.table
-accepted e = e.before.before.before.requires e.if-answer-ne-DONE.false
+accepted : (e : tie.Else-answer-ne-DONE) → (t : Table) × Accepted t e.args.table
+accepted e = e.requires e.if-answer-ne-DONE.false
 
 cast-t4 : tie.Need-overflow_cast-result
 cast-t4 c =
@@ -47,7 +47,7 @@ cast-t9 c =
 
 returns-2 : tie.Need-returns
 returns-2 c =
-    let e = c.before.before.before.before.before.before in
+    let e = c in
     record { done = λ z t F. (refl, refl, accepted_values F); refused = λ h. absurd (h e.if-answer-ne-DONE.false) }
 
 pub verdict_of_spec : {M : Type 1} → statement M

@@ -10,10 +10,10 @@ use Rattle.file_report.proofs.listing.make.Statement.{statement}
 use Rattle.file_report.proofs.listing.make.Tie as tie
 
 -- a list that was made is short
-few : (c : tie.Else-made-ne-DONE) → c.before.before.before.before.make_file-made.result.entries ≤ 2 * max_slots
+few : (c : tie.Else-made-ne-DONE) → c.make_file-made.result.entries ≤ 2 * max_slots
 few c =
-    let m = c.before.before.before.before in
-    let z = m.before.before.before.before.before.before.before.before in
+    let m = c in
+    let z = m in
     made_entries z.args.file.now _ _ list_bytes _ _ _ _ _ _ c.if-made-ne-DONE.false m.make_file-made.ensures
 
 slice-aggregate-whole-plan : tie.Need-slice_bounds-whole_plan-end
@@ -36,14 +36,14 @@ same_length c = search rules
 
 returns : tie.Need-returns-then-made-ne-DONE
 returns c =
-    let z = c.before.before.before.before in
-    let m = z.before.before.before.before in
+    let z = c in
+    let m = z in
     let k = (m.make_file-made.ensures.refused z.if-made-ne-DONE.true).2 in
-    let p = c.before.before.put_answer.ensures in
+    let p = c.put_answer.ensures in
     record {
       answer = _;
       plan = _;
-      planned = m.before.before.before.before.whole_plan.ensures;
+      planned = m.whole_plan.ensures;
       number = _;
       place = _;
       hyper = _;
@@ -65,12 +65,12 @@ same-length-2 c = search rules
 
 returns-2 : tie.Need-returns
 returns-2 c =
-    let z = c.before in
-    let m = z.before.before.before.before in
+    let z = c in
+    let m = z in
     record {
       answer = _;
       plan = _;
-      planned = m.before.before.before.before.whole_plan.ensures;
+      planned = m.whole_plan.ensures;
       number = _;
       place = _;
       hyper = _;

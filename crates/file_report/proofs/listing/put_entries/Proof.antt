@@ -20,7 +20,7 @@ decreases-loop numbers entries out₀ at next₀ k₀ out next k = entries - k
 
 loop-holds : tie.Need-loop-k-init invariant-loop decreases-loop
 loop-holds c =
-    let numbers = c.before.before.args.numbers.now in
+    let numbers = c.args.numbers.now in
     (omega arith, lines_none (λ i. entry (memory_entry numbers i) ∷ []) _ _)
 
 mul-p : tie.Need-overflow_mul-p invariant-loop decreases-loop
@@ -61,20 +61,20 @@ loop-less c = omega arith
 
 loop-again : tie.Need-loop-k-preserved invariant-loop decreases-loop
 loop-again c =
-    let z = c.before.before.before.before.before.before.before.before in
-    let numbers = z.before.before.before.args.numbers.now in (
+    let z = c in
+    let numbers = z.args.numbers.now in (
       omega arith,
       lines_next (λ i. entry (memory_entry numbers i) ∷ []) z.loop-k.k z.loop-k.invariant.1 _ refl
-          c.before.before.put_entry-next.ensures,
+          c.put_entry-next.ensures,
     )
 
 same_length : tie.Need-shape_of-out invariant-loop decreases-loop
-same_length c = c.before.loop-k.invariant.1.0.same
+same_length c = c.loop-k.invariant.1.0.same
 
 returns : tie.Need-returns invariant-loop decreases-loop
 returns c =
-    let e : c.before.loop-k.k ≡ c.before.before.before.before.args.entries = omega arith in
-    rw e at c.before.loop-k.invariant.1
+    let e : c.loop-k.k ≡ c.args.entries = omega arith in
+    rw e at c.loop-k.invariant.1
 
 pub put_entries_spec : {M : Type 1} → statement M
 put_entries_spec =

@@ -20,8 +20,8 @@ same_length c = search rules
 
 returns : tie.Need-returns-then-way-eq0
 returns c =
-    let p = c.before.before.put_line.ensures in
-    rw c.before.before.before.before.before.before.if-way-eq0.true (p.0, omega (arith, p.1))
+    let p = c.put_line.ensures in
+    rw c.if-way-eq0.true (p.0, omega (arith, p.1))
 
 slice-aggregate-put-line-3 : tie.Need-slice-aggregate-put-line-3
 slice-aggregate-put-line-3 c = search rules
@@ -37,9 +37,9 @@ same-length-2 c = search rules
 
 returns-2 : tie.Need-returns
 returns-2 c =
-    let z = c.before.before.before.before.before.before in
-    let way = z.before.before.args.way in
-    let p = c.before.before.put_line-2.ensures in
+    let z = c in
+    let way = z.args.way in
+    let p = c.put_line-2.ensures in
     rw (is_false (eqb way 0) (λ t. z.if-way-eq0.false (eqb→eq way 0 t))) (p.0, omega (arith, p.1))
 
 pub put_entry_spec : {M : Type 1} → statement M

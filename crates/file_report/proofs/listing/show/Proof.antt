@@ -53,10 +53,10 @@ slice-aggregate-put-entries c = search rules
 
 put-entries-requires : tie.Need-put_entries-requires
 put-entries-requires c κs =
-    let h = c.before.before.before.before in
-    let e = h.before.before.before.before.before in
-    let z = e.before.before.before in
-    let a = z.before.before.before.before in
+    let h = c in
+    let e = h in
+    let z = e in
+    let a = z.before.before.before.before.before.before.before.before.before.before.before.before.before.before.before.before.before.before in
     let l = read_fits _ _ _ _ _ _ _ _ (found a).read-found.ensures (omega arith) z.if-found-ne-DONE.false in
     (omega (arith, l), omega (arith, l, a.put_answer-first.ensures.1, e.put_number-second.ensures.1, h.put_number-third.ensures.1))
 
@@ -65,11 +65,11 @@ same-length-2 c = search rules
 
 returns-2 : tie.Need-returns
 returns-2 c =
-    let p = c.before.before in
-    let h = p.before.before.before.before.before in
-    let e = h.before.before.before.before.before in
-    let z = e.before.before.before in
-    let a = z.before.before.before.before in
+    let p = c in
+    let h = p in
+    let e = h in
+    let z = e in
+    let a = z.before.before.before.before.before.before.before.before.before.before.before.before.before.before.before.before.before.before.before.before.before in
     let r = (found a).read-found.ensures in
     let l = read_fits _ _ _ _ _ _ _ _ r (omega arith) z.if-found-ne-DONE.false in
     let A = a.put_answer-first.ensures in

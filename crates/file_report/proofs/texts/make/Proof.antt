@@ -13,12 +13,12 @@ use Rattle.file_report.proofs.texts.make.Statement.{statement}
 use Rattle.file_report.proofs.texts.make.Tie as tie
 
 -- the rows that were read have room
-few : (z : tie.Else-found-ne-DONE) → z.before.before.before.read-found.result.table.rows ≤ max_rows
-few z = text_few _ _ _ _ _ _ _ _ _ z.before.before.before.read-found.ensures (omega arith) z.if-found-ne-DONE.false
+few : (z : tie.Else-found-ne-DONE) → z.read-found.result.table.rows ≤ max_rows
+few z = text_few _ _ _ _ _ _ _ _ _ z.read-found.ensures (omega arith) z.if-found-ne-DONE.false
 
 -- so has the file
 sized : (z : tie.After-row_bytes)
-    → let r = z.before.before.before.before.before.before.before.before.before.before.before.before in
+    → let r = z in
     z.row_bytes.result * r.read-found.result.table.rows ≤ 512
 sized z =
     let e = z.before.before.before.before.before.before.before.before.before in
@@ -41,13 +41,13 @@ same_length c = search rules
 
 returns : tie.Need-returns-then-found-ne-DONE
 returns c =
-    let A = c.before.before.put_fault.ensures in
-    let p = c.before.before.before.before in
-    let t = p.before in
+    let A = c.put_fault.ensures in
+    let p = c in
+    let t = p in
     record {
       bytes = _;
       allowed =
-          text_refused _ _ _ _ _ _ _ _ _ t.before.before.before.read-found.ensures (omega arith) _ _ t.if-found-ne-DONE.true
+          text_refused _ _ _ _ _ _ _ _ _ t.read-found.ensures (omega arith) _ _ t.if-found-ne-DONE.true
           p.spot_of_lem.ensures.line p.spot_of_lem.ensures.column;
       puts = A.0;
       fits = A.1;
@@ -76,8 +76,8 @@ slice-aggregate-rings-of c = search rules
 
 rings-of-requires : tie.Need-rings_of-requires
 rings-of-requires c κs =
-    let e = c.before.before.before.before.before.before.before in
-    text_marked _ _ _ _ _ _ _ _ _ e.before.before.before.read-found.ensures (omega arith) e.if-found-ne-DONE.false
+    let e = c in
+    text_marked _ _ _ _ _ _ _ _ _ e.read-found.ensures (omega arith) e.if-found-ne-DONE.false
 
 row-bytes-requires : tie.Need-row_bytes-requires
 row-bytes-requires c κs = search rules
@@ -103,17 +103,17 @@ same-length-2 c = search rules
 returns-2 : tie.Need-returns
 returns-2 c =
     let b = c.before.before.before.before.before in
-    let o = b.before in
-    let w = o.before.before.before in
-    let e = w.before.before.before.before.before in
-    let r = e.before.before.before in
+    let o = b in
+    let w = o in
+    let e = w in
+    let r = e in
     let size : ℕ = header_size + b.row_bytes.result * r.read-found.result.table.rows in
     front size _
     (text_made _ _ _ _ _ _ _ _ _ r.read-found.ensures (omega arith) e.if-found-ne-DONE.false size _ _ _ _
     (ap (λ (k : ℕ). header_size + k * r.read-found.result.table.rows)
     (b.row_bytes.ensures.0 ∙ ap (λ (g : ℕ). row_size g r.read-found.result.version) o.rings_of.ensures))
     (omega (arith, sized b)) w.write.ensures)
-    (omega (arith, sized b)) c.before.before.put_bytes.ensures
+    (omega (arith, sized b)) c.put_bytes.ensures
 
 pub make_spec : {M : Type 1} → statement M
 make_spec =

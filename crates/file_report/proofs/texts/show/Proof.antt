@@ -12,8 +12,8 @@ use Rattle.file_report.proofs.texts.show.Statement.{statement}
 use Rattle.file_report.proofs.texts.show.Tie as tie
 
 -- the rows that were read have room
-few : (z : tie.Else-found-ne-DONE) → z.before.before.before.read-found.result.table.rows ≤ max_rows
-few z = file_few _ _ _ _ _ _ _ _ _ z.before.before.before.read-found.ensures (omega arith) z.if-found-ne-DONE.false
+few : (z : tie.Else-found-ne-DONE) → z.read-found.result.table.rows ≤ max_rows
+few z = file_few _ _ _ _ _ _ _ _ _ z.read-found.ensures (omega arith) z.if-found-ne-DONE.false
 
 slice-aggregate-read : tie.Need-slice_bounds-read-end
 slice-aggregate-read c = search rules
@@ -29,11 +29,11 @@ same_length c = search rules
 
 returns : tie.Need-returns-then-found-ne-DONE
 returns c =
-    let A = c.before.before.put_refusal.ensures in
-    let t = c.before.before.before.before in
+    let A = c.put_refusal.ensures in
+    let t = c in
     record {
       bytes = _;
-      allowed = file_refused _ _ _ _ _ _ _ _ _ t.before.before.before.read-found.ensures (omega arith) t.if-found-ne-DONE.true;
+      allowed = file_refused _ _ _ _ _ _ _ _ _ t.read-found.ensures (omega arith) t.if-found-ne-DONE.true;
       puts = A.0;
       fits = A.1;
     }
@@ -59,9 +59,9 @@ write-requires c κs = search rules
 -- so has the text
 sized : (z : tie.After-write-written) → z.write-written.result.size ≤ longest_text
 sized z =
-    let e = z.before.before.before.before.before.before in
-    let r = e.before.before.before in
-    let f = r.before.before.before.shared_slice_known-1 in
+    let e = z in
+    let r = e in
+    let f = r.shared_slice_known-1 in
     (file_made _ _ _ _ _ _ _ _ _ r.read-found.ensures (omega arith) e.if-found-ne-DONE.false _ _ _ _ _ (λ i. omega (arith, f.given i)) (omega arith)
     z.write-written.ensures).0
 
@@ -80,13 +80,13 @@ same-length-2 c = search rules
 returns-2 : tie.Need-returns
 returns-2 c =
     let w = c.before.before.before.before.before.before in
-    let e = w.before.before.before.before.before.before in
-    let r = e.before.before.before in
-    let f = r.before.before.before.shared_slice_known-1 in
+    let e = w in
+    let r = e in
+    let f = r.shared_slice_known-1 in
     front _ _
     (file_made _ _ _ _ _ _ _ _ _ r.read-found.ensures (omega arith) e.if-found-ne-DONE.false _ _ _ _ _ (λ i. omega (arith, f.given i)) (omega arith)
     w.write-written.ensures).1
-    (sized w) c.before.before.put_bytes.ensures
+    (sized w) c.put_bytes.ensures
 
 pub show_spec : {M : Type 1} → statement M
 show_spec =

@@ -29,8 +29,8 @@ start p = p.before.before.before
 
 -- the row that is taken
 picked : (p : tie.After-pick-i invariant-loop decreases-loop)
-    → (bit (start p).args.rows p.pick-i.result ≡ true) × (bit p.before.before.loop-done.done p.pick-i.result ≡ false)
-picked p = in_first _ _ p.pick-i.ensures.1 (p.before.before.loop-done.invariant.1 p.pick-i.result)
+    → (bit (start p).args.rows p.pick-i.result ≡ true) × (bit p.loop-done.done p.pick-i.result ≡ false)
+picked p = in_first _ _ p.pick-i.ensures.1 (p.loop-done.invariant.1 p.pick-i.result)
 
 here : (p : tie.After-pick-i invariant-loop decreases-loop) → p.pick-i.result < (start p).requires.0.0
 here p = (start p).requires.0.6 p.pick-i.result (picked p).0
@@ -58,24 +58,24 @@ element-copy-out-from : tie.Need-bounds-tail-i invariant-loop decreases-loop
 element-copy-out-from c = omega (arith, c.pick-i.ensures.0)
 
 cast-from : tie.Need-overflow_cast-from invariant-loop decreases-loop
-cast-from c = omega (arith, span c.before)
+cast-from c = omega (arith, span c.before.before)
 
 element-copy-out-to : tie.Need-bounds-head-i invariant-loop decreases-loop
-element-copy-out-to c = omega (arith, c.before.pick-i.ensures.0)
+element-copy-out-to c = omega (arith, c.pick-i.ensures.0)
 
 cast-to : tie.Need-overflow_cast-to invariant-loop decreases-loop
-cast-to c = omega (arith, span c.before.before)
+cast-to c = omega (arith, span c.before.before.before.before)
 
 mul-lift : tie.Need-offset_bounds-part-i invariant-loop decreases-loop
-mul-lift c = omega (arith, c.before.before.before.pick-i.ensures.0)
+mul-lift c = omega (arith, c.pick-i.ensures.0)
 
 element-copy-out-lift : tie.Need-bounds-part-i invariant-loop decreases-loop
-element-copy-out-lift c = omega (arith, c.before.before.before.pick-i.ensures.0)
+element-copy-out-lift c = omega (arith, c.pick-i.ensures.0)
 
 lift-requires : tie.Need-lift-requires invariant-loop decreases-loop
 lift-requires c κs =
-    let p = c.before.before.before.before in
-    let u = p.before.before.loop-done in
+    let p = c.before.before.before.before.before.before.before in
+    let u = p.loop-done in
     let q = (start p).requires.0 in
     let i = p.pick-i.result in
     let l = p.pick-i.ensures.0 in
@@ -90,19 +90,19 @@ lift-requires c κs =
     )
 
 shl-done : tie.Need-overflow_shl-done invariant-loop decreases-loop
-shl-done c = omega (arith, c.before.before.before.before.before.pick-i.ensures.0)
+shl-done c = omega (arith, c.pick-i.ensures.0)
 
 loop-less : tie.Need-loop-done-smaller invariant-loop decreases-loop
 loop-less c =
-    let p = c.before.before.before.before.before in
+    let p = c.before.before.before.before.before.before.before.before in
     let l = p.pick-i.ensures.0 in
-    let d = p.before.before.loop-done.done in
+    let d = p.loop-done.done in
     fewer d _ p.pick-i.result l (picked p).1 (λ v. bit_one_more d p.pick-i.result v l)
 
 loop-again : tie.Need-loop-done-preserved invariant-loop decreases-loop
 loop-again c =
-    let p = c.before.before.before.before.before in
-    let u = p.before.before.loop-done in
+    let p = c.before.before.before.before.before.before.before.before in
+    let u = p.loop-done in
     let i = p.pick-i.result in
     let l = p.pick-i.ensures.0 in (
       c.lift.ensures.0,
@@ -115,8 +115,8 @@ loop-again c =
 
 returns : tie.Need-returns invariant-loop decreases-loop
 returns c =
-    let u = c.before.loop-done in
-    let q : u.done ≡ c.before.before.args.rows = omega arith in
+    let u = c.loop-done in
+    let q : u.done ≡ c.args.rows = omega arith in
     (u.invariant.0, rw q at u.invariant.2)
 
 pub add_parts_spec : {M : Type 1} → statement M

@@ -35,12 +35,12 @@ loop-less c = search rules
 
 loop-again : tie.Need-loop-k-preserved invariant-loop decreases-loop
 loop-again c =
-    let u = c.before.before.before.loop-k in
-    let z = c.before.before.before.before.args in
+    let u = c.loop-k in
+    let z = c.args in
     extend (λ q. at z.left.now q < z.h) u.k u.invariant (omega (arith, c.if-left-k.false))
 
 returns-2 : tie.Need-returns invariant-loop decreases-loop
-returns-2 c = λ q k l. c.before.loop-k.invariant k (omega arith)
+returns-2 c = λ q k l. c.loop-k.invariant k (omega arith)
 
 pub all_less_spec : {M : Type 1} → statement M
 all_less_spec =

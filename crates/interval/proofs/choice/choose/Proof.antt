@@ -40,11 +40,11 @@ returns c =
     (tried_end _ _ _ _ _ _ E.spans P _ U (tried_start _ _ _ _ _ _ E.spans P _ U none s) (sym e)) (λ k l. P.some)
 
 cast-h : tie.Need-overflow_cast-h
-cast-h c = omega (arith, c.before.before.requires.1.fits)
+cast-h c = omega (arith, c.requires.1.fits)
 
 add-parts-requires : tie.Need-add_parts-requires
 add-parts-requires c κs =
-    let z = c.before.before.before in
+    let z = c in
     let p = z.requires in (
       (_, _, _, p.0.spans, p.0.heads, p.1, λ i q. (p.2 i q).0),
       zeros_at max_elements,
@@ -82,8 +82,8 @@ all-less-requires c κs = let z = entry (summing c.before) in z.requires.0.spans
 
 returns-2 : tie.Need-returns-then-all_less
 returns-2 c =
-    let d = c.before in
-    let t = d.before.before in
+    let d = c in
+    let t = d.before.before.before in
     let z = entry (summing t) in
     taken_greatest _ _ _ _ _ _ z.requires.0.spans (are_parts z) _ _ (taken t) (d.all_less.ensures c.if-all_less.true)
 
@@ -102,16 +102,16 @@ settling w = w.before.before.before.before.before.before
 
 sums-again : (w : tie.After-sum-2-1) → let z = entry (summing (settling w)) in
     Summed z.args.size.rows z.args.size.sets (at z.args.tail.now) (last z.args.head.now) (parts z)
-    (at w.before.add_parts-2.new.sum)
+    (at w.add_parts-2.new.sum)
 sums-again w =
     let p = (entry (summing (settling w))).requires in
-    w.before.add_parts-2.ensures.1 _ _ p.0.spans p.0.heads (λ i q. (p.2 i q).0)
+    w.add_parts-2.ensures.1 _ _ p.0.spans p.0.heads (λ i q. (p.2 i q).0)
 
 abbrev Given : tie.After-sum-2-1 → Type 0
 Given w =
     let a = (entry (summing (settling w))).args in
     Asked a.size.rows a.size.sets a.size.hyper a.tail.now a.head.now a.out.now a.into.now
-    w.before.add_parts-2.new.sum (parts (entry (summing (settling w))))
+    w.add_parts-2.new.sum (parts (entry (summing (settling w))))
 
 given : (w : tie.After-sum-2-1) → Given w
 given w = let z = entry (summing (settling w)) in record { ends = z.requires.0; parts = are_parts z; summed = sums-again w }
@@ -142,15 +142,15 @@ mend-requires c κs =
 
 raise-rows-requires : tie.Need-raise_rows-requires
 raise-rows-requires c κs =
-    let m = c.before in
-    let k = m.before.before in
+    let m = c in
+    let k = m.before.before.before in
     let w = k.before in
     (parts (entry (summing (settling w))), given w, m.mend-mended.ensures _ (given w) (started k))
 
 returns-3 : tie.Need-returns
 returns-3 c =
-    let m = c.before.before in
-    let k = m.before.before in
+    let m = c in
+    let k = m.before.before.before.before in
     let w = k.before in
     c.raise_rows.ensures _ (given w) (m.mend-mended.ensures _ (given w) (started k))
 

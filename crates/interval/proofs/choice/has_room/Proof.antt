@@ -26,8 +26,8 @@ element-copy-out-if1 c = search rules
 
 returns : tie.Need-returns-then-left-k-eq0 invariant-loop decreases-loop
 returns c =
-    let i = c.before.before in
-    let u = i.before.loop-k in
+    let i = c in
+    let u = i.loop-k in
     record { goes = λ q. absurd (false≢true q); stays = λ q. (u.k, u.invariant.0, i.loop-k-test.true, c.if-left-k-eq0.true) }
 
 add-k : tie.Need-overflow_add-k invariant-loop decreases-loop
@@ -38,13 +38,13 @@ loop-less c = search rules
 
 loop-again : tie.Need-loop-k-preserved invariant-loop decreases-loop
 loop-again c =
-    let u = c.before.before.before.loop-k in
-    let z = c.before.before.before.before.args in
+    let u = c.loop-k in
+    let z = c.args in
     (omega (arith, u.invariant.0), extend (λ q. z.from ≤ q → 0 < at z.left.now q) u.k u.invariant.1 (λ g. omega (arith, c.if-left-k-eq0.false)))
 
 returns-2 : tie.Need-returns invariant-loop decreases-loop
 returns-2 c =
-    let u = c.before.loop-k in
+    let u = c.loop-k in
     record { goes = λ q k l g. u.invariant.1 k (omega arith) l; stays = λ q. absurd (true≢false q) }
 
 pub has_room_spec : {M : Type 1} → statement M

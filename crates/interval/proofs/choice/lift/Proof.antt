@@ -30,9 +30,9 @@ element-copy-out-sum c = search rules
 
 add-sum : tie.Need-overflow_add-sum invariant-loop decreases-loop
 add-sum c =
-    let l = c.before in
-    let u = l.before.loop-k in
-    omega (arith, l.before.before.requires.3 u.k u.invariant.1 l.loop-k-test.true, u.invariant.3.beyond u.k (omega arith))
+    let l = c in
+    let u = l.loop-k in
+    omega (arith, l.requires.3 u.k u.invariant.1 l.loop-k-test.true, u.invariant.3.beyond u.k (omega arith))
 
 mul-sum-2 : tie.Need-offset_bounds-sum-k-in-loop-k invariant-loop decreases-loop
 mul-sum-2 c = search rules
@@ -48,19 +48,19 @@ loop-less c = search rules
 
 loop-again : tie.Need-loop-k-preserved invariant-loop decreases-loop
 loop-again c =
-    let l = c.before in
-    let u = l.before.loop-k in
-    let le : u.k < length u.sum = omega (arith, u.invariant.0, l.before.before.requires.1) in (
+    let l = c in
+    let u = l.loop-k in
+    let le : u.k < length u.sum = omega (arith, u.invariant.0, l.requires.1) in (
       simp length-set u.invariant.0,
       omega arith,
       omega arith,
-      lifted_next _ _ _ _ _ _ u.invariant.1 u.invariant.3 (put_set u.sum u.k (at u.sum u.k + l.before.before.args.v) le),
+      lifted_next _ _ _ _ _ _ u.invariant.1 u.invariant.3 (put_set u.sum u.k (at u.sum u.k + l.args.v) le),
     )
 
 returns : tie.Need-returns invariant-loop decreases-loop
 returns c =
-    let u = c.before.loop-k in
-    let q : u.k ≡ c.before.before.args.to = omega arith in
+    let u = c.loop-k in
+    let q : u.k ≡ c.args.to = omega arith in
     (u.invariant.0, rw q at u.invariant.3)
 
 pub lift_spec : {M : Type 1} → statement M

@@ -45,9 +45,9 @@ loop-less c = search rules
 
 loop-again : tie.Need-loop-k-preserved invariant-loop decreases-loop
 loop-again c =
-    let l = c.before.before in
-    let u = l.before.loop-k in
-    let le : u.k < length u.left = omega (arith, u.invariant.0, l.before.before.requires.1) in (
+    let l = c in
+    let u = l.loop-k in
+    let le : u.k < length u.left = omega (arith, u.invariant.0, l.requires.1) in (
       simp length-set u.invariant.0,
       omega arith,
       omega arith,
@@ -56,8 +56,8 @@ loop-again c =
 
 returns : tie.Need-returns invariant-loop decreases-loop
 returns c =
-    let u = c.before.loop-k in
-    let q : u.k ≡ c.before.before.args.to = omega arith in
+    let u = c.loop-k in
+    let q : u.k ≡ c.args.to = omega arith in
     (u.invariant.0, rw q at u.invariant.3)
 
 pub lower_spec : {M : Type 1} → statement M

@@ -31,10 +31,10 @@ abbrev start : tie.After-pick-i invariant-loop decreases-loop → tie.Start inva
 start p = p.before.before.before
 
 -- the rows passed, for the table that the call was made with
-abbrev passed : (p : tie.After-pick-i invariant-loop decreases-loop) → let z = start p in let q = z.requires.0 in let u = p.before.before.loop-done in
+abbrev passed : (p : tie.After-pick-i invariant-loop decreases-loop) → let z = start p in let q = z.requires.0 in let u = p.loop-done in
     Tried q.0 q.1 (at z.args.tail.now) (last z.args.head.now) z.args.h q.2 q.3 q.5 z.args.rows q.6
     u.done u.top (at u.left)
-passed p = let q = (start p).requires.0 in p.before.before.loop-done.invariant.1 _ _ _ q.3 q.4 q.5 q.6 q.7
+passed p = let q = (start p).requires.0 in p.loop-done.invariant.1 _ _ _ q.3 q.4 q.5 q.6 q.7
 
 here : (p : tie.After-pick-i invariant-loop decreases-loop) → p.pick-i.result < (start p).requires.0.0
 here p = (tried_row _ _ _ _ _ _ _ _ _ _ (passed p) p.pick-i.result p.pick-i.ensures.1 p.pick-i.ensures.2).0
@@ -58,40 +58,40 @@ element-copy-out-from : tie.Need-bounds-tail-i invariant-loop decreases-loop
 element-copy-out-from c = omega (arith, c.pick-i.ensures.0)
 
 cast-from : tie.Need-overflow_cast-from invariant-loop decreases-loop
-cast-from c = omega (arith, span c.before)
+cast-from c = omega (arith, span c.before.before)
 
 element-copy-out-to : tie.Need-bounds-head-i invariant-loop decreases-loop
-element-copy-out-to c = omega (arith, c.before.pick-i.ensures.0)
+element-copy-out-to c = omega (arith, c.pick-i.ensures.0)
 
 cast-to : tie.Need-overflow_cast-to invariant-loop decreases-loop
-cast-to c = omega (arith, span c.before.before)
+cast-to c = omega (arith, span c.before.before.before.before)
 
 has-room-requires : tie.Need-has_room-requires invariant-loop decreases-loop
-has-room-requires c κs = (span c.before.before.before).1
+has-room-requires c κs = (span c.before.before.before.before).1
 
 lower-requires : tie.Need-lower-requires invariant-loop decreases-loop
 lower-requires c κs =
-    let p = c.before.before.before.before.before.before in
-    ((span p).0, (span p).1, p.before.before.loop-done.invariant.0)
+    let p = c.before.before.before.before.before.before.before in
+    ((span p).0, (span p).1, p.loop-done.invariant.0)
 
 shl-top : tie.Need-overflow_shl-top invariant-loop decreases-loop
-shl-top c = omega (arith, c.before.before.before.before.before.before.before.pick-i.ensures.0)
+shl-top c = omega (arith, c.pick-i.ensures.0)
 
 shl-done : tie.Need-overflow_shl-done invariant-loop decreases-loop
-shl-done c = omega (arith, c.before.before.before.before.before.pick-i.ensures.0)
+shl-done c = omega (arith, c.pick-i.ensures.0)
 
 loop-less : tie.Need-loop-done-smaller invariant-loop decreases-loop
 loop-less c =
-    let p = c.before.before.before.before.before in
+    let p = c.before.before.before.before.before.before in
     let l = p.pick-i.ensures.0 in
-    let d = p.before.before.loop-done.done in
+    let d = p.loop-done.done in
     fewer d _ p.pick-i.result l (tried_new _ _ _ _ _ _ _ _ _ _ (passed p) p.pick-i.result p.pick-i.ensures.1 p.pick-i.ensures.2)
     (λ v. bit_one_more d p.pick-i.result v l)
 
 loop-again : tie.Need-loop-done-preserved invariant-loop decreases-loop
 loop-again c =
-    let p = c.before.before.before.before.before in
-    let u = p.before.before.loop-done in
+    let p = c.before.before.before.before.before.before in
+    let u = p.loop-done in
     let i = p.pick-i.result in
     let e = p.pick-i.ensures in
     let a = (start p).args in
@@ -103,7 +103,7 @@ loop-again c =
           let r = tried_row _ _ _ _ _ _ S P _ U q i e.1 e.2 in
           tried_next _ _ _ _ _ _ S P _ U q i e.1 e.2 _ _ _ (λ j. bit_one_more u.done i j e.0)
           (taken_up _ _ _ _ _ _ S P i u.top _ r.0 (tried_to _ _ _ _ _ _ S P _ U q i e.1 e.2) _ _ _
-          (row_span a.tail.now a.head.now S i r.0 (H i r.0)).3 r.1 (rw w.0.true at c.before.has_room.ensures)
+          (row_span a.tail.now a.head.now S i r.0 (H i r.0)).3 r.1 (rw w.0.true at c.has_room.ensures)
           (λ j. bit_one_more u.top i j e.0) w.2.ensures.1),
     ))
     (λ w. rw (w.1, w.2) (
@@ -113,14 +113,14 @@ loop-again c =
           let r = tried_row _ _ _ _ _ _ S P _ U q i e.1 e.2 in
           tried_next _ _ _ _ _ _ S P _ U q i e.1 e.2 _ _ _ (λ j. bit_one_more u.done i j e.0)
           (taken_full _ _ _ _ _ _ S P i u.top _ r.0 (tried_to _ _ _ _ _ _ S P _ U q i e.1 e.2) _
-          (row_span a.tail.now a.head.now S i r.0 (H i r.0)).3 (rw w.0.left at c.before.has_room.ensures)),
+          (row_span a.tail.now a.head.now S i r.0 (H i r.0)).3 (rw w.0.left at c.has_room.ensures)),
     ))
     c.if-has_room.branch
 
 returns : tie.Need-returns invariant-loop decreases-loop
 returns c =
-    let u = c.before.loop-done in
-    let e : u.done ≡ c.before.before.args.rows = omega arith in
+    let u = c.loop-done in
+    let e : u.done ≡ c.args.rows = omega arith in
     (u.invariant.0, λ n K f S H P U s. tried_end _ _ _ _ _ _ S P _ U (u.invariant.1 n K f S H P U s) e)
 
 pub take_rows_spec : {M : Type 1} → statement M

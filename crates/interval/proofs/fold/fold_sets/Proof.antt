@@ -23,8 +23,8 @@ upper-rows-requires c κs = search rules
 
 returns : tie.Need-returns-then-upper-eq0 invariant-loop decreases-loop
 returns c =
-    let u = c.before in
-    let z = u.before in
+    let u = c in
+    let z = u in
     folded_none z.args.rows z.args.bound z.args.sets _ z.args.words.now z.requires.2 z.requires.1 u.upper_rows-upper.result
     u.upper_rows-upper.ensures c.if-upper-eq0.true
 
@@ -32,13 +32,13 @@ low-sets-requires : tie.Need-low_sets-low-requires invariant-loop decreases-loop
 low-sets-requires c κs = search rules
 
 -- no more sets come before the second ring's than there are
-few-low : (c : tie.After-low_sets-low invariant-loop decreases-loop) → c.low_sets-low.result ≤ c.before.before.before.before.args.sets
+few-low : (c : tie.After-low_sets-low invariant-loop decreases-loop) → c.low_sets-low.result ≤ c.args.sets
 few-low c =
-    let z = c.before.before.before.before in
+    let z = c in
     omega (
       arith,
       c.low_sets-low.ensures,
-      low_le z.args.sets c.before.before.before.upper_rows-upper.result z.args.words.now
+      low_le z.args.sets c.upper_rows-upper.result z.args.words.now
           (omega (arith, z.requires)),
     )
 
@@ -50,27 +50,27 @@ larger-requires c κs = search rules
 
 loop-holds : tie.Need-loop-k-init invariant-loop decreases-loop
 loop-holds c =
-    let z = c.before.before.before.before.before in
+    let z = c in
     (omega arith, folding_start _ _ _ z.args.words.now z.requires.2 z.requires.1)
 
 -- the word is one of the list
-within : (l : tie.In-loop-k invariant-loop decreases-loop) → l.before.loop-k.k < l.before.before.before.before.before.before.before.args.sets
+within : (l : tie.In-loop-k invariant-loop decreases-loop) → l.loop-k.k < l.args.sets
 within l =
-    let g = l.before.before in
-    omega (arith, l.loop-k-test.true, g.larger-count.ensures, few-low g.before)
+    let g = l in
+    omega (arith, l.loop-k-test.true, g.larger-count.ensures, few-low g.before.before.before)
 
 add-set-at : tie.Need-overflow_add-low invariant-loop decreases-loop
-add-set-at c = record { fits = omega (arith, within c.before, few-low c.before.before.before.before) }
+add-set-at c = record { fits = omega (arith, within c, few-low c.before.before.before) }
 
 set-at-requires : tie.Need-set_at-high-requires invariant-loop decreases-loop
-set-at-requires c κs = (c.before.before.before.before.before.before.before.before.requires.1, c.before.before.loop-k.invariant.1.size)
+set-at-requires c κs = (c.requires.1, c.loop-k.invariant.1.size)
 
 -- so it lies in the array
-low : (l : tie.In-loop-k invariant-loop decreases-loop) → l.before.loop-k.k < 64
-low l = omega (arith, within l, l.before.before.before.before.before.before.before.requires.1)
+low : (l : tie.In-loop-k invariant-loop decreases-loop) → l.loop-k.k < 64
+low l = omega (arith, within l, l.requires.1)
 
 mul-merge : tie.Need-offset_bounds-words-k invariant-loop decreases-loop
-mul-merge c = omega (arith, low c.before.before)
+mul-merge c = omega (arith, low c.before)
 
 element-copy-out-merge : tie.Need-bounds-words-k invariant-loop decreases-loop
 element-copy-out-merge c = low c.before.before
@@ -88,15 +88,15 @@ add-k : tie.Need-overflow_add-k invariant-loop decreases-loop
 add-k c = omega (arith, low c.before.before.before.before)
 
 loop-less : tie.Need-loop-k-smaller invariant-loop decreases-loop
-loop-less c = omega (arith, c.before.before.before.before.loop-k-test.true)
+loop-less c = omega (arith, c.loop-k-test.true)
 
 loop-again : tie.Need-loop-k-preserved invariant-loop decreases-loop
 loop-again c =
-    let h = c.before.before in
-    let l = h.before.before in
-    let u = l.before.loop-k in
-    let z = l.before.before.before.before.before.before.before in
-    let w = l.before.before.before.before.before.before.upper_rows-upper.result in (
+    let h = c in
+    let l = h.before.before.before.before in
+    let u = l.loop-k in
+    let z = l in
+    let w = l.upper_rows-upper.result in (
       omega (arith, l.loop-k-test.true),
       folding_next _ _ _ z.args.words.now z.requires.2 z.requires.1 u.k c.merge.result u.words _ u.invariant.1 (within l)
           (put_set u.words u.k c.merge.result (omega (arith, low l, u.invariant.1.size)))
@@ -106,13 +106,13 @@ loop-again c =
 
 returns-2 : tie.Need-returns invariant-loop decreases-loop
 returns-2 c =
-    let u = c.before.loop-k in
-    let g = c.before.before in
-    let f = g.before in
-    let z = f.before.before.before.before in
+    let u = c.loop-k in
+    let g = c in
+    let f = g in
+    let z = f in
     let e : u.k ≡ g.larger-count.result = omega (arith, u.invariant.0) in
     folded_all z.args.rows z.args.bound z.args.sets _ z.args.words.now z.requires.2 z.requires.1 _
-    f.before.before.before.upper_rows-upper.ensures f.low_sets-low.result _ u.words f.low_sets-low.ensures g.larger-count.ensures
+    f.upper_rows-upper.ensures f.low_sets-low.result _ u.words f.low_sets-low.ensures g.larger-count.ensures
     (rw e at u.invariant.1)
 
 pub fold_sets_spec : {M : Type 1} → statement M

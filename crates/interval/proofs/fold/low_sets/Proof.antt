@@ -30,9 +30,9 @@ element-copy-out-if1 c = search rules
 
 returns : tie.Need-returns-then-words-k-ne0 invariant-loop decreases-loop
 returns c =
-    let k = c.before.before in
-    let z = k.before.before in
-    sought_found k.before.loop-k.invariant k.loop-k-test.true (ap not (ne_eqb _ 0 c.if-words-k-ne0.true))
+    let k = c in
+    let z = k in
+    sought_found k.loop-k.invariant k.loop-k-test.true (ap not (ne_eqb _ 0 c.if-words-k-ne0.true))
     ∙ low_front z.args.sets z.args.upper z.args.words.now (omega (arith, z.requires))
 
 add-k : tie.Need-overflow_add-k invariant-loop decreases-loop
@@ -43,13 +43,13 @@ loop-less c = search rules
 
 loop-again : tie.Need-loop-k-preserved invariant-loop decreases-loop
 loop-again c =
-    let k = c.before.before in
-    sought_next k.before.loop-k.invariant k.loop-k-test.true (ap not (eq-eqb _ 0 c.if-words-k-ne0.false))
+    let k = c in
+    sought_next k.loop-k.invariant k.loop-k-test.true (ap not (eq-eqb _ 0 c.if-words-k-ne0.false))
 
 returns-2 : tie.Need-returns invariant-loop decreases-loop
 returns-2 c =
-    let z = c.before.before in
-    let u = c.before.loop-k in
+    let z = c in
+    let u = c.loop-k in
     let e : u.k ≡ z.args.sets = omega (arith, u.invariant.within) in
     rw e at (sought_end u.invariant (omega arith)) ∙ low_front z.args.sets z.args.upper z.args.words.now (omega (arith, z.requires))
 

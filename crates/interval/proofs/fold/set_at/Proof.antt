@@ -16,11 +16,11 @@ element-copy-out-result : tie.Need-bounds-words-k
 element-copy-out-result c = search rules
 
 returns : tie.Need-returns-then-k-sets
-returns c = let a = c.before.before.args in sym (get_or-take a.sets a.words.now a.k 0 c.before.if-k-sets.true)
+returns c = let a = c.args in sym (get_or-take a.sets a.words.now a.k 0 c.if-k-sets.true)
 
 returns-2 : tie.Need-returns
 returns-2 c =
-    let z = c.before in
+    let z = c in
     let a = z.args in
     sym (past_end (take a.sets a.words.now) a.k
     (omega (arith, front_length a.sets a.words.now (omega (arith, z.requires)), c.if-k-sets.false)))

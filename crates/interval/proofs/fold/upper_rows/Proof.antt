@@ -33,18 +33,18 @@ loop-less c = search rules
 
 loop-again : tie.Need-loop-i-preserved invariant-loop decreases-loop
 loop-again c =
-    let e = c.before in
-    let l = e.before in
-    let u = l.before.loop-i in (
+    let e = c in
+    let l = e in
+    let u = l.loop-i in (
       omega (arith, l.loop-i-test.true),
       word_more u.i u.upper _ _ _ u.invariant.1 c.mark-upper.ensures
-          (ap (ltb l.before.before.args.bound) (sym e.end_at.ensures)),
+          (ap (ltb l.args.bound) (sym e.end_at.ensures)),
     )
 
 returns : tie.Need-returns invariant-loop decreases-loop
 returns c =
-    let u = c.before.loop-i in
-    let q : u.i ≡ c.before.before.args.rows = omega (arith, u.invariant.0) in
+    let u = c.loop-i in
+    let q : u.i ≡ c.args.rows = omega (arith, u.invariant.0) in
     rw q at u.invariant.1
 
 pub upper_rows_spec : {M : Type 1} → statement M

@@ -16,10 +16,10 @@ shr-result c = search rules
 
 returns : tie.Need-returns-then-is_of
 unfolding bit
-returns c = simp (sym c.before.is_of.ensures ∙ c.if-is_of.true)
+returns c = simp (sym c.is_of.ensures ∙ c.if-is_of.true)
 
 returns-2 : tie.Need-returns-else-is_of
-returns-2 c = simp (c.if-is_of.false, sym c.before.is_of.ensures ∙ c.if-is_of.false)
+returns-2 c = simp (c.if-is_of.false, sym c.is_of.ensures ∙ c.if-is_of.false)
 
 pub counts_spec : {M : Type 1} → statement M
 counts_spec = tie.close (tie.spec is-of-requires cast-result shr-result returns returns-2)

@@ -18,7 +18,7 @@ lowest-over-requires c κs =
 
 lowest-over-requires-2 : tie.Need-lowest_over-their-requires
 lowest-over-requires-2 c κs =
-    let P = c.before.requires in
+    let P = c.requires in
     let L = P.0.1 in (
       limited_small L,
       omega (arith, L.elements_is, L.sound.elements_high),
@@ -27,21 +27,21 @@ lowest-over-requires-2 c κs =
     )
 
 over-at-requires : tie.Need-over_at-of_ours-requires
-over-at-requires c κs = let L = c.before.before.requires.0.1 in omega (arith, L.elements_is, L.sound.elements_high)
+over-at-requires c κs = let L = c.requires.0.1 in omega (arith, L.elements_is, L.sound.elements_high)
 
 over-at-requires-2 : tie.Need-over_at-of_theirs-requires
-over-at-requires-2 c κs = let L = c.before.before.before.requires.0.1 in omega (arith, L.elements_is, L.sound.elements_high)
+over-at-requires-2 c κs = let L = c.requires.0.1 in omega (arith, L.elements_is, L.sound.elements_high)
 
 first-of-requires : tie.Need-first_of-requires
 first-of-requires c κs = search rules
 
 returns : tie.Need-returns
 returns c t L =
-    let second = c.before in
-    let first = second.before in
-    let their = first.before in
-    let our = their.before in
-    let a = our.before.args in
+    let second = c in
+    let first = second in
+    let their = first in
+    let our = their in
+    let a = our.args in
     let label = a.label.now in
     both_answer (labelled t label) a.limits.ours a.limits.theirs
     (limit_answers L label false a.limits.ours 21 _ our.lowest_over-our.ensures (omega arith) _ first.over_at-of_ours.ensures)

@@ -22,25 +22,25 @@ loop-holds : tie.Need-loop-i-init invariant-loop decreases-loop
 loop-holds c = (omega arith, sym (weight_none _ _ _ _ _))
 
 slots-at-requires : tie.Need-slots_at-requires invariant-loop decreases-loop
-slots-at-requires c κs = omega (arith, c.before.before.requires.0.few)
+slots-at-requires c κs = omega (arith, c.requires.0.few)
 
 mul-counts : tie.Need-offset_bounds-segments-i invariant-loop decreases-loop
 mul-counts c = omega arith
 
 element-copy-out-counts : tie.Need-bounds-segments-i invariant-loop decreases-loop
-element-copy-out-counts c = omega (arith, c.before.before.before.requires.0.few)
+element-copy-out-counts c = omega (arith, c.requires.0.few)
 
 counts-requires : tie.Need-counts-requires invariant-loop decreases-loop
-counts-requires c κs = c.before.before.before.before.requires.1
+counts-requires c κs = c.requires.1
 
 slots-at-requires-2 : tie.Need-slots_at-sum-requires invariant-loop decreases-loop
-slots-at-requires-2 c κs = omega (arith, c.before.before.before.before.before.before.requires.0.few)
+slots-at-requires-2 c κs = omega (arith, c.requires.0.few)
 
 add-sum : tie.Need-overflow_add-sum invariant-loop decreases-loop
 add-sum c =
-    let u = c.before.before.before.before.before.before in
-    let a = u.before.args in
-    let S = u.before.requires.0 in
+    let u = c in
+    let a = u.args in
+    let S = u.requires.0 in
     omega (
       arith,
       u.loop-i.invariant.1,
@@ -51,19 +51,19 @@ add-sum c =
     )
 
 add-i : tie.Need-overflow_add-i invariant-loop decreases-loop
-add-i c = omega (arith, c.before.before.before.before.before.before.requires.0.few)
+add-i c = omega (arith, c.requires.0.few)
 
 loop-less : tie.Need-loop-i-smaller invariant-loop decreases-loop
 loop-less c = omega arith
 
 loop-again : tie.Need-loop-i-preserved invariant-loop decreases-loop
 loop-again c =
-    let u = c.before.before.before.before.before in
-    let a = u.before.args in
+    let u = c in
+    let a = u.args in
     let i = u.loop-i.i in
     let w = bit (at a.segments.now i) a.s in
-    let counted : c.before.counts.result ≡ (owns (party a.theirs) (at a.label.now i) && w) =
-    c.before.counts.ensures ∙ ap (λ (l : ℕ). owns (party a.theirs) l && w) c.before.before.before.slots_at.ensures in (
+    let counted : c.counts.result ≡ (owns (party a.theirs) (at a.label.now i) && w) =
+    c.counts.ensures ∙ ap (λ (l : ℕ). owns (party a.theirs) l && w) c.slots_at.ensures in (
       omega arith,
       ⊎_elim
           (λ t. t.2 ∙ ap₂ (λ (x y : ℕ). x + y) u.loop-i.invariant.1 t.1.ensures
@@ -75,9 +75,9 @@ loop-again c =
 
 returns : tie.Need-returns invariant-loop decreases-loop
 returns c =
-    let u = c.before in
-    let a = u.before.args in
-    let S = u.before.requires.0 in
+    let u = c in
+    let a = u.args in
+    let S = u.requires.0 in
     let all : u.loop-i.i ≡ a.rows = omega arith in
     let sum = rw all at u.loop-i.invariant.1 in
     let small = weight_small a.rate.now a.segments.now a.label.now a.theirs a.s a.rows a.rows S (omega arith) in

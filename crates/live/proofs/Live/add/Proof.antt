@@ -35,20 +35,20 @@ sized c = record {
 }
 
 -- what the tests so far have found
-ordered : (c : tie.Else-not-is_in_order) → InOrder (live_of c.before.before.args.self)
-ordered c = granted c.before.is_in_order.ensures c.if-not-is_in_order.false
+ordered : (c : tie.Else-not-is_in_order) → InOrder (live_of c.args.self)
+ordered c = granted c.is_in_order.ensures c.if-not-is_in_order.false
 
 clean : (c : tie.Else-number-ne-DONE)
-    → let z = c.before.before.before.before.before.args in
+    → let z = c.args in
     None (faults (single z.self.elements 1 (row_of z.entry)) 0)
 clean c =
-    let z = c.before.before.before.before.before.args in
+    let z = c.args in
     let t = single z.self.elements 1 (row_of z.entry) in
     none_of (faults t 0) 0 (faults_numbered t 0)
-    (rw (c.if-number-ne-DONE.false, c.before.before.clockwise-row.ensures) at c.before.row_fault-number.ensures)
+    (rw (c.if-number-ne-DONE.false, c.clockwise-row.ensures) at c.row_fault-number.ensures)
 
 abbrev sound : tie.After-earlier_of-other → tie.Else-number-ne-DONE
-sound c = c.before.before.before.before.before.before.before.before.before
+sound c = c.before.before.before.before.before.before.before
 
 abbrev start : tie.After-earlier_of-other → tie.Start
 start c = (sound c).before.before.before.before.before
@@ -56,23 +56,23 @@ start c = (sound c).before.before.before.before.before
 -- the row that is sought is the entry's
 sought : (c : tie.After-earlier_of-other)
     → let z = (start c).args in
-    c.before.before.before.before.has_row-pasted.result
+    c.has_row-pasted.result
     ≡ any max_rows (equal (at z.self.period) (at z.self.first) (at z.self.second) (row_of z.entry))
 sought c =
     let z = (start c).args in
-    c.before.before.before.before.has_row-pasted.ensures
+    c.has_row-pasted.ensures
     ∙ ap (λ (r : Row). any max_rows (equal (at z.self.period) (at z.self.first) (at z.self.second) r))
-    (sound c).before.before.clockwise-row.ensures
+    (sound c).clockwise-row.ensures
 
 -- what the numbers handed to `earlier_of` say, of what it answers
 found : (c : tie.After-earlier_of-other)
     → c.earlier_of-other.result
-    ≡ cond c.before.before.before.before.has_row-pasted.result 18 (cond (eqb c.before.lowest_free-k.result max_rows) 24 0)
+    ≡ cond c.has_row-pasted.result 18 (cond (eqb c.lowest_free-k.result max_rows) 24 0)
     → let z = (start c).args in SeatNumber z.self z.entry c.earlier_of-other.result
 unfolding repeated
 found c e =
     e ∙ ap₂ (λ (a b : Bool). cond a 18 (cond b 24 0)) (sought c)
-    (ap (λ (k : ℕ). eqb k max_rows) c.before.lowest_free-k.ensures)
+    (ap (λ (k : ℕ). eqb k max_rows) c.lowest_free-k.ensures)
 
 -- 18 and 24 are not found
 clear : (c : tie.Else-other-ne-DONE)
@@ -85,8 +85,8 @@ clear c =
     b.earlier_of-other.result (found b b.earlier_of-other.ensures) c.if-other-ne-DONE.false
 
 -- the place that is found is the lowest free one
-same : (c : tie.Else-other-ne-DONE) → c.before.before.lowest_free-k.result ≡ free (live_of (start c.before).args.self)
-same c = c.before.before.lowest_free-k.ensures
+same : (c : tie.Else-other-ne-DONE) → c.lowest_free-k.result ≡ free (live_of (start c.before).args.self)
+same c = c.lowest_free-k.ensures
 
 -- the row is put there
 placed : (c : tie.After-put-after)
@@ -104,7 +104,7 @@ returns : tie.Need-returns-then-not-is_in_order
 returns c =
     let z = c.before.before.before in
     rw c.refused.ensures
-    (add_off z.args.self z.args.entry (sized z) (denied c.before.before.is_in_order.ensures c.before.if-not-is_in_order.true))
+    (add_off z.args.self z.args.entry (sized z) (denied c.is_in_order.ensures c.if-not-is_in_order.true))
 
 clockwise-requires : tie.Need-clockwise-row-requires
 clockwise-requires c κs = search rules
@@ -117,11 +117,11 @@ refused-requires-2 c κs = search rules
 
 returns-2 : tie.Need-returns-then-number-ne-DONE
 returns-2 c =
-    let r = c.before.before in
-    let z = r.before.before.before.before in
+    let r = c in
+    let z = r.before.before.before.before.before.before in
     rw c.refused-then-number-ne-DONE.ensures
-    (add_fault z.args.self z.args.entry (sized z) (ordered r.before.before) _ c.before.if-number-ne-DONE.true
-    (rw r.before.clockwise-row.ensures at r.row_fault-number.ensures))
+    (add_fault z.args.self z.args.entry (sized z) (ordered r.before.before.before.before) _ c.if-number-ne-DONE.true
+    (rw r.clockwise-row.ensures at r.row_fault-number.ensures))
 
 has-row-requires : tie.Need-has_row-pasted-requires
 has-row-requires c κs = search rules
@@ -141,7 +141,7 @@ returns-3 c =
     let z = start b in
     rw c.refused-then-other-ne-DONE.ensures
     (add_found z.args.self z.args.entry (sized z) (ordered (sound b).before.before.before) (clean (sound b))
-    b.earlier_of-other.result (found b b.earlier_of-other.ensures) c.before.if-other-ne-DONE.true)
+    b.earlier_of-other.result (found b b.earlier_of-other.ensures) c.if-other-ne-DONE.true)
 
 put-requires : tie.Need-put-after-requires
 put-requires c κs =
@@ -159,7 +159,7 @@ returns-4 c =
     let z = start b in
     rw c.refused-then-after-eq0.ensures
     (add_long z.args.self z.args.entry (sized z) (ordered (sound b).before.before.before) (clean (sound b)) (clear e).0
-    (some_free (live_of z.args.self) (clear e).1) (put_long (sized z) (clear e).1 (placed p) c.before.if-after-eq0.true))
+    (some_free (live_of z.args.self) (clear e).1) (put_long (sized z) (clear e).1 (placed p) c.if-after-eq0.true))
 
 done-requires : tie.Need-done-requires
 done-requires c κs = search rules
@@ -176,7 +176,7 @@ returns-5 c =
     rw (answer_done _ c.done.ensures, same e)
     (add_done z.args.self z.args.entry (sized z) (ordered (sound b).before.before.before) (clean (sound b)) (clear e).0
     (some_free (live_of z.args.self) (clear e).1) (clear e).1
-    (put_short (sized z) (clear e).1 (placed p) c.before.if-after-eq0.false) (placed p))
+    (put_short (sized z) (clear e).1 (placed p) c.if-after-eq0.false) (placed p))
 
 pub add_spec : {M : Type 1} → statement M
 add_spec =

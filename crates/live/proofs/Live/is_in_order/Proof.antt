@@ -9,35 +9,35 @@ use Rattle.live.proofs.Live.is_in_order.Statement.{statement}
 use Rattle.live.proofs.Live.is_in_order.Tie as tie
 
 abbrev start : tie.After-are_seated → tie.Start
-start c = c.before.before.before.before.before.before.before
+start c = c.before.before.before.before.before.before
 
 seated : (c : tie.Else-not-are_seated) → Seated (live_of (start c.before).args.self)
-seated c = seated_with _ _ _ (granted c.before.are_seated.ensures c.if-not-are_seated.false)
+seated c = seated_with _ _ _ (granted c.are_seated.ensures c.if-not-are_seated.false)
 
 are-seated-requires : tie.Need-are_seated-requires
 are-seated-requires c κs = search rules
 
 returns : tie.Need-returns-then-not-are_seated
-returns c = decides_no (λ O. denied c.before.are_seated.ensures c.if-not-are_seated.true (seated_with _ 0 (λ s. 0) O.rows))
+returns c = decides_no (λ O. denied c.are_seated.ensures c.if-not-are_seated.true (seated_with _ 0 (λ s. 0) O.rows))
 
 denominator-of-requires : tie.Need-denominator_of-d-requires
 denominator-of-requires c κs =
-    let S = seated c.before.before in
-    passing_periods _ (live_passing (live_of (start c.before.before.before).args.self) S.high S.place)
+    let S = seated c.before in
+    passing_periods _ (live_passing (live_of (start c.before.before).args.self) S.high S.place)
 
 returns-2 : tie.Need-returns-then-d-eq0
-returns-2 c = decides_no (none_short (start c.before.before.before.before.before).args.self c.before.denominator_of-d.ensures c.if-d-eq0.true)
+returns-2 c = decides_no (none_short (start c.before.before.before.before).args.self c.denominator_of-d.ensures c.if-d-eq0.true)
 
 returns-3 : tie.Need-returns-then-d-live
 returns-3 c =
-    decides_no (another (start c.before.before.before.before.before.before).args.self c.before.before.denominator_of-d.ensures c.before.if-d-eq0.false c.if-d-live.true)
+    decides_no (another (start c.before.before.before.before.before).args.self c.denominator_of-d.ensures c.if-d-eq0.false c.if-d-live.true)
 
 sums-of-requires : tie.Need-sums_of-sums-requires
 sums-of-requires c κs =
-    let d = c.before.before.before.before.before.before.before in
-    let S = seated d.before.before.before in (
+    let d = c in
+    let S = seated d.before.before.before.before.before.before.before.before in (
       capped_small d.denominator_of-d.ensures,
-      live_passing (live_of (start d.before.before.before.before).args.self) S.high S.place,
+      live_passing (live_of (start d.before.before.before.before.before.before.before.before.before).args.self) S.high S.place,
     )
 
 are-same-requires : tie.Need-are_same-requires
@@ -45,11 +45,11 @@ are-same-requires c κs = search rules
 
 returns-4 : tie.Need-returns
 returns-4 c =
-    let s = c.before.before.before.before in
-    let e = s.before.before.before.before.before.before in
-    let d = e.before.before in
-    let live = (start d.before.before.before.before).args.self in
-    sums_decide live d.denominator_of-d.ensures e.before.if-d-eq0.false e.if-d-live.false (seated d.before.before.before)
+    let s = c in
+    let e = s in
+    let d = e in
+    let live = (start d.before.before.before.before.before.before.before.before.before.before.before.before.before).args.self in
+    sums_decide live d.denominator_of-d.ensures e.if-d-eq0.false e.if-d-live.false (seated d.before.before.before.before.before.before.before.before.before.before.before.before)
     s.sums_of-sums.result
     (s.sums_of-sums.ensures.1 live.label) c.are_same.ensures
 

@@ -33,7 +33,7 @@ array-write-period c = search rules
 
 cast-first : tie.Need-overflow_cast-first
 cast-first c =
-    let z = c.before.before.before.before.before.before in
+    let z = c in
     omega (arith, (new_seat_fits z.args.self.elements z.args.entry z.requires.1.rows.high z.requires.2).0)
 
 array-write-first : tie.Need-bounds-first-k
@@ -41,7 +41,7 @@ array-write-first c = search rules
 
 cast-second : tie.Need-overflow_cast-second
 cast-second c =
-    let z = c.before.before.before.before.before.before.before in
+    let z = c in
     omega (arith, (new_seat_fits z.args.self.elements z.args.entry z.requires.1.rows.high z.requires.2).1)
 
 array-write-second : tie.Need-bounds-second-k
@@ -60,8 +60,8 @@ denominator-of-requires c κs =
 
 sums-of-requires : tie.Need-sums_of-sums-requires
 sums-of-requires c κs =
-    let d = c.before.before.before.before in
-    let z = d.before.before.before.before.before.before.before.before.before in (
+    let d = c in
+    let z = d.before.before.before.before.before.before.before.before.before.before.before.before.before in (
       omega (arith, capped_small d.denominator_of-d.ensures, z.requires.1.short),
       put_passing z.args.self z.args.k z.args.entry (sized z) z.requires.0 z.requires.1.rows z.requires.2,
     )
@@ -69,7 +69,7 @@ sums-of-requires c κs =
 returns : tie.Need-returns
 unfolding sum_over
 returns c =
-    let d = c.before.before.before.before.before in
+    let d = c in
     record {
       elements = refl;
       cost = refl;

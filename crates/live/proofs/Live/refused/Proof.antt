@@ -10,7 +10,7 @@ returns : tie.Need-returns
 returns c = λ j. record {
   answer = record { number = c.at.ensures.0 j; place = c.at.ensures.1 j };
   taken = 0;
-  live = c.before.args.self;
+  live = c.args.self;
 }
 
 pub refused_spec : {M : Type 1} → statement M

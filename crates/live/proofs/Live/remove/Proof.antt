@@ -23,8 +23,8 @@ sized c = record {
   sums = search rules;
 }
 
-ordered : (c : tie.Else-not-is_in_order) → InOrder (live_of c.before.before.args.self)
-ordered c = granted c.before.is_in_order.ensures c.if-not-is_in_order.false
+ordered : (c : tie.Else-not-is_in_order) → InOrder (live_of c.args.self)
+ordered c = granted c.is_in_order.ensures c.if-not-is_in_order.false
 
 is-in-order-requires : tie.Need-is_in_order-requires
 is-in-order-requires c κs = search rules
@@ -36,7 +36,7 @@ returns : tie.Need-returns-then-not-is_in_order
 returns c =
     let z = c.before.before.before in
     rw c.refused.ensures
-    (remove_off z.args.self z.args.k (sized z) (denied c.before.before.is_in_order.ensures c.before.if-not-is_in_order.true))
+    (remove_off z.args.self z.args.k (sized z) (denied c.is_in_order.ensures c.if-not-is_in_order.true))
 
 refused-requires-2 : tie.Need-refused-requires-then-k-ge-ROWS
 refused-requires-2 c κs = search rules
@@ -45,7 +45,7 @@ returns-2 : tie.Need-returns-then-k-ge-ROWS
 returns-2 c =
     let z = c.before.before.before.before in
     rw c.refused-then-k-ge-ROWS.ensures
-    (remove_none z.args.self z.args.k (sized z) (ordered c.before.before) (inl (omega (arith, c.before.if-k-ge-ROWS.true))))
+    (remove_none z.args.self z.args.k (sized z) (ordered c.before.before) (inl (omega (arith, c.if-k-ge-ROWS.true))))
 
 slots-at-requires : tie.Need-slots_at-requires
 slots-at-requires c κs = search rules
@@ -55,32 +55,32 @@ refused-requires-3 c κs = search rules
 
 returns-3 : tie.Need-returns-then-slots_at-eq0
 returns-3 c =
-    let z = c.before.before.before.before.before.before.before.before in
+    let z = c.before.before.before.before.before.before.before in
     let p = at z.args.self.period z.args.k in
     rw c.refused-then-slots_at-eq0.ensures
-    (remove_none z.args.self z.args.k (sized z) (ordered c.before.before.before.before.before.before)
-    (inr (λ t. omega (arith, ltb→lt 0 p t, c.before.before.slots_at.ensures, c.before.if-slots_at-eq0.true))))
+    (remove_none z.args.self z.args.k (sized z) (ordered c.before.before.before.before.before)
+    (inr (λ t. omega (arith, ltb→lt 0 p t, c.slots_at.ensures, c.if-slots_at-eq0.true))))
 
 done-requires : tie.Need-done-requires
 done-requires c κs = search rules
 
 put-requires : tie.Need-put-requires
 put-requires c κs = (
-  omega (arith, c.before.before.before.before.before.if-k-ge-ROWS.false),
-  ordered c.before.before.before.before.before.before,
+  omega (arith, c.if-k-ge-ROWS.false),
+  ordered c.before.before.before.before.before,
   inr (record { cost = refl; period = refl; first = refl; second = refl; label = refl }),
 )
 
 returns-4 : tie.Need-returns
 returns-4 c =
-    let z = c.before.before.before.before.before.before.before.before.before in
+    let z = c.before.before.before.before.before.before.before.before in
     let p = at z.args.self.period z.args.k in
-    rw (answer_done _ c.before.done.ensures)
-    (remove_done z.args.self z.args.k (sized z) (ordered c.before.before.before.before.before.before.before) (omega (
+    rw (answer_done _ c.done.ensures)
+    (remove_done z.args.self z.args.k (sized z) (ordered c.before.before.before.before.before.before) (omega (
       arith,
-      c.before.before.before.before.before.before.if-k-ge-ROWS.false,
+      c.if-k-ge-ROWS.false,
     ))
-    (lt→ltb 0 p (omega (arith, c.before.before.before.slots_at.ensures, c.before.before.if-slots_at-eq0.false))) c.put.ensures)
+    (lt→ltb 0 p (omega (arith, c.slots_at.ensures, c.if-slots_at-eq0.false))) c.put.ensures)
 
 pub remove_spec : {M : Type 1} → statement M
 remove_spec =

@@ -31,12 +31,12 @@ row-at-requires : tie.Need-row_at-requires invariant-loop decreases-loop
 row-at-requires c κs = search rules
 
 mul-put-numbers : tie.Need-overflow_mul-rows invariant-loop decreases-loop
-mul-put-numbers c = let P = c.before.before.before.before.before.loop-i.invariant in omega (arith, P.few, P.fewer)
+mul-put-numbers c = let P = c.loop-i.invariant in omega (arith, P.few, P.fewer)
 
 put-numbers-requires : tie.Need-put_numbers-requires invariant-loop decreases-loop
 put-numbers-requires c κs =
-    let u = c.before.before.before.before.before.before in
-    omega (arith, u.loop-i.invariant.fewer, u.loop-i.invariant.filled.same, u.before.before.requires)
+    let u = c in
+    omega (arith, u.loop-i.invariant.fewer, u.loop-i.invariant.filled.same, u.requires)
 
 add-rows : tie.Need-overflow_add-rows invariant-loop decreases-loop
 add-rows c = search rules
@@ -49,19 +49,19 @@ loop-less c = search rules
 
 loop-again : tie.Need-loop-i-preserved invariant-loop decreases-loop
 loop-again c =
-    let s = c.before in
-    let u = s.before.before in
+    let s = c in
+    let u = s in
     ⊎_elim
-    (λ w. rw (w.7, w.8) (packing_held u.loop-i.invariant (omega arith) (λ e. w.0.true (s.slots_at.ensures ∙ e)) u.before.before.requires
+    (λ w. rw (w.7, w.8) (packing_held u.loop-i.invariant (omega arith) (λ e. w.0.true (s.slots_at.ensures ∙ e)) u.requires
     w.2.ensures w.4.ensures))
     (λ w. rw (w.1, w.2) (packing_free u.loop-i.invariant (omega arith) (sym s.slots_at.ensures ∙ w.0.left)))
     c.if-slots_at-ne0.branch
 
 same_length : tie.Need-shape_of-out invariant-loop decreases-loop
-same_length c = c.before.loop-i.invariant.filled.same
+same_length c = c.loop-i.invariant.filled.same
 
 returns : tie.Need-returns invariant-loop decreases-loop
-returns c = packing_end c.before.loop-i.invariant (omega arith)
+returns c = packing_end c.loop-i.invariant (omega arith)
 
 pub put_present_spec : {M : Type 1} → statement M
 put_present_spec =

@@ -17,10 +17,10 @@ at-requires c κs = search rules
 
 returns : tie.Need-returns-then-not-is_in_order
 returns c =
-    let i = c.before.before in
-    let z = i.before.before.args in
+    let i = c in
+    let z = i.args in
     rw (c.at.ensures.0, c.at.ensures.1)
-    (file_off z.version (live_of z.t1) z.out.now (denied i.is_in_order.ensures c.before.if-not-is_in_order.true))
+    (file_off z.version (live_of z.t1) z.out.now (denied i.is_in_order.ensures c.if-not-is_in_order.true))
 
 slice-aggregate-put-present : tie.Need-slice_bounds-put_present-end
 slice-aggregate-put-present c = search rules
@@ -29,13 +29,13 @@ put-present-requires : tie.Need-put_present-rows-requires
 put-present-requires c κs = search rules
 
 mul-size : tie.Need-overflow_mul-size
-mul-size c = omega (arith, present_few c.before.put_present-rows.ensures)
+mul-size c = omega (arith, present_few c.put_present-rows.ensures)
 
 array-share-prefix-numbers : tie.Need-slice_bounds-numbers-end
-array-share-prefix-numbers c = omega (arith, present_few c.before.put_present-rows.ensures)
+array-share-prefix-numbers c = omega (arith, present_few c.put_present-rows.ensures)
 
 slice-aggregate-write-plain : tie.Need-slice_bounds-write_plain-end
-slice-aggregate-write-plain c = sym (present_length c.before.before.put_present-rows.ensures)
+slice-aggregate-write-plain c = sym (present_length c.put_present-rows.ensures)
 
 write-plain-requires : tie.Need-write_plain-requires
 write-plain-requires c κs = search rules
@@ -46,11 +46,11 @@ same_length c = search rules
 returns-2 : tie.Need-returns
 unfolding numbers
 returns-2 c =
-    let w = c.before.before in
-    let p = w.before.before.before.before in
-    let e = p.before.before.before.before.before.before.before.before in
-    let i = e.before in
-    let z = i.before.before.args in
+    let w = c in
+    let p = w in
+    let e = p in
+    let i = e in
+    let z = i.args in
     file_written z.version (live_of z.t1) z.out.now p.put_present-rows.result _ _ _ _
     (granted i.is_in_order.ensures e.if-not-is_in_order.false) p.put_present-rows.ensures.rows (present_numbers p.put_present-rows.ensures)
     w.write_plain.ensures

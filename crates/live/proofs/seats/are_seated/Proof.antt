@@ -15,22 +15,22 @@ are-seats-requires : tie.Need-are_seats-requires
 are-seats-requires c κs = search rules
 
 returns-3 : tie.Need-returns-then-not-are_seats
-returns-3 c = decides_no (λ S. denied c.before.are_seats.ensures c.if-not-are_seats.true S.place)
+returns-3 c = decides_no (λ S. denied c.are_seats.ensures c.if-not-are_seats.true S.place)
 
 are-single-requires : tie.Need-are_single-requires
 are-single-requires c κs = search rules
 
 returns-4 : tie.Need-returns
 returns-4 c =
-    let p = c.before in
-    let e = p.before.before in
-    let z = e.before.before.args in
+    let p = c in
+    let e = p in
+    let z = e.args in
     let D = c.are_single.ensures z.elements in
     record {
       holds = λ t. record {
-        low = omega (arith, e.before.if-elements-lt2.false);
+        low = omega (arith, e.if-elements-lt2.false);
         high = omega (arith, e.if-elements-gt-ELEMENTS.false);
-        place = granted p.before.are_seats.ensures p.if-not-are_seats.false;
+        place = granted p.are_seats.ensures p.if-not-are_seats.false;
         single = D.holds t;
       };
       fails = λ f S. D.fails f S.single;

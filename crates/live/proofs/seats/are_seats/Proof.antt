@@ -35,12 +35,12 @@ is-seat-requires c κs = search rules
 
 returns : tie.Need-returns-then-not-is_seat invariant-loop decreases-loop
 returns c =
-    let s = c.before in
-    let r = s.before in
-    let u = r.before.before.before in
+    let s = c in
+    let r = s in
+    let u = r in
     upto_stop u.loop-i.i (omega arith)
     (λ q. denied s.is_seat.ensures c.if-not-is_seat.true
-    (of_seat (place_row u.before.args.elements (at u.before.args.label.now) r.row_at.ensures) q))
+    (of_seat (place_row u.args.elements (at u.args.label.now) r.row_at.ensures) q))
 
 add-i : tie.Need-overflow_add-i invariant-loop decreases-loop
 add-i c = search rules
@@ -50,15 +50,15 @@ loop-less c = search rules
 
 loop-again : tie.Need-loop-i-preserved invariant-loop decreases-loop
 loop-again c =
-    let s = c.before in
-    let r = s.before in
-    let u = r.before.before.before in
+    let s = c in
+    let r = s in
+    let u = r in
     upto_next u.loop-i.invariant (omega arith)
-    (seat_of (place_row u.before.args.elements (at u.before.args.label.now) r.row_at.ensures)
+    (seat_of (place_row u.args.elements (at u.args.label.now) r.row_at.ensures)
     (granted s.is_seat.ensures c.if-not-is_seat.false))
 
 returns-2 : tie.Need-returns invariant-loop decreases-loop
-returns-2 c = upto_end c.before.loop-i.invariant (omega arith)
+returns-2 c = upto_end c.loop-i.invariant (omega arith)
 
 pub are_seats_spec : {M : Type 1} → statement M
 are_seats_spec =

@@ -33,9 +33,9 @@ is-repeated-requires c κs = search rules
 returns : tie.Need-returns-then-is_repeated invariant-loop decreases-loop
 unfolding pasted
 returns c elements =
-    let d = c.before in
-    let u = d.before.before in
-    let z = u.before.args in
+    let d = c in
+    let u = d in
+    let z = u.args in
     let t = of_true (sym (d.is_repeated.ensures 0) ∙ c.if-is_repeated.true) in
     upto_stop u.loop-i.i (omega arith)
     (λ n. n (fst (ltb 0 (at z.period.now u.loop-i.i)) _ t) (snd (ltb 0 (at z.period.now u.loop-i.i)) _ t))
@@ -48,15 +48,15 @@ loop-less c = search rules
 
 loop-again : tie.Need-loop-i-preserved invariant-loop decreases-loop
 loop-again c =
-    let d = c.before in
-    let u = d.before.before in
-    let z = u.before.args in
+    let d = c in
+    let u = d in
+    let z = u.args in
     upto_next u.loop-i.invariant (omega arith)
     (λ h p. of_false (sym (d.is_repeated.ensures 0) ∙ c.if-is_repeated.false) (both (ltb 0 (at z.period.now u.loop-i.i)) _ h p))
 
 returns-2 : tie.Need-returns invariant-loop decreases-loop
 unfolding pasted
-returns-2 c elements = upto_end c.before.loop-i.invariant (omega arith)
+returns-2 c elements = upto_end c.loop-i.invariant (omega arith)
 
 pub are_single_spec : {M : Type 1} → statement M
 are_single_spec =

@@ -24,9 +24,9 @@ is-equal-requires c κs = search rules
 
 returns : tie.Need-returns-then-is_equal invariant-loop decreases-loop
 returns c =
-    let d = c.before in
-    let u = d.before.before in
-    sym (is_true _ (any_of u.before.args.count _ u.loop-j.j (omega arith) (of_true (sym d.is_equal.ensures ∙ c.if-is_equal.true))))
+    let d = c in
+    let u = d in
+    sym (is_true _ (any_of u.args.count _ u.loop-j.j (omega arith) (of_true (sym d.is_equal.ensures ∙ c.if-is_equal.true))))
 
 add-j : tie.Need-overflow_add-j invariant-loop decreases-loop
 add-j c = search rules
@@ -36,13 +36,13 @@ loop-less c = search rules
 
 loop-again : tie.Need-loop-j-preserved invariant-loop decreases-loop
 loop-again c =
-    let d = c.before in
-    sought_next d.before.before.loop-j.invariant (omega arith) (sym d.is_equal.ensures ∙ c.if-is_equal.false)
+    let d = c in
+    sought_next d.loop-j.invariant (omega arith) (sym d.is_equal.ensures ∙ c.if-is_equal.false)
 
 returns-2 : tie.Need-returns invariant-loop decreases-loop
 returns-2 c =
-    let u = c.before in
-    sym (any_none u.before.args.count _ (λ j l. u.loop-j.invariant.none j (omega arith)))
+    let u = c in
+    sym (any_none u.args.count _ (λ j l. u.loop-j.invariant.none j (omega arith)))
 
 pub has_row_spec : {M : Type 1} → statement M
 has_row_spec =

@@ -16,8 +16,8 @@ cast-if1 c = search rules
 
 returns : tie.Need-returns-then-end_at-row
 returns c =
-    let d = c.before.before in
-    let z = d.before.args in
+    let d = c in
+    let z = d.args in
     first_differs (at z.first.now z.j) (at z.second.now z.j) (at z.period.now z.j) z.row.first z.row.second
     z.row.period (λ e. c.if-end_at-row.true (d.end_at.ensures ∙ e))
 
@@ -29,11 +29,11 @@ cast-if2 c = search rules
 
 returns-2 : tie.Need-returns-then-end_at-row-2
 returns-2 c =
-    let s = c.before.before in
-    let d = s.before.before.before in
-    let z = d.before.args in
+    let s = c in
+    let d = s in
+    let z = d.args in
     second_differs (at z.first.now z.j) (at z.second.now z.j) (at z.period.now z.j) z.row.first z.row.second
-    z.row.period (sym d.end_at.ensures ∙ s.before.if-end_at-row.false) (λ e. c.if-end_at-row-2.true (s.end_at-2.ensures ∙ e))
+    z.row.period (sym d.end_at.ensures ∙ s.if-end_at-row.false) (λ e. c.if-end_at-row-2.true (s.end_at-2.ensures ∙ e))
 
 slots-at-requires : tie.Need-slots_at-requires
 slots-at-requires c κs = search rules
@@ -43,13 +43,13 @@ cast-result c = search rules
 
 returns-3 : tie.Need-returns
 returns-3 c =
-    let e = c.before.before in
-    let s = e.before.before in
-    let d = s.before.before.before in
-    let z = d.before.args in
-    ap (λ (p : ℕ). eqb p z.row.period) c.before.slots_at.ensures
+    let e = c in
+    let s = e in
+    let d = s in
+    let z = d.args in
+    ap (λ (p : ℕ). eqb p z.row.period) c.slots_at.ensures
     ∙ third_decides (at z.first.now z.j) (at z.second.now z.j) (at z.period.now z.j) z.row.first z.row.second
-    z.row.period (sym d.end_at.ensures ∙ s.before.if-end_at-row.false) (sym s.end_at-2.ensures ∙ e.if-end_at-row-2.false)
+    z.row.period (sym d.end_at.ensures ∙ s.if-end_at-row.false) (sym s.end_at-2.ensures ∙ e.if-end_at-row-2.false)
 
 pub is_equal_spec : {M : Type 1} → statement M
 is_equal_spec =

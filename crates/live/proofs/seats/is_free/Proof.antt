@@ -18,9 +18,9 @@ returns-4 c = decides_no (λ z. c.if-row-ne0-4.true z.second)
 
 returns-5 : tie.Need-returns
 returns-5 c =
-    let d = c.before in
-    zeros_decided d.before.before.before.before.before.before.if-row-ne0.false d.before.before.before.before.if-row-ne0-2.false
-    d.before.before.if-row-ne0-3.false d.if-row-ne0-4.false
+    let d = c in
+    zeros_decided d.if-row-ne0.false d.if-row-ne0-2.false
+    d.if-row-ne0-3.false d.if-row-ne0-4.false
 
 pub is_free_spec : {M : Type 1} → statement M
 is_free_spec = tie.close (tie.spec returns returns-2 returns-3 returns-4 returns-5)

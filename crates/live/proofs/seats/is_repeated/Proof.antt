@@ -12,7 +12,7 @@ slots-at-requires : tie.Need-slots_at-requires
 slots-at-requires c κs = search rules
 
 returns : tie.Need-returns-then-slots_at-eq0
-returns c elements = free_single _ _ (sym c.before.slots_at.ensures ∙ c.if-slots_at-eq0.true)
+returns c elements = free_single _ _ (sym c.slots_at.ensures ∙ c.if-slots_at-eq0.true)
 
 row-at-requires : tie.Need-row_at-requires
 row-at-requires c κs = search rules
@@ -22,12 +22,12 @@ has-row-requires c κs = search rules
 
 returns-2 : tie.Need-returns
 returns-2 c elements =
-    let r = c.before in
-    let b = r.before in
-    let z = b.before.before.args in
+    let r = c in
+    let b = r in
+    let z = b.args in
     let l = column_live elements z.cost.now z.period.now z.first.now z.second.now [] in
     c.has_row.ensures ∙ earlier_equal l (place_row elements (λ j. 0) r.row_at.ensures)
-    ∙ held_decides _ _ (λ e. b.if-slots_at-eq0.false (b.before.slots_at.ensures ∙ e))
+    ∙ held_decides _ _ (λ e. b.if-slots_at-eq0.false (b.slots_at.ensures ∙ e))
 
 pub is_repeated_spec : {M : Type 1} → statement M
 is_repeated_spec = tie.close (tie.spec slots-at-requires returns row-at-requires has-row-requires returns-2)

@@ -32,7 +32,7 @@ mul-all : tie.Need-offset_bounds-all-i invariant-loop decreases-loop
 mul-all c = search rules
 
 array-write-all : tie.Need-bounds-all-i invariant-loop decreases-loop
-array-write-all c = omega (arith, c.before.before.before.loop-i.invariant.1.size)
+array-write-all c = omega (arith, c.loop-i.invariant.1.size)
 
 add-i : tie.Need-overflow_add-i invariant-loop decreases-loop
 add-i c = search rules
@@ -42,12 +42,12 @@ loop-less c = search rules
 
 loop-again : tie.Need-loop-i-preserved invariant-loop decreases-loop
 loop-again c =
-    let d = c.before.before.before in
+    let d = c in
     (omega arith, by_row_put _ d.loop-i.invariant.1 (omega arith) c.at_least_one.ensures)
 
 returns : tie.Need-returns invariant-loop decreases-loop
 returns c =
-    let d = c.before in
+    let d = c in
     let e : d.loop-i.i ≡ max_rows = omega (arith, d.loop-i.invariant.0) in
     rw e at d.loop-i.invariant.1
 

@@ -8,10 +8,10 @@ counted-requires : tie.Need-counted-all-requires
 counted-requires c κs = search rules
 
 hyperperiod-of-requires : tie.Need-hyperperiod_of-requires
-hyperperiod-of-requires c κs = counted_periods _ _ c.before.before.requires c.before.counted-all.ensures
+hyperperiod-of-requires c κs = counted_periods _ _ c.requires c.counted-all.ensures
 
 returns : tie.Need-returns
-returns c = counted_common _ _ c.before.before.counted-all.ensures c.hyperperiod_of.ensures
+returns c = counted_common _ _ c.counted-all.ensures c.hyperperiod_of.ensures
 
 pub denominator_of_spec : {M : Type 1} → statement M
 denominator_of_spec = tie.close (tie.spec counted-requires hyperperiod-of-requires returns)

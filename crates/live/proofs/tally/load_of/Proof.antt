@@ -11,14 +11,14 @@ abbrev start : tie.After-struct_known-5-1 → tie.Start
 start c = c.before.before.before.before.before.before.before.before
 
 present : (c : tie.After-struct_known-5-1) → 0 < (start c).args.row.period
-present c = omega (arith, c.before.before.before.before.before.before.if-row-eq0.false)
+present c = omega (arith, c.if-row-eq0.false)
 
 small : (c : tie.After-struct_known-5-1) → let z = start c in z.args.d / z.args.row.period * z.args.row.cost ≤ z.args.d
 small c = adds_little _ _ _ ((start c).requires.3 (present c)).cost_high
 
 returns : tie.Need-returns-then-row-eq0
 returns c =
-    let z = c.before.before.args in
+    let z = c.args in
     (free_adds z.d (single z.elements 1 z.row) z.s c.if-row-eq0.true, omega arith)
 
 cast-segments : tie.Need-overflow_cast-row
@@ -29,8 +29,8 @@ cast-segments-2 c = search rules
 
 segments-requires : tie.Need-segments-word-requires
 segments-requires c κs =
-    let b = c.before.before in
-    let z = b.before.before in
+    let b = c in
+    let z = b in
     let S = z.requires.3 (omega (arith, b.if-row-eq0.false)) in (
       z.requires.0,
       record { low = omega (arith, S.first_low, S.second_low); high = omega (arith, S.first_high, S.second_high) },
@@ -45,10 +45,10 @@ shr-if2 c = search rules
 
 returns-2 : tie.Need-returns-then-word-s-eq0
 returns-2 c =
-    let z = c.before.before.before.before.before.before in (
+    let z = c in (
       apart_adds z.args.d (single z.args.elements 1 z.args.row) z.args.s z.requires.2
-          (omega (arith, (z.requires.3 (omega (arith, c.before.before.before.before.if-row-eq0.false))).way_known)) _
-          c.before.segments-word.ensures c.if-word-s-eq0.true,
+          (omega (arith, (z.requires.3 (omega (arith, c.if-row-eq0.false))).way_known)) _
+          c.segments-word.ensures c.if-word-s-eq0.true,
       omega arith,
     )
 
@@ -66,10 +66,10 @@ mul-result c = omega (arith, small c, (start c).requires.1)
 
 returns-3 : tie.Need-returns
 returns-3 c =
-    let b = c.before.before in
+    let b = c in
     let z = start c in (
       row_adds z.args.d (single z.args.elements 1 z.args.row) z.args.s z.requires.2
-          (omega (arith, (z.requires.3 (present c)).way_known)) _ b.before.segments-word.ensures (
+          (omega (arith, (z.requires.3 (present c)).way_known)) _ b.segments-word.ensures (
           present c)
           b.if-word-s-eq0.false,
       omega (arith, small c, z.requires.1),

@@ -24,13 +24,13 @@ row-at-requires c κs = search rules
 
 load-of-requires : tie.Need-load_of-total-requires invariant-loop decreases-loop
 load-of-requires c κs =
-    let u = c.before.before in
-    let z = u.before in
+    let u = c in
+    let z = u in
     let is = place_row z.args.elements (λ j. 0) c.row_at.ensures in
     (z.requires.2.small, z.requires.0, z.requires.1, λ p. row_alone is (z.requires.2.row u.loop-i.i (omega arith) (omega (arith, is.period, p))))
 
 add_total : tie.Need-overflow_add-total invariant-loop decreases-loop
-add_total c = omega (arith, c.load_of-total.ensures.1, c.before.before.before.loop-i.invariant.small, c.before.before.before.loop-i.invariant.few)
+add_total c = omega (arith, c.load_of-total.ensures.1, c.loop-i.invariant.small, c.loop-i.invariant.few)
 
 add-i : tie.Need-overflow_add-i invariant-loop decreases-loop
 add-i c = search rules
@@ -40,14 +40,14 @@ loop-less c = search rules
 
 loop-again : tie.Need-loop-i-preserved invariant-loop decreases-loop
 loop-again c =
-    let u = c.before.before.before in
-    let z = u.before.args in
+    let u = c in
+    let z = u.args in
     adding_next _ u.loop-i.invariant (omega arith)
-    (c.load_of-total.ensures.0 ∙ load_alone z.d z.s (place_row z.elements (λ j. 0) c.before.row_at.ensures))
+    (c.load_of-total.ensures.0 ∙ load_alone z.d z.s (place_row z.elements (λ j. 0) c.row_at.ensures))
     c.load_of-total.ensures.1
 
 returns : tie.Need-returns invariant-loop decreases-loop
-returns c label = adding_end _ _ c.before.loop-i.invariant (omega arith) c.before.before.requires.1
+returns c label = adding_end _ _ c.loop-i.invariant (omega arith) c.requires.1
 
 pub sum_of_spec : {M : Type 1} → statement M
 sum_of_spec =

@@ -19,27 +19,27 @@ loop-holds : tie.Need-loop-s-init invariant-loop decreases-loop
 loop-holds c = (omega arith, λ label. summed_start)
 
 sum-of-requires : tie.Need-sum_of-requires invariant-loop decreases-loop
-sum-of-requires c κs = let z = c.before.before in (z.requires.0, omega arith, z.requires.1)
+sum-of-requires c κs = let z = c in (z.requires.0, omega arith, z.requires.1)
 
 mul-sums : tie.Need-offset_bounds-sums-s invariant-loop decreases-loop
-mul-sums c = omega (arith, c.before.before.before.requires.1.small)
+mul-sums c = omega (arith, c.requires.1.small)
 
 array-write-sums : tie.Need-bounds-sums-s invariant-loop decreases-loop
-array-write-sums c = let u = c.before.before in omega (arith, (u.loop-s.invariant.1 []).size, u.before.requires.1.small)
+array-write-sums c = let u = c in omega (arith, (u.loop-s.invariant.1 []).size, u.requires.1.small)
 
 add-s : tie.Need-overflow_add-s invariant-loop decreases-loop
-add-s c = omega (arith, c.before.before.before.requires.1.small)
+add-s c = omega (arith, c.requires.1.small)
 
 loop-less : tie.Need-loop-s-smaller invariant-loop decreases-loop
 loop-less c = omega arith
 
 loop-again : tie.Need-loop-s-preserved invariant-loop decreases-loop
 loop-again c =
-    let u = c.before.before in
-    (omega arith, λ label. summed_next _ (u.loop-s.invariant.1 label) (omega (arith, u.before.requires.1.small)) (c.sum_of.ensures label))
+    let u = c in
+    (omega arith, λ label. summed_next _ (u.loop-s.invariant.1 label) (omega (arith, u.requires.1.small)) (c.sum_of.ensures label))
 
 returns : tie.Need-returns invariant-loop decreases-loop
-returns c = let L = c.before.loop-s.invariant.1 in ((L []).size, λ label. summed_end _ _ (L label) (omega arith))
+returns c = let L = c.loop-s.invariant.1 in ((L []).size, λ label. summed_end _ _ (L label) (omega arith))
 
 pub sums_of_spec : {M : Type 1} → statement M
 sums_of_spec =

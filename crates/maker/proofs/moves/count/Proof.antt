@@ -17,33 +17,33 @@ decreases-loop plan hyper into from n₀ slot₀ n slot = hyper - slot
 
 loop-holds : tie.Need-loop-slot-init invariant-loop decreases-loop
 loop-holds c =
-    let a = c.before.args in
+    let a = c.args in
     (omega arith, sym (moves_none a.into a.from a.plan.now), omega arith)
 
 mul-word : tie.Need-offset_bounds-plan-slot invariant-loop decreases-loop
 mul-word c = search rules
 
 shared-slice-read-word : tie.Need-bounds-plan-slot invariant-loop decreases-loop
-shared-slice-read-word c = omega (arith, c.before.before.before.before.requires.0)
+shared-slice-read-word c = omega (arith, c.requires.0)
 
 one-requires : tie.Need-one-n-requires invariant-loop decreases-loop
-one-requires c κs = c.before.before.before.before.requires.2.into c.before.before.loop-slot.slot c.before.loop-slot-test.true
+one-requires c κs = c.requires.2.into c.loop-slot.slot c.loop-slot-test.true
 
 add-n : tie.Need-overflow_add-n invariant-loop decreases-loop
-add-n c = omega (arith, c.one-n.ensures.1, c.before.before.before.loop-slot.invariant.2, c.before.before.before.before.before.requires.1)
+add-n c = omega (arith, c.one-n.ensures.1, c.loop-slot.invariant.2, c.requires.1)
 
 one-requires-2 : tie.Need-one-n-requires-in-loop-slot invariant-loop decreases-loop
-one-requires-2 c κs = c.before.before.before.before.before.requires.2.from c.before.before.before.loop-slot.slot
-    c.before.before.loop-slot-test.true
+one-requires-2 c κs = c.requires.2.from c.loop-slot.slot
+    c.loop-slot-test.true
 
 add-n-2 : tie.Need-overflow_add-n-in-loop-slot invariant-loop decreases-loop
 add-n-2 c =
     omega (
       arith,
-      c.before.one-n.ensures.1,
+      c.one-n.ensures.1,
       c.one-n-in-loop-slot.ensures.1,
-      c.before.before.before.before.loop-slot.invariant.2,
-      c.before.before.before.before.before.before.requires.1,
+      c.loop-slot.invariant.2,
+      c.requires.1,
     )
 
 add-slot : tie.Need-overflow_add-slot invariant-loop decreases-loop
@@ -54,9 +54,9 @@ loop-less c = search rules
 
 loop-again : tie.Need-loop-slot-preserved invariant-loop decreases-loop
 loop-again c =
-    let z = c.before.before.before.before.before.before in
-    let u = c.before.before.before.before.loop-slot in
-    let e = c.before.one-n.ensures in
+    let z = c in
+    let u = c.loop-slot in
+    let e = c.one-n.ensures in
     let f = c.one-n-in-loop-slot.ensures in (
       omega arith,
       omega (
@@ -72,10 +72,10 @@ loop-again c =
 
 returns : tie.Need-returns invariant-loop decreases-loop
 returns c =
-    let u = c.before.loop-slot in
-    let all : u.slot ≡ c.before.before.before.args.hyper = omega (arith, u.invariant.0) in (
-      u.invariant.1 ∙ ap (λ n. length (plan_moves c.before.before.before.args.into c.before.before.before.args.from n
-          c.before.before.before.args.plan.now)) all,
+    let u = c.loop-slot in
+    let all : u.slot ≡ c.args.hyper = omega (arith, u.invariant.0) in (
+      u.invariant.1 ∙ ap (λ n. length (plan_moves c.args.into c.args.from n
+          c.args.plan.now)) all,
       omega (arith, u.invariant.2),
     )
 

@@ -24,10 +24,10 @@ loop-holds : tie.Need-loop-i-init invariant-loop decreases-loop
 loop-holds c = (omega arith, sym (ending_none (at c.args.ends.now) c.args.element))
 
 end-at-requires : tie.Need-end_at-requires invariant-loop decreases-loop
-end-at-requires c κs = omega (arith, c.before.before.requires)
+end-at-requires c κs = omega (arith, c.requires)
 
 shl-word : tie.Need-overflow_shl-word invariant-loop decreases-loop
-shl-word c = omega (arith, c.before.before.before.before.requires)
+shl-word c = omega (arith, c.requires)
 
 add-i : tie.Need-overflow_add-i invariant-loop decreases-loop
 add-i c = search rules
@@ -37,9 +37,9 @@ loop-less c = search rules
 
 loop-again : tie.Need-loop-i-preserved invariant-loop decreases-loop
 loop-again c =
-    let z = c.before.before.before.before in
-    let u = c.before.before.before.loop-i in
-    let e = c.before.end_at.ensures in
+    let z = c in
+    let u = c.loop-i in
+    let e = c.end_at.ensures in
     let p : ℕ → Bool = λ i. eqb (at z.args.ends.now i) z.args.element in (
       omega arith,
       ⊎_elim
@@ -50,8 +50,8 @@ loop-again c =
 
 returns : tie.Need-returns invariant-loop decreases-loop
 returns c =
-    let all : c.before.loop-i.i ≡ c.before.before.args.rows = omega (arith, c.before.loop-i.invariant.0) in
-    rw all at c.before.loop-i.invariant.1
+    let all : c.loop-i.i ≡ c.args.rows = omega (arith, c.loop-i.invariant.0) in
+    rw all at c.loop-i.invariant.1
 
 pub ending_at_spec : {M : Type 1} → statement M
 ending_at_spec =

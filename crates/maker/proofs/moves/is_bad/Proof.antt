@@ -29,25 +29,25 @@ past-last-requires c κs = search rules
 
 returns : tie.Need-returns-then-past_last invariant-loop decreases-loop
 returns c t e l =
-    let q = c.before.past_last.ensures.holds c.if-past_last.true in
+    let q = c.past_last.ensures.holds c.if-past_last.true in
     decides_yes (inl (q.0, omega (arith, e, q.1), q.2))
 
 loop-holds : tie.Need-loop-i-init invariant-loop decreases-loop
 loop-holds c = (omega arith, λ t e l. used_start t _)
 
 shr-if2 : tie.Need-overflow_shr-word invariant-loop decreases-loop
-shr-if2 c = omega (arith, c.before.before.before.before.requires)
+shr-if2 c = omega (arith, c.requires)
 
 segments-at-requires : tie.Need-segments_at-segments-requires invariant-loop decreases-loop
-segments-at-requires c κs = omega (arith, c.before.before.before.before.before.requires)
+segments-at-requires c κs = omega (arith, c.requires)
 
 returns-2 : tie.Need-returns-then-used-segments-ne0 invariant-loop decreases-loop
 returns-2 c t e l =
-    let u = c.before.before.before.before.loop-i in
-    let m = c.before.before.before.loop-i-test.true in
-    let g = c.before.segments_at-segments.ensures ∙ l.row u.i (omega (arith, e, m)) in
-    let a = c.before.before.before.before.before.before.before.args in
-    decides_yes (used_stop (u.invariant.1 t e l) (bit_is a.word u.i c.before.before.if-word-i-eq1.true) (ways l u.i (omega (arith, e, m)))
+    let u = c.loop-i in
+    let m = c.loop-i-test.true in
+    let g = c.segments_at-segments.ensures ∙ l.row u.i (omega (arith, e, m)) in
+    let a = c.args in
+    decides_yes (used_stop (u.invariant.1 t e l) (bit_is a.word u.i c.if-word-i-eq1.true) (ways l u.i (omega (arith, e, m)))
     (omega (arith, e, m))
     (λ z. c.if-used-segments-ne0.true (ap (bit_and u.used) g ∙ z)))
 
@@ -59,9 +59,9 @@ loop-less c = search rules
 
 loop-again : tie.Need-loop-i-preserved invariant-loop decreases-loop
 loop-again c =
-    let u = c.before.before.loop-i in
-    let m = c.before.loop-i-test.true in
-    let a = c.before.before.before.before.before.args in (
+    let u = c.loop-i in
+    let m = c.loop-i-test.true in
+    let a = c.args in (
       omega arith,
       λ t e l.
           ⊎_elim
@@ -76,8 +76,8 @@ loop-again c =
 
 returns-3 : tie.Need-returns invariant-loop decreases-loop
 returns-3 c t e l =
-    let u = c.before.loop-i in
-    let p = c.before.before.before.past_last.ensures.fails c.before.before.if-past_last.false in
+    let u = c.loop-i in
+    let p = c.past_last.ensures.fails c.if-past_last.false in
     decides_no (used_end (u.invariant.1 t e l) (omega (arith, e, u.invariant.0)) (λ q. p (q.0, omega (arith, e, q.1), q.2)))
 
 pub is_bad_spec : {M : Type 1} → statement M

@@ -16,12 +16,12 @@ abbrev decreases-loop : tie.decreases-loop-slot
 decreases-loop rows routes plan hyper slot₀ slot = hyper - slot
 
 loop-holds : tie.Need-loop-slot-init invariant-loop decreases-loop
-loop-holds c = (omega arith, λ t e l. clean_start t c.before.args.plan.now)
+loop-holds c = (omega arith, λ t e l. clean_start t c.args.plan.now)
 
 returns : tie.Need-returns-then-slot-plan invariant-loop decreases-loop
 returns c t e l =
-    let u = c.before.before.loop-slot in
-    let a = c.before.before.before.before.args in
+    let u = c.loop-slot in
+    let a = c.args in
     clean_past t a.plan.now u.slot a.hyper (u.invariant.1 t e l) c.if-slot-plan.true
 
 mul-is-bad : tie.Need-offset_bounds-plan-slot invariant-loop decreases-loop
@@ -35,10 +35,10 @@ is-bad-requires c κs = search rules
 
 returns-2 : tie.Need-returns-then-is_bad invariant-loop decreases-loop
 returns-2 c t e l =
-    let u = c.before.before.before.before.before.loop-slot in
-    let a = c.before.before.before.before.before.before.before.args in
+    let u = c.loop-slot in
+    let a = c.args in
     clean_found t a.plan.now u.slot a.hyper (u.invariant.1 t e l) u.invariant.0
-    ((c.before.is_bad.ensures t e l).holds c.if-is_bad.true)
+    ((c.is_bad.ensures t e l).holds c.if-is_bad.true)
 
 add-slot : tie.Need-overflow_add-slot invariant-loop decreases-loop
 add-slot c = search rules
@@ -48,16 +48,16 @@ loop-less c = search rules
 
 loop-again : tie.Need-loop-slot-preserved invariant-loop decreases-loop
 loop-again c =
-    let u = c.before.before.before.before.before.loop-slot in
-    let a = c.before.before.before.before.before.before.before.args in (
-      omega (arith, c.before.before.before.before.loop-slot-test.true),
-      λ t e l. clean_next t a.plan.now u.slot (u.invariant.1 t e l) ((c.before.is_bad.ensures t e l).fails c.if-is_bad.false),
+    let u = c.loop-slot in
+    let a = c.args in (
+      omega (arith, c.loop-slot-test.true),
+      λ t e l. clean_next t a.plan.now u.slot (u.invariant.1 t e l) ((c.is_bad.ensures t e l).fails c.if-is_bad.false),
     )
 
 returns-3 : tie.Need-returns invariant-loop decreases-loop
 returns-3 c t e l =
-    let u = c.before.loop-slot in
-    let a = c.before.before.before.args in
+    let u = c.loop-slot in
+    let a = c.args in
     clean_end t a.plan.now u.slot a.hyper (u.invariant.1 t e l) (omega (arith, u.invariant.0))
 
 pub lowest_bad_spec : {M : Type 1} → statement M

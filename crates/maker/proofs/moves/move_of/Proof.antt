@@ -17,9 +17,9 @@ cast-t6 c = search rules
 
 returns : tie.Need-returns
 returns c =
-    let a = c.before.args in
+    let a = c.args in
     let l = c.lowest_row.ensures in
-    record { one = picked_one a.word a.slot a.way _ c.before.requires.0 l.0 (of_true l.1); row = l.0; way = refl }
+    record { one = picked_one a.word a.slot a.way _ c.requires.0 l.0 (of_true l.1); row = l.0; way = refl }
 
 pub move_of_spec : {M : Type 1} → statement M
 move_of_spec = tie.close (tie.spec cast-t4 lowest-row-requires cast-t6 returns)

@@ -11,8 +11,8 @@ returns c = (λ s d. rw (c.if-word-eq0.true, picked_none s d), omega arith)
 
 returns-2 : tie.Need-returns
 returns-2 c =
-    let b = some_bit c.before.args.word (omega (arith, c.before.ranges.word)) c.if-word-eq0.false in
-    (λ s d. sym (ap length (picked_one c.before.args.word s d b.0 c.before.requires b.1 b.2)), omega arith)
+    let b = some_bit c.args.word (omega (arith, c.ranges.word)) c.if-word-eq0.false in
+    (λ s d. sym (ap length (picked_one c.args.word s d b.0 c.requires b.1 b.2)), omega arith)
 
 pub one_spec : {M : Type 1} → statement M
 one_spec = tie.close (tie.spec returns returns-2)

@@ -9,10 +9,10 @@ use Rattle.maker.proofs.moves.put_byte.Statement.{statement}
 use Rattle.maker.proofs.moves.put_byte.Tie as tie
 
 returns : tie.Need-returns-then-word-eq0
-returns c = let a = c.before.before.args in put_none in_file a.word a.slot a.way _ a.n a.out.now c.if-word-eq0.true
+returns c = let a = c.args in put_none in_file a.word a.slot a.way _ a.n a.out.now c.if-word-eq0.true
 
 move-of-requires : tie.Need-move_of-requires
-move-of-requires c κs = let s = c.before.before in (s.requires.0, c.if-word-eq0.false, s.requires.1)
+move-of-requires c κs = let s = c in (s.requires.0, c.if-word-eq0.false, s.requires.1)
 
 mul-put-bytes : tie.Need-overflow_mul-n
 mul-put-bytes c = search rules
@@ -21,8 +21,8 @@ add-put-bytes : tie.Need-overflow_add-n
 add-put-bytes c = search rules
 
 put-bytes-requires : tie.Need-put_bytes-requires
-put-bytes-requires c κs = let M = c.before.move_of.ensures in
-    let s = c.before.before.before.before in
+put-bytes-requires c κs = let M = c.move_of.ensures in
+    let s = c in
     (omega (arith, ap length M.one, s.requires.3), omega (arith, M.row), omega (arith, M.way, s.requires.2))
 
 add-result : tie.Need-overflow_add-result
@@ -33,8 +33,8 @@ same_length c = search rules
 
 returns-2 : tie.Need-returns
 returns-2 c =
-    let m = c.before.before.before.before in
-    put_one in_file _ _ _ _ m.move_of.ensures c.before.before.put_bytes.ensures
+    let m = c in
+    put_one in_file _ _ _ _ m.move_of.ensures c.put_bytes.ensures
 
 pub put_byte_spec : {M : Type 1} → statement M
 put_byte_spec =

@@ -21,23 +21,23 @@ decreases-loop plan hyper into from out₀ n₀ slot₀ out n slot = hyper - slo
 
 loop-holds : tie.Need-loop-slot-init invariant-loop decreases-loop
 loop-holds c =
-    let a = c.before.before.args in
-    let front = filled_front a.out.now list_header (omega (arith, c.before.before.requires.3)) in
+    let a = c.args in
+    let front = filled_front a.out.now list_header (omega (arith, c.requires.3)) in
     (omega arith, written_start in_file a.into a.from a.plan.now front)
 
 mul-word : tie.Need-offset_bounds-plan-slot invariant-loop decreases-loop
 mul-word c = search rules
 
 shared-slice-read-word : tie.Need-bounds-plan-slot invariant-loop decreases-loop
-shared-slice-read-word c = omega (arith, c.before.before.before.before.before.requires.0)
+shared-slice-read-word c = omega (arith, c.requires.0)
 
 put-byte-requires : tie.Need-put_byte-n-requires invariant-loop decreases-loop
 put-byte-requires c κs =
-    let z = c.before.before in
-    let s = z.before.before.before.before in
+    let z = c in
+    let s = z in
     let l = z.loop-slot-test.true in
-    let W = z.before.loop-slot.invariant.1 in (
-      s.requires.2.into z.before.loop-slot.slot l,
+    let W = z.loop-slot.invariant.1 in (
+      s.requires.2.into z.loop-slot.slot l,
       omega (arith, s.requires.1, l),
       omega arith,
       omega (arith, written_room W s.args.hyper l, W.filled.same, s.requires.3),
@@ -45,12 +45,12 @@ put-byte-requires c κs =
 
 put-byte-requires-2 : tie.Need-put_byte-n-requires-in-loop-slot invariant-loop decreases-loop
 put-byte-requires-2 c κs =
-    let z = c.before.before.before.before.before.before in
-    let s = z.before.before.before.before in
+    let z = c in
+    let s = z in
     let l = z.loop-slot-test.true in
-    let W = z.before.loop-slot.invariant.1 in
-    let P = c.before.before.before.put_byte-n.ensures in (
-      s.requires.2.from z.before.loop-slot.slot l,
+    let W = z.loop-slot.invariant.1 in
+    let P = c.put_byte-n.ensures in (
+      s.requires.2.from z.loop-slot.slot l,
       omega (arith, s.requires.1, l),
       omega arith,
       omega (arith, written_room W s.args.hyper l, W.filled.same, P.count, s.requires.3),
@@ -64,11 +64,11 @@ loop-less c = search rules
 
 loop-again : tie.Need-loop-slot-preserved invariant-loop decreases-loop
 loop-again c =
-    let z = c.before.before.before.before.before.before.before.before.before in
-    let s = z.before.before.before.before in
-    let W = z.before.loop-slot.invariant.1 in
-    let P = c.before.before.before.before.before.before.put_byte-n.ensures in
-    let Q = c.before.before.put_byte-n-in-loop-slot.ensures in
+    let z = c in
+    let s = z in
+    let W = z.loop-slot.invariant.1 in
+    let P = c.put_byte-n.ensures in
+    let Q = c.put_byte-n-in-loop-slot.ensures in
     let r = written_room W s.args.hyper z.loop-slot-test.true in (
       omega (arith, z.loop-slot-test.true),
       written_next W entry_size (λ x. refl) _ P (omega (arith, P.count)) Q (omega (arith, Q.count))
@@ -76,12 +76,12 @@ loop-again c =
     )
 
 same_length : tie.Need-shape_of-out invariant-loop decreases-loop
-same_length c = c.before.loop-slot.invariant.1.filled.same
+same_length c = c.loop-slot.invariant.1.filled.same
 
 returns : tie.Need-returns invariant-loop decreases-loop
 returns c =
-    let u = c.before.loop-slot in
-    let all : u.slot ≡ c.before.before.before.before.args.hyper = omega (arith, u.invariant.0) in
+    let u = c.loop-slot in
+    let all : u.slot ≡ c.args.hyper = omega (arith, u.invariant.0) in
     rw all at (filled_lent u.invariant.1.filled)
 
 pub put_bytes_spec : {M : Type 1} → statement M

@@ -9,16 +9,16 @@ use Rattle.maker.proofs.moves.put_number.Statement.{statement}
 use Rattle.maker.proofs.moves.put_number.Tie as tie
 
 returns : tie.Need-returns-then-word-eq0
-returns c = let a = c.before.before.args in put_none in_memory a.word a.slot a.way _ a.n a.out.now c.if-word-eq0.true
+returns c = let a = c.args in put_none in_memory a.word a.slot a.way _ a.n a.out.now c.if-word-eq0.true
 
 move-of-requires : tie.Need-move_of-requires
-move-of-requires c κs = let s = c.before.before in (s.requires.0, c.if-word-eq0.false, s.requires.1)
+move-of-requires c κs = let s = c in (s.requires.0, c.if-word-eq0.false, s.requires.1)
 
 mul-put-numbers : tie.Need-overflow_mul-n
 mul-put-numbers c = search rules
 
 put-numbers-requires : tie.Need-put_numbers-requires
-put-numbers-requires c κs = omega (arith, ap length c.before.move_of.ensures.one, c.before.before.before.before.requires.2)
+put-numbers-requires c κs = omega (arith, ap length c.move_of.ensures.one, c.requires.2)
 
 add-result : tie.Need-overflow_add-result
 add-result c = search rules
@@ -28,8 +28,8 @@ same_length c = search rules
 
 returns-2 : tie.Need-returns
 returns-2 c =
-    let m = c.before.before.before.before in
-    put_one in_memory _ _ _ _ m.move_of.ensures c.before.before.put_numbers.ensures
+    let m = c in
+    put_one in_memory _ _ _ _ m.move_of.ensures c.put_numbers.ensures
 
 pub put_number_spec : {M : Type 1} → statement M
 put_number_spec =

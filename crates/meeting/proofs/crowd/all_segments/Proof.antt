@@ -11,7 +11,7 @@ stretch-requires : tie.Need-stretch-requires
 stretch-requires c κs = search rules
 
 cast-result : tie.Need-overflow_cast-result
-cast-result c = omega (arith, stretch_fits c.stretch.ensures, pow_mono c.before.requires)
+cast-result c = omega (arith, stretch_fits c.stretch.ensures, pow_mono c.requires)
 
 returns : tie.Need-returns
 returns c = search rules

@@ -40,8 +40,8 @@ loop-less c = omega arith
 
 loop-again : tie.Need-loop-i-preserved invariant-loop decreases-loop
 loop-again c =
-    let u = c.before.before.loop-i in
-    let z = c.before.before.before.before.args in
+    let u = c.loop-i in
+    let z = c.args in
     let word = at z.segments.now u.i in (
       omega arith,
       ⊎_elim
@@ -52,8 +52,8 @@ loop-again c =
 
 returns : tie.Need-returns invariant-loop decreases-loop
 returns c =
-    let all : c.before.loop-i.i ≡ c.before.before.before.args.rows = omega arith in
-    rw all at c.before.loop-i.invariant.1
+    let all : c.loop-i.i ≡ c.args.rows = omega arith in
+    rw all at c.loop-i.invariant.1
 
 pub common_spec : {M : Type 1} → statement M
 common_spec =

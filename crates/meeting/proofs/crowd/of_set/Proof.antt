@@ -22,7 +22,7 @@ abbrev bytes : tie.After-given-found → List ℕ
 bytes g = (entry g).args.file.now
 
 abbrev passed : tie.After-outline_of-outline → tie.Else-answer-ne-DONE
-passed o = o.before.before.before.before.before.before
+passed o = o.before.before.before.before.before
 
 abbrev placed : tie.Else-placed-ne-DONE → tie.After-outline_of-outline
 placed l = l.before.before.before
@@ -47,11 +47,11 @@ returns c =
     let g = c.before.before.before.before in
     let R = c.refused.ensures in
     rw (R.0, R.1, R.2)
-    (crowd_given (bytes g) (entry g).args.k g.given-found.result g.given-found.ensures c.before.if-answer-ne-DONE.true)
+    (crowd_given (bytes g) (entry g).args.k g.given-found.result g.given-found.ensures c.if-answer-ne-DONE.true)
 
 outline-of-requires : tie.Need-outline_of-outline-requires
 outline-of-requires c κs =
-    let e = c.before.before.before.before.before in
+    let e = c.before.before.before.before in
     let g = taken e in (
       at g.given-found.result.columns.cost,
       crowd_sound (bytes g) (entry g).args.k g.given-found.result g.given-found.ensures e.if-answer-ne-DONE.false,
@@ -68,7 +68,7 @@ returns-2 c =
     let R = c.refused-then-placed-ne-DONE.ensures in
     rw (R.0, R.1, R.2)
     (crowd_line (bytes g) (entry g).args.k g.given-found.result g.given-found.ensures e.if-answer-ne-DONE.left o.outline_of-outline.result (outlined o)
-    c.before.if-placed-ne-DONE.true)
+    c.if-placed-ne-DONE.true)
 
 at-requires : tie.Need-at-requires
 at-requires c κs = search rules
@@ -85,9 +85,9 @@ returns-3 c =
     let R = c.refused-then-k-outline.ensures in
     rw (R.0, R.1, R.2)
     (crowd_past (bytes g) (entry g).args.k g.given-found.result g.given-found.ensures e.if-answer-ne-DONE.left o.outline_of-outline.result (outlined o)
-    l.if-placed-ne-DONE.false _ _ c.before.before.if-k-outline.true c.before.at.ensures)
+    l.if-placed-ne-DONE.false _ _ c.if-k-outline.true c.at.ensures)
 
-few : (m : tie.Else-k-outline) → m.before.before.before.before.before.outline_of-outline.result.sets ≤ 64
+few : (m : tie.Else-k-outline) → m.outline_of-outline.result.sets ≤ 64
 few m =
     let l = m.before.before in
     let o = placed l in
@@ -97,14 +97,14 @@ few m =
     l.if-placed-ne-DONE.false
 
 mul-set : tie.Need-offset_bounds-words-k
-mul-set c = omega (arith, few c.before, c.before.if-k-outline.false)
+mul-set c = omega (arith, few c.before, c.if-k-outline.false)
 
 array-read-set : tie.Need-bounds-words-k
-array-read-set c = omega (arith, few c.before, c.before.if-k-outline.false)
+array-read-set c = omega (arith, few c.before, c.if-k-outline.false)
 
 lay-segments-requires : tie.Need-lay_segments-segments-requires
 lay-segments-requires c κs =
-    let e = passed (placed c.before.before.before.before.before.before.before) in
+    let e = passed (placed c.before.before.before.before.before.before) in
     let g = taken e in
     crowd_routes (bytes g) (entry g).args.k g.given-found.result g.given-found.ensures e.if-answer-ne-DONE.left
 
@@ -113,17 +113,17 @@ done-requires c κs = search rules
 
 common-requires : tie.Need-common-requires
 common-requires c κs =
-    let e = passed (placed c.before.before.before.before.before.before.before.before.before.before) in
+    let e = passed (placed c.before.before.before.before.before.before.before.before.before) in
     let g = taken e in
     let R = crowd_routes (bytes g) (entry g).args.k g.given-found.result g.given-found.ensures e.if-answer-ne-DONE.left in
     (R.small, R.few)
 
 returns-4 : tie.Need-returns
 returns-4 c =
-    let d = c.before.before in
-    let s = d.before in
-    let m = s.before.before.before.before.before.before in
-    let l = m.before.before in
+    let d = c in
+    let s = d in
+    let m = s in
+    let l = m.before.before.before.before.before.before.before.before.before.before in
     let o = placed l in
     let e = passed o in
     let g = taken e in

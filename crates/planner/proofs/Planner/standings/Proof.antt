@@ -13,8 +13,8 @@ standings-on-requires c κs = usable (file_ask _) c.analyse.ensures
 
 returns : tie.Need-returns
 returns c =
-    let A = c.before.analyse in
-    let S = c.before.before.before in
+    let A = c.analyse in
+    let S = c in
     standings_asked (file_ask S.args.file.now) (file_proper S.args.file.now).numbered A.ensures S.args.self
     c.standings_on.result c.standings_on.ensures
 

@@ -18,7 +18,7 @@ no-standings-requires c κs = search rules
 
 returns : tie.Need-returns-then-answer-ne-DONE
 returns c = record {
-  done = λ z. absurd (c.before.if-answer-ne-DONE.true z);
+  done = λ z. absurd (c.if-answer-ne-DONE.true z);
   refused = λ h. c.no_standings.ensures;
 }
 
@@ -52,14 +52,14 @@ no-standings-requires-2 c κs = search rules
 
 returns-2 : tie.Need-returns-then-is_off
 returns-2 c =
-    let O = c.before.before.before in
-    let R = O.before in
+    let O = c in
+    let R = O.before.before.before.before in
     let p = (entry (passed R)).args.t1 in
     record {
       done = λ z t A.
           rw c.no_standings-then-is_off.ensures
-          (standings_own t c.before.at.ensures (omega arith) p
-          (standings_off t (planner_of p) ((O.is_off.ensures t A (here R A)).holds c.before.before.if-is_off.true)));
+          (standings_own t c.at.ensures (omega arith) p
+          (standings_off t (planner_of p) ((O.is_off.ensures t A (here R A)).holds c.if-is_off.true)));
       refused = λ h. absurd (h (passed R).if-answer-ne-DONE.false);
     }
 
@@ -67,14 +67,14 @@ returns-2 c =
 
 still : (c : tie.Else-is_off) {t : Table} → Accepted t (entry (passed c.before.before)).args.t2
     → ¬ Off t (planner_of (entry (passed c.before.before)).args.t1)
-still c {t} A = (c.before.is_off.ensures t A (here c.before.before A)).fails c.if-is_off.false
+still c {t} A = (c.is_off.ensures t A (here c.before.before A)).fails c.if-is_off.false
 
 done-requires : tie.Need-done-requires
 done-requires c κs = search rules
 
 standings-requires : tie.Need-standings-requires
 standings-requires c κs =
-    let N = c.before.before.before.before.before in
+    let N = c.before.before.before in
     let R = N.before.before in
     let A = (some (passed R)).1 in
     let p = (entry (passed R)).args.t1 in
@@ -82,8 +82,8 @@ standings-requires c κs =
 
 returns-3 : tie.Need-returns
 returns-3 c =
-    let D = c.before.before.before.before.before in
-    let N = D.before in
+    let D = c in
+    let N = D.before.before.before.before in
     let R = N.before.before in
     let p = (entry (passed R)).args.t1 in
     record {

@@ -27,7 +27,7 @@ unmoved-requires c κs = search rules
 
 returns : tie.Need-returns-then-answer-ne-DONE
 returns c = record {
-  done = λ z. absurd (c.before.if-answer-ne-DONE.true z);
+  done = λ z. absurd (c.if-answer-ne-DONE.true z);
   refused = λ h. (c.unmoved.ensures, refl);
 }
 
@@ -61,16 +61,16 @@ unmoved-requires-2 c κs = search rules
 
 returns-2 : tie.Need-returns-then-is_off
 returns-2 c =
-    let O = c.before.before.before in
-    let R = O.before in
+    let O = c in
+    let R = O.before.before.before.before in
     let S = entry (passed R) in
     let p = S.args.self in
     record {
       done = λ z t A.
           rw c.unmoved-then-is_off.ensures
-          (step_own t c.before.at.ensures (omega arith) p S.args.out.now (size S)
+          (step_own t c.at.ensures (omega arith) p S.args.out.now (size S)
           (step_off t (planner_of p) (length S.args.out.now)
-          ((O.is_off.ensures t A (here R A)).holds c.before.before.if-is_off.true)));
+          ((O.is_off.ensures t A (here R A)).holds c.if-is_off.true)));
       refused = λ h. absurd (h (passed R).if-answer-ne-DONE.false);
     }
 
@@ -83,7 +83,7 @@ abbrev begun : tie.Else-is_off → tie.Start
 begun c = entry (passed (reached c))
 
 still : (c : tie.Else-is_off) {t : Table} → Accepted t (begun c).args.table → ¬ Off t (planner_of (begun c).args.self)
-still c {t} A = (c.before.is_off.ensures t A (here (reached c) A)).fails c.if-is_off.false
+still c {t} A = (c.is_off.ensures t A (here (reached c) A)).fails c.if-is_off.false
 
 enum-known-stage : tie.Need-enum_known-stage
 enum-known-stage c = search rules
@@ -99,14 +99,14 @@ unmoved-requires-3 c κs = search rules
 
 returns-3 : tie.Need-returns-in_default
 returns-3 c =
-    let T = c.before.before in
-    let N = T.before.before in
+    let T = c in
+    let N = T.before.before.before.before in
     let S = begun N in
     let p = S.args.self in
     record {
       done = λ z t A.
           rw c.unmoved-in_default.ensures
-          (step_own t c.before.at-in_default.ensures (omega arith) p S.args.out.now (size S)
+          (step_own t c.at-in_default.ensures (omega arith) p S.args.out.now (size S)
           (step_finished t (planner_of p) (length S.args.out.now) (still N A) (ap stage_of T.enum_told-1.given.1)));
       refused = λ h. absurd (h (passed (reached N)).if-answer-ne-DONE.false);
     }
@@ -117,13 +117,13 @@ abbrev not_off : tie.In-Due → tie.Else-is_off
 not_off c = c.before.before.before
 
 abbrev number : tie.In-Due → ℕ
-number c = c.before.stage-1.given.0.0
+number c = c.stage-1.given.0.0
 
 begins : (c : tie.In-Due) {t : Table} → Accepted t (begun (not_off c)).args.table
     → Begins t (number c) (reached (not_off c)).slot_reached-slot.result
 begins c A =
     let N = not_off c in
-    due_begins A (begun N).args.self (number c) (here (reached N) A) (still N A) c.before.stage-1.given.1
+    due_begins A (begun N).args.self (number c) (here (reached N) A) (still N A) c.stage-1.given.1
 
 next-end-requires : tie.Need-next_end-end-requires
 next-end-requires c κs = let w = some (passed (reached (not_off c))) in (w.0, number c, timed w.1, begins c w.1)
@@ -140,7 +140,7 @@ sub-if3 : tie.Need-overflow_sub-end
 sub-if3 c =
     let N = not_off c.before in
     let A = (some (passed (reached N))).1 in
-    due_length A (begun N).args.self (number c.before) (here (reached N) A) (still N A) c.before.before.stage-1.given.1 _
+    due_length A (begun N).args.self (number c.before) (here (reached N) A) (still N A) c.stage-1.given.1 _
     (ends c A)
 
 at-requires-3 : tie.Need-at-requires-then-out-end
@@ -158,9 +158,9 @@ returns-4 c =
     record {
       done = λ z t A.
           rw c.unmoved-then-out-end.ensures
-          (step_own t c.before.at-then-out-end.ensures (omega arith) p S.args.out.now (size S)
+          (step_own t c.at-then-out-end.ensures (omega arith) p S.args.out.now (size S)
           (step_short t (planner_of p) (length S.args.out.now) (still N A) (number E.before)
-          (ap stage_of E.before.before.stage-1.given.1) (omega (arith, long E A, c.before.before.if-out-end.true))));
+          (ap stage_of E.stage-1.given.1) (omega (arith, long E A, c.if-out-end.true))));
       refused = λ h. absurd (h (passed (reached N)).if-answer-ne-DONE.false);
     }
 
@@ -180,15 +180,15 @@ plan-intervals-requires c κs =
       w.0,
       k,
       _,
-      due_plannable A S.args.self k (here (reached N) A) (still N A) E.before.before.stage-1.given.1 (size S) _ _ (ends E A)
+      due_plannable A S.args.self k (here (reached N) A) (still N A) E.stage-1.given.1 (size S) _ _ (ends E A)
           (roomy c).if-out-end.false,
     )
 
 add-stage-after : tie.Need-overflow_add-k
 add-stage-after c =
-    let E = (roomy c.before.before.before).before in
-    let A = (some (passed (reached (not_off E.before)))).1 in
-    record { fits = omega (arith, (begins E.before A).in_range, intervals_le A.admissible.sound, A.admissible.short) }
+    let E = (roomy c.before.before.before) in
+    let A = (some (passed (reached (not_off E.before.before)))).1 in
+    record { fits = omega (arith, (begins E.before.before A).in_range, intervals_le A.admissible.sound, A.admissible.short) }
 
 stage-after-requires : tie.Need-stage_after-requires
 stage-after-requires c κs = search rules
@@ -201,17 +201,17 @@ same_length c = search rules
 
 returns-5 : tie.Need-returns
 returns-5 c =
-    let G = c.before.before.before.before in
-    let L = roomy G.before in
+    let G = c in
+    let L = roomy G.before.before.before.before.before in
     let E = L.before in
     let N = not_off E.before in
     let S = begun N in
     let p = S.args.self in
     let k = number E.before in
-    let is_due = E.before.before.stage-1.given.1 in
+    let is_due = E.stage-1.given.1 in
     record {
       done = λ z t A.
-          rw c.before.stage_after.ensures
+          rw c.stage_after.ensures
           (step_answer A _ c.done.ensures p k is_due (begins E.before A) _ (ends E A) G.plan_intervals-after.result
           S.args.out.now _
           (G.plan_intervals-after.ensures t k _

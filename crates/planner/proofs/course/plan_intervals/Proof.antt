@@ -36,7 +36,7 @@ decreases-loop plain from until plan₀ table rows top time folded tail head out
 
 -- the function's entry, from where it is laid out
 abbrev entry : tie.After-lay invariant-loop decreases-loop → tie.Start invariant-loop decreases-loop
-entry c = c.before.before.before.before.before.before.before.before.before.before.before.before.before
+entry c = c.before.before.before.before.before.before.before.before.before.before.before.before
 
 -- where the sets are folded
 abbrev folding : tie.After-lay invariant-loop decreases-loop → tie.After-fold_sets-folded invariant-loop decreases-loop
@@ -44,30 +44,30 @@ folding c = c.before.before.before.before.before.before
 
 fold-sets-requires : tie.Need-fold_sets-folded-requires invariant-loop decreases-loop
 fold-sets-requires c κs =
-    let A = c.before.before.before.before.before.before.requires.3.accepted in
+    let A = c.requires.3.accepted in
     (few_rows A, few_sets A, A.outline.size)
 
 lay-requires : tie.Need-lay-requires invariant-loop decreases-loop
 lay-requires c κs =
-    let f = c.before.before.before.before.before in
-    let A = f.before.before.before.before.before.before.before.requires.3.accepted in
+    let f = c in
+    let A = f.requires.3.accepted in
     (few_rows A, low_sets A f.fold_sets-folded.ensures, refl, refl, refl, refl)
 
 chain-requires : tie.Need-chain-requires invariant-loop decreases-loop
 chain-requires c κs =
-    let A = (entry c.before.before.before.before).requires.3.accepted in
+    let A = (entry c.before.before.before).requires.3.accepted in
     (few_rows A, firsts_low A, refl, refl)
 
 -- where the nodes are laid out, from where the rows are chained
 abbrev linking : tie.After-chain invariant-loop decreases-loop → tie.After-lay invariant-loop decreases-loop
-linking c = c.before.before.before.before.before
+linking c = c.before.before.before.before
 
 has-shortest-requires : tie.Need-has_shortest-even-requires invariant-loop decreases-loop
-has-shortest-requires c κs = few_periods (entry (linking c.before.before)).requires.3.accepted
+has-shortest-requires c κs = few_periods (entry (linking c.before)).requires.3.accepted
 
 -- both, from what comes after
 abbrev chained : tie.After-has_shortest-even invariant-loop decreases-loop → tie.After-chain invariant-loop decreases-loop
-chained c = c.before.before.before
+chained c = c.before.before
 
 abbrev laid : tie.After-has_shortest-even invariant-loop decreases-loop → tie.After-lay invariant-loop decreases-loop
 laid c = linking (chained c)
@@ -122,9 +122,9 @@ given c = (begun c).requires.3
 
 end-of-requires : tie.Need-end_of-end-requires invariant-loop decreases-loop
 end-of-requires c κs =
-    let d = c.before.before in
+    let d = c.before in
     let P = given d in
-    let L = d.before.loop-slot.invariant.2 _ _ _ P in (
+    let L = d.loop-slot.invariant.2 _ _ _ P in (
       (
         (begun d).requires.0,
         L.number,
@@ -132,12 +132,12 @@ end-of-requires c κs =
         timed P.accepted,
         planning_begins (begun d).args.plan.now P L d.loop-slot-test.true,
       ),
-      d.before.before.before.has_shortest-even.ensures,
+      d.has_shortest-even.ensures,
     )
 
 -- where the turn begins, from where its end is found
 abbrev turned : tie.After-end_of-end invariant-loop decreases-loop → tie.In-loop-slot invariant-loop decreases-loop
-turned c = c.before.before.before
+turned c = c.before.before
 
 module _ (c : tie.After-end_of-end invariant-loop decreases-loop) {t : Table} {k m : ℕ} (P : Given (begun (turned c)) t k m) where
   abbrev done : Planning t k m (begun (turned c)).args.totals (begun (turned c)).args.plan.now (turned c).before.loop-slot.slot
@@ -180,13 +180,13 @@ sub-slots c = omega (arith, roomy c (given (turned c)))
 
 part-shares-requires : tie.Need-part_shares-parted-requires invariant-loop decreases-loop
 part-shares-requires c κs =
-    let I = c.before.before.before.before in
+    let I = c.before.before.before in
     let A = (given (turned I)).accepted in
-    let l = (turned I).before in (
+    let l = (turned I) in (
       few_rows A,
       hyper_positive A,
       hyper_short A,
-      l.before.inverse_of-inverse.ensures,
+      l.inverse_of-inverse.ensures,
       shares_fit (ready I (given (turned I))) (due I (given (turned I))),
       l.loop-slot.invariant.0,
       l.loop-slot.invariant.1,
@@ -210,21 +210,21 @@ turn g = parting (rounding (giving g))
 
 -- the whole slots of the shares, and the parts above them
 abbrev whole : Parted → List ℕ
-whole p = p.part_shares-parted.last.1.1.1.1.0
+whole p = p.part_shares-parted.new.whole
 
 abbrev part : Parted → List ℕ
-part p = p.part_shares-parted.last.1.1.1.1.1.0
+part p = p.part_shares-parted.new.part
 
 -- the loads, and the totals with them
 abbrev load : tie.After-give invariant-loop decreases-loop → List ℕ
-load g = g.give.last.1.1.0
+load g = g.give.new.load
 
 abbrev totals : tie.After-give invariant-loop decreases-loop → List ℕ
-totals g = g.give.last.1.1.1.0
+totals g = g.give.new.totals
 
 round-rows-requires : tie.Need-round_rows-rounded-requires invariant-loop decreases-loop
 round-rows-requires c κs =
-    let p = c.before.before.before.before.before in
+    let p = c in
     let I = parting p in
     let R = ready I (given (turned I)) in
     let S = p.part_shares-parted.ensures in
@@ -294,7 +294,7 @@ part-fill-plain-end c = omega (arith, at_in c.before.before.before.before.before
 
 fill-plain-requires : tie.Need-fill_plain-requires invariant-loop decreases-loop
 fill-plain-requires c κs =
-    let g = c.before.before.before.before.before.before.before.before in
+    let g = c.before.before.before.before.before.before.before in
     ((_, rows_chained (ready (turn g) (given (here g)))), room g)
 
 mul-fill : tie.Need-offset_bounds-plan-at-else-plain invariant-loop decreases-loop
@@ -311,7 +311,7 @@ part-fill-end c = omega (arith, at_in c.before.before.before.before.before.befor
 
 fill-requires : tie.Need-fill-requires invariant-loop decreases-loop
 fill-requires c κs =
-    let g = c.before.before.before.before.before.before.before in
+    let g = c.before.before.before.before.before.before in
     ((_, _, rows_chained (ready (turn g) (given (here g)))), short g, room g)
 
 -- ---- on to the next
@@ -336,12 +336,12 @@ loop-again c =
 -- ---- the end
 
 same_length : tie.Need-shape_of-plan invariant-loop decreases-loop
-same_length c = let S = entered c.before.before in (c.before.loop-slot.invariant.2 _ _ _ S.requires.3).filled.same
+same_length c = let S = entered c.before.before in (c.loop-slot.invariant.2 _ _ _ S.requires.3).filled.same
 
 returns : tie.Need-returns invariant-loop decreases-loop
 returns c t k m P =
     let S = entered c.before.before in
-    planning_end S.args.plan.now P (c.before.loop-slot.invariant.2 t k m P) c.loop-slot-test.false
+    planning_end S.args.plan.now P (c.loop-slot.invariant.2 t k m P) c.loop-slot-test.false
 
 pub plan_intervals_spec : {M : Type 1} → statement M
 plan_intervals_spec =

@@ -9,16 +9,16 @@ rows-keep-step-requires : tie.Need-rows_keep_step-requires
 rows-keep-step-requires c κs = search rules
 
 returns : tie.Need-returns-then-not-rows_keep_step
-returns c = decides_no (λ k. c.before.rows_keep_step.ensures.fails (not-true _ c.if-not-rows_keep_step.true) k.rows)
+returns c = decides_no (λ k. c.rows_keep_step.ensures.fails (not-true _ c.if-not-rows_keep_step.true) k.rows)
 
 sets-keep-step-requires : tie.Need-sets_keep_step-requires
 sets-keep-step-requires c κs =
-    let z = c.before.before in
-    (z.requires.0, z.requires.1, c.before.rows_keep_step.ensures.holds (not-false _ c.if-not-rows_keep_step.false))
+    let z = c in
+    (z.requires.0, z.requires.1, c.rows_keep_step.ensures.holds (not-false _ c.if-not-rows_keep_step.false))
 
 returns-2 : tie.Need-returns
 returns-2 c =
-    let rows = c.before.before.rows_keep_step.ensures.holds (not-false _ c.before.if-not-rows_keep_step.false) in
+    let rows = c.rows_keep_step.ensures.holds (not-false _ c.if-not-rows_keep_step.false) in
     record {
       holds = λ e. record { rows = rows; sets = c.sets_keep_step.ensures.holds e };
       fails = λ e k. c.sets_keep_step.ensures.fails e k.sets;

@@ -9,17 +9,17 @@ use Rattle.planner.proofs.steady.row_keeps_step.Tie as tie
 
 returns : tie.Need-returns-then-total-slot
 returns c =
-    let z = c.before in
+    let z = c in
     decides_no (λ r. omega (arith, c.if-total-slot.true, rounded_le z.requires.0 z.requires.3 r))
 
 mul-is-rounded : tie.Need-overflow_mul-rate
 mul-is-rounded c =
-    let z = c.before in
+    let z = c in
     omega (arith, mul-le-mul z.requires.3 z.requires.2, mul-le-mul z.requires.1 z.requires.1)
 
 is-rounded-requires : tie.Need-is_rounded-requires
 is-rounded-requires c κs =
-    let z = c.before in
+    let z = c in
     (omega arith, omega (arith, mul-le-mul z.requires.3 z.requires.2, mul-le-mul z.requires.1 z.requires.1), z.requires.0, z.requires.1)
 
 returns-2 : tie.Need-returns

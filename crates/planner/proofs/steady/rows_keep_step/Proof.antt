@@ -32,21 +32,21 @@ element-copy-out-row-keeps-step c = omega arith
 
 row-keeps-step-requires : tie.Need-row_keeps_step-requires invariant-loop decreases-loop
 row-keeps-step-requires c κs =
-    let s = c.before in
-    let z = s.before.before in
-    let b = z.before.requires in
+    let s = c in
+    let z = s in
+    let b = z.requires in
     (b.some, b.short, b.inside, rw s.slots_at.ensures (b.light z.loop-i.i (omega arith)))
 
 -- what the test says of the row
 row_keeps : (c : tie.After-row_keeps_step invariant-loop decreases-loop)
-    → let z = c.before.before.before.before in
-    let a = z.before.args in
+    → let z = c in
+    let a = z.args in
     Decides (Rounded (at a.totals.now z.loop-i.i) (at a.rate.now z.loop-i.i * a.slot) a.hyper) c.row_keeps_step.result
-row_keeps c = rw c.before.before.slots_at.ensures at c.row_keeps_step.ensures
+row_keeps c = rw c.slots_at.ensures at c.row_keeps_step.ensures
 
 returns : tie.Need-returns-then-not-row_keeps_step invariant-loop decreases-loop
 returns c =
-    let z = c.before.before.before.before.before in
+    let z = c in
     decides_no (λ k. (row_keeps c.before).fails (not-true _ c.if-not-row_keeps_step.true) (k z.loop-i.i (omega arith)))
 
 add-i : tie.Need-overflow_add-i invariant-loop decreases-loop
@@ -57,11 +57,11 @@ loop-less c = omega arith
 
 loop-again : tie.Need-loop-i-preserved invariant-loop decreases-loop
 loop-again c =
-    let z = c.before.before.before.before.before in
+    let z = c in
     (omega arith, below_more _ _ z.loop-i.invariant.1 ((row_keeps c.before).holds (not-false _ c.if-not-row_keeps_step.false)))
 
 returns-2 : tie.Need-returns invariant-loop decreases-loop
-returns-2 c = decides_yes (λ i l. c.before.loop-i.invariant.1 i (omega arith))
+returns-2 c = decides_yes (λ i l. c.loop-i.invariant.1 i (omega arith))
 
 pub rows_keep_step_spec : {M : Type 1} → statement M
 rows_keep_step_spec =

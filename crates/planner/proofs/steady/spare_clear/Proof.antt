@@ -27,7 +27,7 @@ element-copy-out-if1 c = omega arith
 
 returns : tie.Need-returns-then-totals-i-ne0 invariant-loop decreases-loop
 returns c =
-    let z = c.before.before.before in
+    let z = c in
     decides_no (λ k. c.if-totals-i-ne0.true (k z.loop-i.i z.loop-i.invariant.1 (omega arith)))
 
 add-i : tie.Need-overflow_add-i invariant-loop decreases-loop
@@ -38,13 +38,13 @@ loop-less c = omega arith
 
 loop-again : tie.Need-loop-i-preserved invariant-loop decreases-loop
 loop-again c =
-    let z = c.before.before.before in
-    let zero = below_more (λ (k : ℕ). z.before.args.rows ≤ k → at z.before.args.totals.now k ≡ 0) _
+    let z = c in
+    let zero = below_more (λ (k : ℕ). z.args.rows ≤ k → at z.args.totals.now k ≡ 0) _
     (λ k l m. z.loop-i.invariant.0 k m l) (λ m. c.if-totals-i-ne0.false) in
     (λ k l m. zero k m l, omega arith)
 
 returns-2 : tie.Need-returns invariant-loop decreases-loop
-returns-2 c = decides_yes (λ k l m. c.before.loop-i.invariant.0 k l (omega arith))
+returns-2 c = decides_yes (λ k l m. c.loop-i.invariant.0 k l (omega arith))
 
 pub spare_clear_spec : {M : Type 1} → statement M
 spare_clear_spec =

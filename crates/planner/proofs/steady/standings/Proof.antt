@@ -26,9 +26,9 @@ element-copy-out-less c = omega arith
 
 mul-less-2 : tie.Need-overflow_mul-totals invariant-loop decreases-loop
 mul-less-2 c =
-    let z = c.before.before in
-    let p = z.before.requires in
-    let fits = products_le p.0 (at z.before.args.totals.now) p.1 z.loop-i.i (omega arith) in
+    let z = c in
+    let p = z.requires in
+    let fits = products_le p.0 (at z.args.totals.now) p.1 z.loop-i.i (omega arith) in
     omega arith
 
 slots-at-requires : tie.Need-slots_at-requires invariant-loop decreases-loop
@@ -36,16 +36,16 @@ slots-at-requires c κs = omega arith
 
 mul-less-3 : tie.Need-overflow_mul-slots_at invariant-loop decreases-loop
 mul-less-3 c =
-    let z = c.before.before.before in
-    let p = z.before.requires in
-    let fits = products_le p.0 (at z.before.args.totals.now) p.1 z.loop-i.i (omega arith) in
+    let z = c in
+    let p = z.requires in
+    let fits = products_le p.0 (at z.args.totals.now) p.1 z.loop-i.i (omega arith) in
     rw c.slots_at.ensures (omega (arith, fits))
 
 less-requires : tie.Need-less-requires invariant-loop decreases-loop
 less-requires c κs =
-    let z = c.before.before.before in
-    let p = z.before.requires in
-    let fits = products_le p.0 (at z.before.args.totals.now) p.1 z.loop-i.i (omega arith) in
+    let z = c in
+    let p = z.requires in
+    let fits = products_le p.0 (at z.args.totals.now) p.1 z.loop-i.i (omega arith) in
     (omega (arith, fits), rw c.slots_at.ensures (omega (arith, fits)))
 
 mul-standing : tie.Need-offset_bounds-standing-i invariant-loop decreases-loop
@@ -62,12 +62,12 @@ loop-less c = omega arith
 
 loop-again : tie.Need-loop-i-preserved invariant-loop decreases-loop
 loop-again c =
-    let z = c.before.before.before.before in
-    standing_next _ _ _ _ _ _ z.loop-i.invariant (omega arith) z.before.requires.0.few
-    (to_z-of_z w64 c.less.result (record { sfits = c.less.type-inv }) ∙ (rw c.before.slots_at.ensures at c.less.ensures))
+    let z = c in
+    standing_next _ _ _ _ _ _ z.loop-i.invariant (omega arith) z.requires.0.few
+    (to_z-of_z w64 c.less.result (record { sfits = c.less.type-inv }) ∙ (rw c.slots_at.ensures at c.less.ensures))
 
 returns : tie.Need-returns invariant-loop decreases-loop
-returns c = standing_end _ _ _ _ _ c.before.loop-i.invariant (omega arith)
+returns c = standing_end _ _ _ _ _ c.loop-i.invariant (omega arith)
 
 pub standings_spec : {M : Type 1} → statement M
 standings_spec =

@@ -28,10 +28,10 @@ lowest-row-requires c κs = c.loop-left-test.true
 
 -- what is summed so far is no more than all rows can have
 small : (c : tie.At-loop-left invariant-loop decreases-loop)
-    → (c.loop-left.rates ≤ c.before.args.rows * max_slots) × (c.loop-left.all ≤ c.before.args.rows * max_slots)
+    → (c.loop-left.rates ≤ c.args.rows * max_slots) × (c.loop-left.all ≤ c.args.rows * max_slots)
 small c =
-    let a = c.before.args in
-    let p = c.before.requires.1 in (
+    let a = c.args in
+    let p = c.requires.1 in (
       omega (arith, c.loop-left.invariant.0, sum_in_most a.rows (bit a.word) (at a.rate.now) max_slots (λ i l. (p i l).0)),
       omega (arith, c.loop-left.invariant.1, sum_in_most a.rows (bit a.word) (at a.totals.now) max_slots (λ i l. (p i l).1)),
     )
@@ -41,9 +41,9 @@ slots-at-requires c κs = omega arith
 
 add-rates : tie.Need-overflow_add-rates invariant-loop decreases-loop
 add-rates c =
-    let d = c.before.before in
-    let z = d.before.before in
-    omega (arith, c.slots_at-rates.ensures, small z, z.before.requires.1 d.lowest_row-i.result c.before.if-i-rows.true)
+    let d = c in
+    let z = d.before.before.before.before in
+    omega (arith, c.slots_at-rates.ensures, small z, z.requires.1 d.lowest_row-i.result c.if-i-rows.true)
 
 mul-all : tie.Need-offset_bounds-totals-i invariant-loop decreases-loop
 mul-all c = omega arith
@@ -53,25 +53,25 @@ element-copy-out-all c = omega arith
 
 add-all : tie.Need-overflow_add-all invariant-loop decreases-loop
 add-all c =
-    let d = c.before.before.before in
-    let z = d.before.before in
-    omega (arith, small z, z.before.requires.1 d.lowest_row-i.result c.before.before.if-i-rows.true)
+    let d = c in
+    let z = d.before.before.before.before.before.before in
+    omega (arith, small z, z.requires.1 d.lowest_row-i.result c.if-i-rows.true)
 
 shl-left : tie.Need-overflow_shl-left invariant-loop decreases-loop
-shl-left c = omega (arith, c.before.lowest_row-i.ensures.0)
+shl-left c = omega (arith, c.lowest_row-i.ensures.0)
 
 loop-less : tie.Need-loop-left-smaller invariant-loop decreases-loop
 loop-less c =
-    let d = c.before in
+    let d = c in
     let e = d.lowest_row-i.ensures in
-    let s = sum_without d.before.before.loop-left.left d.lowest_row-i.result e.0 (λ j. 1) 64 e.0 e.1 in
+    let s = sum_without d.loop-left.left d.lowest_row-i.result e.0 (λ j. 1) 64 e.0 e.1 in
     omega (arith, s)
 
 loop-again : tie.Need-loop-left-preserved invariant-loop decreases-loop
 loop-again c =
-    let d = c.before in
-    let z = d.before.before in
-    let a = z.before.args in
+    let d = c in
+    let z = d in
+    let a = z.args in
     let e = d.lowest_row-i.ensures in
     let left = z.loop-left.left in
     let i = d.lowest_row-i.result in
@@ -89,12 +89,12 @@ loop-again c =
 returns : tie.Need-returns invariant-loop decreases-loop
 returns c =
     let z = c.before in
-    let a = z.before.args in
+    let a = z.args in
     let e = c.loop-left-test.false in (
       omega (arith, z.loop-left.invariant.0, sum_none a.rows z.loop-left.left (at a.rate.now) e),
-      omega (arith, (small z).0, z.before.requires.0),
+      omega (arith, (small z).0, z.requires.0),
       omega (arith, z.loop-left.invariant.1, sum_none a.rows z.loop-left.left (at a.totals.now) e),
-      omega (arith, (small z).1, z.before.requires.0),
+      omega (arith, (small z).1, z.requires.0),
     )
 
 pub sums_in_spec : {M : Type 1} → statement M

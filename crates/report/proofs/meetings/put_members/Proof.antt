@@ -38,8 +38,8 @@ loop-less c = omega arith
 
 loop-again : tie.Need-loop-k-preserved invariant-loop decreases-loop
 loop-again c =
-    let u = c.before.before in
-    let z = u.before.before.before.args in
+    let u = c in
+    let z = u.args in
     let k = u.loop-k.k in
     let line = numbered z.name.now (z.first + k) in (
       omega arith,
@@ -50,12 +50,12 @@ loop-again c =
     )
 
 same_length : tie.Need-shape_of-out invariant-loop decreases-loop
-same_length c = c.before.loop-k.invariant.1.0.same
+same_length c = c.loop-k.invariant.1.0.same
 
 returns : tie.Need-returns invariant-loop decreases-loop
 returns c =
-    let all : c.before.loop-k.k ≡ c.before.before.before.before.args.bits = omega arith in
-    rw all at c.before.loop-k.invariant.1
+    let all : c.loop-k.k ≡ c.args.bits = omega arith in
+    rw all at c.loop-k.invariant.1
 
 pub put_members_spec : {M : Type 1} → statement M
 put_members_spec =

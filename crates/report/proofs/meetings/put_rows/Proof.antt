@@ -21,7 +21,7 @@ same_length c = search rules
 returns : tie.Need-returns
 returns c =
     put_same (λ k. row (0 + k)) row max_rows _ (λ k. ap row (zero-add k))
-    c.before.before.put_members.ensures
+    c.put_members.ensures
 
 pub put_rows_spec : {M : Type 1} → statement M
 put_rows_spec = tie.close (tie.spec slice-aggregate-put-members put-members-requires same_length returns)

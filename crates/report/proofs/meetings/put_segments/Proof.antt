@@ -21,7 +21,7 @@ same_length c = search rules
 returns : tie.Need-returns
 returns c =
     put_same (λ k. segment (1 + k)) (λ k. segment (suc k)) max_elements _ (λ k. ap segment (one-add k))
-    c.before.before.put_members.ensures
+    c.put_members.ensures
 
 pub put_segments_spec : {M : Type 1} → statement M
 put_segments_spec = tie.close (tie.spec slice-aggregate-put-members put-members-requires same_length returns)

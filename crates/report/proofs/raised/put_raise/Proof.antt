@@ -19,8 +19,8 @@ same_length c = search rules
 
 returns : tie.Need-returns
 returns c =
-    let l = c.before.before in
-    let z = l.before.before.before.before.before in
+    let l = c in
+    let z = l in
     let P = l.put_line.ensures.0 in
     let p = z.requires in
     (P, omega (arith, P.after, raise_short z.args.row z.args.old z.args.new p.0 p.1 p.2))

@@ -28,11 +28,11 @@ slots-at-requires-2 c κs = omega arith
 
 put-raise-requires : tie.Need-put_raise-next-requires invariant-loop decreases-loop
 put-raise-requires c κs =
-    let u = c.before.before.before.before.before in
-    let p = u.before.before.requires in (
+    let u = c in
+    let p = u.requires in (
       omega (arith, p.few),
-      omega (arith, c.before.before.before.slots_at-was.ensures, p.was u.loop-i.i (omega arith)),
-      omega (arith, c.before.before.slots_at-is.ensures, p.is u.loop-i.i (omega arith)),
+      omega (arith, c.slots_at-was.ensures, p.was u.loop-i.i (omega arith)),
+      omega (arith, c.slots_at-is.ensures, p.is u.loop-i.i (omega arith)),
       omega (arith, p.few, u.loop-i.invariant.1.1),
     )
 
@@ -44,9 +44,9 @@ loop-less c = omega arith
 
 loop-again : tie.Need-loop-i-preserved invariant-loop decreases-loop
 loop-again c =
-    let s = c.before in
-    let u = s.before.before.before in
-    let z = u.before.before.args in
+    let s = c in
+    let u = s in
+    let z = u.args in
     let old = at z.old.now in
     let new = at z.new.now in
     let P = u.loop-i.invariant.1 in (
@@ -54,19 +54,19 @@ loop-again c =
       ⊎_elim
           (λ w.
           rw (w.5, w.6)
-          (lines_grown old new u.loop-i.i P _ _ s.before.slots_at-was.ensures s.slots_at-is.ensures w.0.true w.2.ensures))
+          (lines_grown old new u.loop-i.i P _ _ s.slots_at-was.ensures s.slots_at-is.ensures w.0.true w.2.ensures))
           (λ w.
-          rw (w.1, w.2) (lines_kept old new u.loop-i.i P _ _ s.before.slots_at-was.ensures s.slots_at-is.ensures w.0.left))
+          rw (w.1, w.2) (lines_kept old new u.loop-i.i P _ _ s.slots_at-was.ensures s.slots_at-is.ensures w.0.left))
           c.if-was-is.branch,
     )
 
 same_length : tie.Need-shape_of-out invariant-loop decreases-loop
-same_length c = c.before.loop-i.invariant.1.0.same
+same_length c = c.loop-i.invariant.1.0.same
 
 returns : tie.Need-returns invariant-loop decreases-loop
 returns c =
-    let all : c.before.loop-i.i ≡ c.before.before.before.args.rows = omega arith in
-    rw all at c.before.loop-i.invariant.1
+    let all : c.loop-i.i ≡ c.args.rows = omega arith in
+    rw all at c.loop-i.invariant.1
 
 pub put_raises_spec : {M : Type 1} → statement M
 put_raises_spec =

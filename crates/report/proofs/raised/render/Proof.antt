@@ -15,7 +15,7 @@ abbrev found : tie.Else-answer-ne-DONE → tie.After-raised_table-found
 found e = e.before.before.before
 
 abbrev bytes : tie.After-raised_table-found → List ℕ
-bytes g = g.before.before.before.args.file.now
+bytes g = g.args.file.now
 
 long : (e : tie.Else-answer-ne-DONE) → length (bytes (found e)) ≤ 519
 long e = let g = found e in report_long (bytes g) g.raised_table-found.result g.raised_table-found.ensures e.if-answer-ne-DONE.false
@@ -31,9 +31,9 @@ same_length c = search rules
 
 returns : tie.Need-returns-then-answer-ne-DONE
 returns c =
-    let t = c.before.before.before.before in
-    let g = t.before.before.before in
-    rendered_refused (bytes g) g.raised_table-found.result g.raised_table-found.ensures t.if-answer-ne-DONE.true c.before.before.put_result.ensures
+    let t = c in
+    let g = t.before.before.before.before.before.before.before in
+    rendered_refused (bytes g) g.raised_table-found.result g.raised_table-found.ensures t.if-answer-ne-DONE.true c.put_result.ensures
 
 slice-aggregate-raise : tie.Need-slice_bounds-raise-end
 slice-aggregate-raise c = search rules
@@ -42,17 +42,17 @@ raise-requires : tie.Need-raise-requires
 raise-requires c κs = search rules
 
 array-share-prefix-raised : tie.Need-slice_bounds-raised-end
-array-share-prefix-raised c = omega (arith, long c.before.before.before, c.before.raise.auto)
+array-share-prefix-raised c = omega (arith, long c.before.before.before, c.raise.auto)
 
 slice-aggregate-judge : tie.Need-slice_bounds-judge-end
-slice-aggregate-judge c = sym (length-take-le _ _ (omega (arith, long c.before.before.before.before, c.before.before.raise.auto)))
+slice-aggregate-judge c = sym (length-take-le _ _ (omega (arith, long c.before.before.before.before, c.raise.auto)))
 
 judge-requires : tie.Need-judge-result-requires
 judge-requires c κs = search rules
 
 put-raises-requires : tie.Need-put_raises-next-requires
 put-raises-requires c κs =
-    let e = c.before.before.before.before.before.before.before.before.before.before.before in
+    let e = c.before.before.before.before.before.before.before.before.before in
     let g = found e in
     report_costs (bytes g) g.raised_table-found.result g.raised_table-found.ensures e.if-answer-ne-DONE.false
 
@@ -64,8 +64,8 @@ place-requires c κs = search rules
 
 put-result-requires-2 : tie.Need-put_result-requires-2
 put-result-requires-2 c κs =
-    let p = c.before.before.before.before.before in
-    let e = p.before.before.before.before.before.before.before.before.before.before.before.before in
+    let p = c in
+    let e = p.before.before.before.before.before.before.before.before.before.before.before.before.before.before.before in
     let g = found e in
     let C = report_costs (bytes g) g.raised_table-found.result g.raised_table-found.ensures e.if-answer-ne-DONE.false in
     omega (arith, p.put_raises-next.ensures.1, C.few)
@@ -75,20 +75,20 @@ same-length-2 c = search rules
 
 returns-2 : tie.Need-returns
 returns-2 c =
-    let p = c.before.before.before.before.before.before.before.before in
-    let e = p.before.before.before.before.before.before.before.before.before.before.before.before in
+    let p = c in
+    let e = p.before.before.before.before.before.before.before.before.before.before.before.before.before.before.before.before.before.before in
     let g = found e in
     let x = g.raised_table-found.result in
     let R = g.raised_table-found.ensures in
     let z = e.if-answer-ne-DONE.false in
-    let q = c.before.before.before.before in
-    let n = q.before in
-    let j = p.before.before.before.before.before.before.before in
-    let r = p.before.before.before.before.before.before.before.before.before.before in
+    let q = c in
+    let n = q in
+    let j = p in
+    let r = p in
     let file = report_file (bytes g) x R z refl r.raise.ensures in
     rendered_raised (bytes g) x R z j.judge-result.result
     (subst (λ (xs : List ℕ). IsVerdict xs j.judge-result.result) file j.judge-result.ensures) p.put_raises-next.ensures
-    n.number.ensures q.place.ensures c.before.before.put_result-2.ensures
+    n.number.ensures q.place.ensures c.put_result-2.ensures
 
 pub render_spec : {M : Type 1} → statement M
 render_spec =

@@ -42,14 +42,14 @@ loop-less c = omega arith
 
 loop-again : tie.Need-loop-s-preserved invariant-loop decreases-loop
 loop-again c =
-    let l = c.before.loop-s.invariant in
+    let l = c.loop-s.invariant in
     (omega arith, omega arith, simp length-set (omega arith), l.3, repeated_more l.4 (omega arith) (omega arith) l.3)
 
 same_length : tie.Need-shape_of-words invariant-loop decreases-loop
-same_length c = c.before.loop-s.invariant.4.long
+same_length c = c.loop-s.invariant.4.long
 
 returns : tie.Need-returns invariant-loop decreases-loop
-returns c = repeated_all c.before.loop-s.invariant.4 (omega arith)
+returns c = repeated_all c.loop-s.invariant.4 (omega arith)
 
 pub repeat_spec : {M : Type 1} → statement M
 repeat_spec =

@@ -52,31 +52,31 @@ repeat-requires c κs =
 
 -- the turn, from its end
 abbrev turn : tie.After-slice_known-in-loop-s-1 invariant-loop decreases-loop → tie.In-loop-s invariant-loop decreases-loop
-turn c = c.before.before.before.before.before
+turn c = c.before.before.before.before.before.before
 
 element-copy-out-k : tie.Need-bounds-after-k invariant-loop decreases-loop
-element-copy-out-k c = low (turn c)
+element-copy-out-k c = low (turn c.before)
 
 cast-k : tie.Need-overflow_cast-k invariant-loop decreases-loop
 cast-k c = record { fits = omega (arith, low (turn c)) }
 
 loop-less : tie.Need-loop-s-smaller invariant-loop decreases-loop
-loop-less c = omega (arith, ends (turn c.before))
+loop-less c = omega (arith, ends (turn c.before.before))
 
 loop-again : tie.Need-loop-s-preserved invariant-loop decreases-loop
 loop-again c =
-    let R = c.before.before.before.repeat.ensures in (
-      R.long ∙ (turn c.before).before.loop-s.invariant.0,
+    let R = c.repeat.ensures in (
+      R.long ∙ (turn c.before.before).loop-s.invariant.0,
       λ of begin t.
-          spreading_more t ((turn c.before).before.loop-s.invariant.1 of begin t) (turn c.before).loop-s-test.true refl refl R,
+          spreading_more t ((turn c.before.before).loop-s.invariant.1 of begin t) (turn c.before.before).loop-s-test.true refl refl R,
     )
 
 same_length : tie.Need-shape_of-words invariant-loop decreases-loop
-same_length c = c.before.loop-s.invariant.0
+same_length c = c.loop-s.invariant.0
 
 returns : tie.Need-returns invariant-loop decreases-loop
 returns c of begin t =
-    let l = c.before.loop-s.invariant in
+    let l = c.loop-s.invariant in
     spreading_end t (l.1 of begin t) c.loop-s-test.false l.0
 
 pub spread_spec : {M : Type 1} → statement M

@@ -20,8 +20,8 @@ loop-holds : tie.Need-loop-s-init invariant-loop decreases-loop
 loop-holds c = (omega arith, (λ u h. absurd (omega arith)), kept_none _ _)
 
 -- there is room for the slot
-room : (c : tie.In-loop-s invariant-loop decreases-loop) → c.before.loop-s.s < length c.before.loop-s.words
-room c = omega (arith, c.before.loop-s.invariant.2.long)
+room : (c : tie.In-loop-s invariant-loop decreases-loop) → c.loop-s.s < length c.loop-s.words
+room c = omega (arith, c.loop-s.invariant.2.long)
 
 mul_words : tie.Need-offset_bounds-words-s invariant-loop decreases-loop
 mul_words c = omega (arith, room c)
@@ -37,15 +37,15 @@ loop-less c = omega arith
 
 loop-again : tie.Need-loop-s-preserved invariant-loop decreases-loop
 loop-again c =
-    let l = c.before.loop-s in
+    let l = c.loop-s in
     (omega arith, cleared_more l.words l.s (room c) l.invariant.1, kept_set l.s 0 l.invariant.2 (omega arith))
 
 same_length : tie.Need-shape_of-words invariant-loop decreases-loop
-same_length c = c.before.loop-s.invariant.2.long
+same_length c = c.loop-s.invariant.2.long
 
 returns : tie.Need-returns invariant-loop decreases-loop
 returns c =
-    let l = c.before.loop-s in
+    let l = c.loop-s in
     record { none = λ s m. l.invariant.1 s (omega arith); kept = l.invariant.2 }
 
 pub clear_spec : {M : Type 1} → statement M

@@ -19,13 +19,13 @@ end-at-requires-2 c κs = search rules
 returns : tie.Need-returns-then-end_at
 unfolding meet
 returns c =
-    let d = c.before in
-    let z = d.before.before.args in
+    let d = c in
+    let z = d.args in
     let f = at z.first.now in
     let g = at z.second.now in
     sym (ap (λ (b : Bool). b && ltb (f z.i) (g z.j))
     (is_false (ltb (f z.j) (g z.i))
-    (λ t. omega (arith, ltb→lt (f z.j) (g z.i) t, d.before.end_at.ensures, d.end_at-2.ensures, c.if-end_at.true))))
+    (λ t. omega (arith, ltb→lt (f z.j) (g z.i) t, d.end_at.ensures, d.end_at-2.ensures, c.if-end_at.true))))
 
 end-at-requires-3 : tie.Need-end_at-requires-3
 end-at-requires-3 c κs = search rules
@@ -36,15 +36,15 @@ end-at-requires-4 c κs = search rules
 returns-2 : tie.Need-returns
 unfolding meet
 returns-2 c =
-    let e = c.before.before in
-    let d = e.before in
-    let z = d.before.before.args in
+    let e = c in
+    let d = e in
+    let z = d.args in
     let f = at z.first.now in
     let g = at z.second.now in
     sym (ap₂ ◌&&◌
     (is_true (ltb (f z.j) (g z.i))
-    (lt→ltb (f z.j) (g z.i) (omega (arith, d.before.end_at.ensures, d.end_at-2.ensures, e.if-end_at.false))))
-    (ap₂ ltb (sym c.before.end_at-3.ensures) (sym c.end_at-4.ensures)))
+    (lt→ltb (f z.j) (g z.i) (omega (arith, d.end_at.ensures, d.end_at-2.ensures, e.if-end_at.false))))
+    (ap₂ ltb (sym c.end_at-3.ensures) (sym c.end_at-4.ensures)))
 
 pub do_overlap_spec : {M : Type 1} → statement M
 do_overlap_spec =

@@ -49,11 +49,11 @@ start_rows c = start c.before.before.before
 -- ---- before the first element
 
 clear-requires : tie.Need-clear-requires invariant-loop2 decreases-loop2 invariant-loop decreases-loop
-clear-requires c κs = c.before.before.requires.1
+clear-requires c κs = c.requires.1
 
 loop-holds : tie.Need-loop-element-init invariant-loop2 decreases-loop2 invariant-loop decreases-loop
 loop-holds c =
-    (kept_none _ _, λ n O. coming_start (λ j h. (O.line j h).0) c.before.before.clear.ensures)
+    (kept_none _ _, λ n O. coming_start (λ j h. (O.line j h).0) c.clear.ensures)
 
 -- ---- at an element
 
@@ -62,19 +62,19 @@ element-copy-out-r c = omega (arith, (start c.before).requires.0.1.low, c.loop-e
 
 loop2-holds : tie.Need-loop-r-init invariant-loop2 decreases-loop2 invariant-loop decreases-loop
 loop2-holds c =
-    let l = c.before.before.loop-element in (
+    let l = c.loop-element in (
       kept_none _ _,
-      λ n O. along_start (l.invariant.1 n O) (O.chained.heads l.element (omega (arith, O.low, c.before.loop-element-test.true))),
+      λ n O. along_start (l.invariant.1 n O) (O.chained.heads l.element (omega (arith, O.low, c.loop-element-test.true))),
     )
 
 -- ---- a row
 
 -- r links to one of the rows
-row_is : (c : InRows) → (1 ≤ c.before.loop-r.r) × (c.before.loop-r.r ≤ (start_rows c.before).requires.0.0)
+row_is : (c : InRows) → (1 ≤ c.loop-r.r) × (c.loop-r.r ≤ (start_rows c.before).requires.0.0)
     × ((start_rows c.before).requires.0.0 ≤ max_rows)
 row_is c =
     let O = (start_rows c.before).requires.0 in
-    (omega (arith, c.loop-r-test.true), link_row (c.before.loop-r.invariant.1 O.0 O.1).link, O.1.few)
+    (omega (arith, c.loop-r-test.true), link_row (c.loop-r.invariant.1 O.0 O.1).link, O.1.few)
 
 -- there is room for all slots
 room : (c : AtRows) → (start_rows c).args.slots ≤ length c.loop-r.words
@@ -83,7 +83,7 @@ room c =
     omega (
       arith,
       (start L).requires.1,
-      L.before.before.before.clear.ensures.kept.long,
+      L.clear.ensures.kept.long,
       L.loop-element.invariant.0.long,
       c.loop-r.invariant.0.long,
     )
@@ -99,28 +99,28 @@ slots-at-requires c κs = omega (arith, row_is c)
 
 place-row-requires : tie.Need-place_row-requires invariant-loop2 decreases-loop2 invariant-loop decreases-loop
 place-row-requires c κs =
-    let I = c.before.before in
+    let I = c in
     (omega (arith, row_is I), room I.before)
 
 abbrev rows_of : tie.After-slice_known-in-loop-r-1 invariant-loop2 decreases-loop2 invariant-loop decreases-loop → InRows
 rows_of c = c.before.before.before.before.before
 
 element-copy-out-r-2 : tie.Need-bounds-next-i invariant-loop2 decreases-loop2 invariant-loop decreases-loop
-element-copy-out-r-2 c = omega (arith, row_is (rows_of c))
+element-copy-out-r-2 c = omega (arith, row_is (rows_of c.before))
 
 loop2-less : tie.Need-loop-r-smaller invariant-loop2 decreases-loop2 invariant-loop decreases-loop
 loop2-less c =
-    let I = rows_of c.before in
+    let I = rows_of c.before.before in
     let r = row_is I in
     let O = (start_rows I.before).requires.0.1 in
-    rest_less (O.chained.nexts (I.before.loop-r.r - 1) (omega arith) (omega arith)) O.few r.0 (omega arith) r.1
+    rest_less (O.chained.nexts (I.loop-r.r - 1) (omega arith) (omega arith)) O.few r.0 (omega arith) r.1
 
 loop2-again : tie.Need-loop-r-preserved invariant-loop2 decreases-loop2 invariant-loop decreases-loop
 loop2-again c =
-    let I = rows_of c.before in
-    let l = I.before.loop-r in
-    let d = c.before.before.before in
-    let P = rw d.before.before.slots_at.ensures at d.place_row.ensures in (
+    let I = rows_of c.before.before in
+    let l = I.loop-r in
+    let d = c in
+    let P = rw d.slots_at.ensures at d.place_row.ensures in (
       kept_trans l.invariant.0 P.kept,
       λ n O.
           let A = l.invariant.1 n O in
@@ -131,20 +131,20 @@ loop2-again c =
 -- ---- on to the next element
 
 add-element : tie.Need-overflow_add-element invariant-loop2 decreases-loop2 invariant-loop decreases-loop
-add-element c = omega (arith, c.before.before.before.loop-element-test.true)
+add-element c = omega (arith, c.loop-element-test.true)
 
 loop-less : tie.Need-loop-element-smaller invariant-loop2 decreases-loop2 invariant-loop decreases-loop
-loop-less c = omega (arith, c.before.before.before.loop-element-test.true)
+loop-less c = omega (arith, c.loop-element-test.true)
 
 loop-again : tie.Need-loop-element-preserved invariant-loop2 decreases-loop2 invariant-loop decreases-loop
 loop-again c =
-    let l = c.before.loop-r in
-    (kept_trans c.before.before.before.before.loop-element.invariant.0 l.invariant.0, λ n O. along_end (l.invariant.1 n O) c.loop-r-test.false)
+    let l = c.loop-r in
+    (kept_trans c.loop-element.invariant.0 l.invariant.0, λ n O. along_end (l.invariant.1 n O) c.loop-r-test.false)
 
 -- ---- the end
 
 kept : (c : AtElements) → Kept (start c).args.slots (start c).args.words.now c.loop-element.words
-kept c = kept_trans c.before.before.before.clear.ensures.kept c.loop-element.invariant.0
+kept c = kept_trans c.clear.ensures.kept c.loop-element.invariant.0
 
 same_length : tie.Need-shape_of-words invariant-loop2 decreases-loop2 invariant-loop decreases-loop
 same_length c = (kept c.before).long
@@ -152,7 +152,7 @@ same_length c = (kept c.before).long
 returns : tie.Need-returns invariant-loop2 decreases-loop2 invariant-loop decreases-loop
 returns c n O =
     let S = start c.before in
-    coming_end (c.before.loop-element.invariant.1 n O) (λ j h. omega (arith, O.line j h, c.loop-element-test.false)) (kept c.before)
+    coming_end (c.loop-element.invariant.1 n O) (λ j h. omega (arith, O.line j h, c.loop-element-test.false)) (kept c.before)
     (omega (arith, S.requires.1, (kept c.before).long))
 
 pub fill_plain_spec : {M : Type 1} → statement M

@@ -24,9 +24,9 @@ decreases-loop first second i word asked₀ asked = count 64 (λ j. not (bit ask
 
 -- the row that is asked
 picked : (p : tie.After-pick-j invariant-loop decreases-loop)
-    → (bit p.before.before.before.args.word p.pick-j.result ≡ true)
-    × (bit p.before.before.loop-asked.asked p.pick-j.result ≡ false)
-picked p = in_first _ _ p.pick-j.ensures.1 (λ q. (p.before.before.loop-asked.invariant p.pick-j.result q).0)
+    → (bit p.args.word p.pick-j.result ≡ true)
+    × (bit p.loop-asked.asked p.pick-j.result ≡ false)
+picked p = in_first _ _ p.pick-j.ensures.1 (λ q. (p.loop-asked.invariant p.pick-j.result q).0)
 
 loop-holds : tie.Need-loop-asked-init invariant-loop decreases-loop
 loop-holds c = λ j q. absurd (false≢true (sym (bit_zero j) ∙ q))
@@ -35,7 +35,7 @@ pick-requires : tie.Need-pick-j-requires invariant-loop decreases-loop
 pick-requires c κs = λ q. c.loop-asked-test.true (sym q)
 
 do-overlap-requires : tie.Need-do_overlap-requires invariant-loop decreases-loop
-do-overlap-requires c κs = (c.pick-j.ensures.0, c.before.before.before.requires)
+do-overlap-requires c κs = (c.pick-j.ensures.0, c.requires)
 
 -- rows in the slot that overlap row i
 abbrev hinder : tie.Start invariant-loop decreases-loop → ℕ → Bool
@@ -48,29 +48,29 @@ returns c =
     let j = p.pick-j.result in
     let m = meet (at z.args.first.now) (at z.args.second.now) j z.args.i in
     sym (ap not (is_true (any max_rows (hinder z)) (any_of max_rows (hinder z) j p.pick-j.ensures.0
-    (both (bit z.args.word j) m (of_true (picked p).0) (of_true {b = m} (sym c.before.do_overlap.ensures ∙ c.if-do_overlap.true))))))
+    (both (bit z.args.word j) m (of_true (picked p).0) (of_true {b = m} (sym c.do_overlap.ensures ∙ c.if-do_overlap.true))))))
 
 shl-asked : tie.Need-overflow_shl-asked invariant-loop decreases-loop
-shl-asked c = omega (arith, c.before.before.pick-j.ensures.0)
+shl-asked c = omega (arith, c.pick-j.ensures.0)
 
 loop-less : tie.Need-loop-asked-smaller invariant-loop decreases-loop
 loop-less c =
     let p = c.before.before in
     let l = p.pick-j.ensures.0 in
-    let d = p.before.before.loop-asked.asked in
+    let d = p.loop-asked.asked in
     fewer d _ p.pick-j.result l (picked p).1 (λ v. bit_one_more d p.pick-j.result v l)
 
 loop-again : tie.Need-loop-asked-preserved invariant-loop decreases-loop
 loop-again c =
     let p = c.before.before in
-    let u = p.before.before.loop-asked in
+    let u = p.loop-asked in
     let i = p.pick-j.result in
     λ j q. one_of (bit u.asked j) j i (sym (bit_one_more u.asked i j p.pick-j.ensures.0) ∙ q) (u.invariant j)
-    (λ k. rw k ((picked p).0, sym c.before.do_overlap.ensures ∙ c.if-do_overlap.false))
+    (λ k. rw k ((picked p).0, sym c.do_overlap.ensures ∙ c.if-do_overlap.false))
 
 returns-2 : tie.Need-returns invariant-loop decreases-loop
 returns-2 c =
-    let u = c.before.loop-asked in
+    let u = c.loop-asked in
     let z = c.before.before in
     let e : u.asked ≡ z.args.word = omega arith in
     let m : ℕ → Bool = λ j. meet (at z.args.first.now) (at z.args.second.now) j z.args.i in

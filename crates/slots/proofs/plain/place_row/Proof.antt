@@ -25,8 +25,8 @@ slots-holds : tie.Need-slots-init invariant-slots decreases-slots
 slots-holds c = placing_start
 
 -- there is room for the slot
-room : (c : tie.In-slots invariant-slots decreases-slots) → c.before.slots.s < length c.before.slots.words
-room c = omega (arith, c.before.slots.invariant.kept.long, c.slots-test.true, c.before.before.before.requires.1)
+room : (c : tie.In-slots invariant-slots decreases-slots) → c.slots.s < length c.slots.words
+room c = omega (arith, c.slots.invariant.kept.long, c.slots-test.true, c.requires.1)
 
 mul-is-free : tie.Need-offset_bounds-words-s invariant-slots decreases-slots
 mul-is-free c = record { fits = omega (arith, room c.before) }
@@ -35,7 +35,7 @@ slice-read-is-free : tie.Need-bounds-words-s invariant-slots decreases-slots
 slice-read-is-free c = room c.before.before
 
 is-free-requires : tie.Need-is_free-requires invariant-slots decreases-slots
-is-free-requires c κs = c.before.before.before.before.before.requires.0
+is-free-requires c κs = c.requires.0
 
 mul_words : tie.Need-offset_bounds-words-s-then-is_free invariant-slots decreases-slots
 mul_words c = record { fits = omega (arith, room c.before.before.before.before) }
@@ -50,41 +50,41 @@ slice-write-words : tie.Need-bounds-words-s-then-is_free-2 invariant-slots decre
 slice-write-words c = room c.before.before.before.before.before
 
 sub-left : tie.Need-overflow_sub-left invariant-slots decreases-slots
-sub-left c = omega (arith, c.before.before.before.before.if-left-eq0.false)
+sub-left c = omega (arith, c.if-left-eq0.false)
 
 add-s : tie.Need-overflow_add-s invariant-slots decreases-slots
-add-s c = omega (arith, c.before.before.before.before.slots-test.true)
+add-s c = omega (arith, c.slots-test.true)
 
 slots-less : tie.Need-slots-smaller invariant-slots decreases-slots
-slots-less c = omega (arith, c.before.before.before.before.slots-test.true)
+slots-less c = omega (arith, c.slots-test.true)
 
 slots-again : tie.Need-slots-preserved invariant-slots decreases-slots
 slots-again c =
-    let e = c.before.before.before in
-    let I = e.before in
-    let l = I.before.slots in
-    let z = I.before.before.before.args in
-    let opens = sym c.before.is_free.ensures in
+    let e = c in
+    let I = e in
+    let l = I.slots in
+    let z = I.args in
+    let opens = sym c.is_free.ensures in
     ⊎_elim
     (λ w.
     rw (w.2, w.3)
     (placing_take l.invariant I.slots-test.true
-    (omega (arith, l.invariant.kept.long, I.before.before.before.requires.1)) (opens ∙ w.0.true) (omega (arith, e.if-left-eq0.false))
-    (ap (bit_or (at l.words l.s)) (one_shl z.i I.before.before.before.requires.0))))
+    (omega (arith, l.invariant.kept.long, I.requires.1)) (opens ∙ w.0.true) (omega (arith, e.if-left-eq0.false))
+    (ap (bit_or (at l.words l.s)) (one_shl z.i I.requires.0))))
     (λ w. rw (w.1, w.2) (placing_skip l.invariant I.slots-test.true (opens ∙ w.0.left)))
     c.if-is_free.branch
 
 same_length : tie.Need-shape_of-words-after-slots invariant-slots decreases-slots
-same_length c = c.before.slots.invariant.kept.long
+same_length c = c.slots.invariant.kept.long
 
 returns : tie.Need-returns-after-slots invariant-slots decreases-slots
-returns c = placing_end c.before.slots.invariant (inl c.slots-test.false)
+returns c = placing_end c.slots.invariant (inl c.slots-test.false)
 
 same-length-2 : tie.Need-shape_of-words-then-left-eq0 invariant-slots decreases-slots
-same-length-2 c = c.before.before.slots.invariant.kept.long
+same-length-2 c = c.slots.invariant.kept.long
 
 returns-2 : tie.Need-returns-then-left-eq0 invariant-slots decreases-slots
-returns-2 c = placing_end c.before.before.slots.invariant (inr c.if-left-eq0.true)
+returns-2 c = placing_end c.slots.invariant (inr c.if-left-eq0.true)
 
 pub place_row_spec : {M : Type 1} → statement M
 place_row_spec =

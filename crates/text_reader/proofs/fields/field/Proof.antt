@@ -19,7 +19,7 @@ loop-holds : tie.Need-loop-left-init invariant-loop decreases-loop
 loop-holds c = λ from. walked_start _ (c.next_field-found.ensures from)
 
 next-field-requires-2 : tie.Need-next_field-found-requires-in-loop-left invariant-loop decreases-loop
-next-field-requires-2 c κs = (c.before.loop-left.invariant 0).next.high
+next-field-requires-2 c κs = (c.loop-left.invariant 0).next.high
 
 sub-left : tie.Need-overflow_sub-left invariant-loop decreases-loop
 sub-left c = omega arith
@@ -28,10 +28,10 @@ loop-less : tie.Need-loop-left-smaller invariant-loop decreases-loop
 loop-less c = omega arith
 
 loop-again : tie.Need-loop-left-preserved invariant-loop decreases-loop
-loop-again c = λ from. walked_on _ (c.before.before.loop-left.invariant from) c.before.loop-left-test.true (c.next_field-found-in-loop-left.ensures from)
+loop-again c = λ from. walked_on _ (c.loop-left.invariant from) c.loop-left-test.true (c.next_field-found-in-loop-left.ensures from)
 
 returns : tie.Need-returns invariant-loop decreases-loop
-returns c = λ from. walked_there (c.before.loop-left.invariant from) (omega arith)
+returns c = λ from. walked_there (c.loop-left.invariant from) (omega arith)
 
 pub field_spec : {M : Type 1} → statement M
 field_spec =

@@ -22,7 +22,7 @@ shared-slice-read-if1 c = omega arith
 
 returns : tie.Need-returns-then-bytes-i invariant-loop decreases-loop
 returns c =
-    let z = c.before.before.before.loop-i in
+    let z = c.loop-i in
     (omega (arith, going_stops z.invariant (omega arith) (eq-eqb _ _ c.if-bytes-i.true)), z.invariant.inside)
 
 add-i : tie.Need-overflow_add-i invariant-loop decreases-loop
@@ -32,10 +32,10 @@ loop-less : tie.Need-loop-i-smaller invariant-loop decreases-loop
 loop-less c = omega arith
 
 loop-again : tie.Need-loop-i-preserved invariant-loop decreases-loop
-loop-again c = going_on c.before.before.before.loop-i.invariant (omega arith) (ne_eqb _ _ c.if-bytes-i.false)
+loop-again c = going_on c.loop-i.invariant (omega arith) (ne_eqb _ _ c.if-bytes-i.false)
 
 returns-2 : tie.Need-returns invariant-loop decreases-loop
-returns-2 c = (omega (arith, going_ends c.before.loop-i.invariant (omega arith)), c.before.loop-i.invariant.inside)
+returns-2 c = (omega (arith, going_ends c.loop-i.invariant (omega arith)), c.loop-i.invariant.inside)
 
 pub find_spec : {M : Type 1} → statement M
 find_spec =

@@ -8,7 +8,7 @@ field-requires : tie.Need-field-found-requires
 field-requires c κs = search rules
 
 returns : tie.Need-returns
-returns c = λ from. field_decides (c.before.field-found.ensures from)
+returns c = λ from. field_decides (c.field-found.ensures from)
 
 pub has_field_spec : {M : Type 1} → statement M
 has_field_spec = tie.close (tie.spec field-requires returns)

@@ -10,7 +10,7 @@ returns-2 : tie.Need-returns-then-b-eq9
 returns-2 c = rw c.if-b-eq9.true
 
 returns-3 : tie.Need-returns
-returns-3 c = rw (ne_eqb _ _ c.before.if-b-eq32.false, ne_eqb _ _ c.if-b-eq9.false)
+returns-3 c = rw (ne_eqb _ _ c.if-b-eq32.false, ne_eqb _ _ c.if-b-eq9.false)
 
 pub is_blank_spec : {M : Type 1} → statement M
 is_blank_spec = tie.close (tie.spec returns returns-2 returns-3)

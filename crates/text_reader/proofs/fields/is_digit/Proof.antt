@@ -10,7 +10,7 @@ returns c = decides_no (λ w. let z : ⊥ = omega arith in z)
 
 returns-2 : tie.Need-returns
 returns-2 c =
-    let b = c.before.args.b in
+    let b = c.args.b in
     record {
       holds = λ e. (omega arith, omega (arith, leb-true b 57 e));
       fails = λ e w. let z : ⊥ = omega (arith, leb-false b 57 e, w.1) in z;

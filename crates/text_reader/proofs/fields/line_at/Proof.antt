@@ -45,8 +45,8 @@ add-t13 c = search rules
 
 returns : tie.Need-returns
 returns c =
-    let f = c.before.before in
-    let z = f.before.before.before in
+    let f = c in
+    let z = f in
     let t = z.args.text.now in
     let k = z.args.at in
     let rest : take (length t - k) (drop k t) ≡ drop k t = take_all (length t - k) (drop k t) (omega (arith, length-drop k t)) in

@@ -16,7 +16,7 @@ abbrev decreases-loop : tie.decreases-loop-at
 decreases-loop text from at₀ at = length text + 1 - at
 
 loop-holds : tie.Need-loop-at-init invariant-loop decreases-loop
-loop-holds c = (c.before.requires, refl)
+loop-holds c = (c.requires, refl)
 
 line-at-requires : tie.Need-line_at-line-requires invariant-loop decreases-loop
 line-at-requires c κs = search rules
@@ -35,28 +35,28 @@ next-field-requires c κs = omega arith
 
 returns : tie.Need-returns-then-first invariant-loop decreases-loop
 returns c =
-    let n = c.before.before in
-    let l = n.before.before in
+    let n = c in
+    let l = n in
     line_found l.line_at_lem.ensures (n.next_field-first.ensures l.line_at_lem.result.start) _ c.if-first.true
-    l.before.before.loop-at.invariant.1
+    l.loop-at.invariant.1
 
 loop-less : tie.Need-loop-at-smaller invariant-loop decreases-loop
 loop-less c =
-    let l = c.before.before.before.before.line_at_lem.ensures in
+    let l = c.line_at_lem.ensures in
     omega (arith, l.start, l.ordered, l.high, l.past)
 
 loop-again : tie.Need-loop-at-preserved invariant-loop decreases-loop
 loop-again c =
-    let n = c.before.before in
-    let l = n.before.before in (
+    let n = c in
+    let l = n in (
       l.line_at_lem.ensures.past,
       line_skipped l.line_at_lem.ensures (n.next_field-first.ensures l.line_at_lem.result.start) _ c.if-first.false
-          l.before.before.loop-at.invariant.1,
+          l.loop-at.invariant.1,
     )
 
 returns-2 : tie.Need-returns invariant-loop decreases-loop
 returns-2 c =
-    let u = c.before.loop-at in
+    let u = c.loop-at in
     line_none _ _ u.at u.invariant.1 (omega arith) u.invariant.0
 
 pub next_line_spec : {M : Type 1} → statement M

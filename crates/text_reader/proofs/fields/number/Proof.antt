@@ -28,17 +28,17 @@ refuse-requires c κs = search rules
 
 returns : tie.Need-returns-then-not-is_digit invariant-loop decreases-loop
 returns c =
-    let d = c.before.before in
+    let d = c in
     let e = c.refuse.ensures in
-    cell_word _ d.before.before.before.loop-i.invariant _ (omega arith) (denied d.is_digit.ensures c.before.if-not-is_digit.true) e.0 e.1
+    cell_word _ d.loop-i.invariant _ (omega arith) (denied d.is_digit.ensures c.if-not-is_digit.true) e.0 e.1
 
 shared-slice-read-grow : tie.Need-bounds-digits-i-in-loop-i invariant-loop decreases-loop
 shared-slice-read-grow c = omega arith
 
 grow-requires : tie.Need-grow-x-requires invariant-loop decreases-loop
 grow-requires c κs =
-    let d = c.before.before in
-    (omega (arith, d.before.before.before.loop-i.invariant.sum), granted d.is_digit.ensures c.before.if-not-is_digit.false)
+    let d = c in
+    (omega (arith, d.loop-i.invariant.sum), granted d.is_digit.ensures c.if-not-is_digit.false)
 
 add-i : tie.Need-overflow_add-i invariant-loop decreases-loop
 add-i c = omega arith
@@ -48,8 +48,8 @@ loop-less c = omega arith
 
 loop-again : tie.Need-loop-i-preserved invariant-loop decreases-loop
 loop-again c =
-    let d = c.before.before.before in
-    summed_next d.before.before.before.loop-i.invariant _ (omega arith) (granted d.is_digit.ensures c.before.before.if-not-is_digit.false)
+    let d = c in
+    summed_next d.loop-i.invariant _ (omega arith) (granted d.is_digit.ensures c.if-not-is_digit.false)
     c.grow-x.ensures
 
 refuse-requires-2 : tie.Need-refuse-requires-then-x-gt65535 invariant-loop decreases-loop
@@ -58,13 +58,13 @@ refuse-requires-2 c κs = search rules
 returns-2 : tie.Need-returns-then-x-gt65535 invariant-loop decreases-loop
 returns-2 c =
     let e = c.refuse-then-x-gt65535.ensures in
-    cell_large _ c.before.before.before.loop-i.invariant (omega arith) _ (omega arith) e.0 e.1
+    cell_large _ c.loop-i.invariant (omega arith) _ (omega arith) e.0 e.1
 
 cast-t12 : tie.Need-overflow_cast-result invariant-loop decreases-loop
 cast-t12 c = omega arith
 
 returns-3 : tie.Need-returns invariant-loop decreases-loop
-returns-3 c = cell_value _ c.before.before.loop-i.invariant (omega arith) (omega arith)
+returns-3 c = cell_value _ c.loop-i.invariant (omega arith) (omega arith)
 
 pub number_spec : {M : Type 1} → statement M
 number_spec =

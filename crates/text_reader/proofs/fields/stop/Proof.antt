@@ -26,8 +26,8 @@ is-stop-requires c κs = search rules
 
 returns : tie.Need-returns-then-is_stop invariant-loop decreases-loop
 returns c =
-    let z = c.before.before.before.before.loop-i in
-    (going_stops z.invariant (omega arith) (sym c.before.is_stop.ensures ∙ c.if-is_stop.true), z.invariant.inside)
+    let z = c.loop-i in
+    (going_stops z.invariant (omega arith) (sym c.is_stop.ensures ∙ c.if-is_stop.true), z.invariant.inside)
 
 add-i : tie.Need-overflow_add-i invariant-loop decreases-loop
 add-i c = omega arith
@@ -37,10 +37,10 @@ loop-less c = omega arith
 
 loop-again : tie.Need-loop-i-preserved invariant-loop decreases-loop
 loop-again c =
-    going_on c.before.before.before.before.loop-i.invariant (omega arith) (sym c.before.is_stop.ensures ∙ c.if-is_stop.false)
+    going_on c.loop-i.invariant (omega arith) (sym c.is_stop.ensures ∙ c.if-is_stop.false)
 
 returns-2 : tie.Need-returns invariant-loop decreases-loop
-returns-2 c = (going_ends c.before.loop-i.invariant (omega arith), c.before.loop-i.invariant.inside)
+returns-2 c = (going_ends c.loop-i.invariant (omega arith), c.loop-i.invariant.inside)
 
 pub stop_spec : {M : Type 1} → statement M
 stop_spec =

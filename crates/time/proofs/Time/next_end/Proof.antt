@@ -19,7 +19,7 @@ even {t} {c} {k} T B e = ap₂ ◌+◌ B.here T.interval ∙ even_end T.sound (a
 
 add-result : tie.Need-overflow_add-result
 add-result c =
-    let z = c.before in
+    let z = c in
     let k = z.requires.1 in
     let T = z.requires.2 in
     let B = z.requires.3 in
@@ -30,7 +30,7 @@ returns c t k T B = even T B c.if-self-eq1.true
 
 multiple-past-requires : tie.Need-multiple_past-requires
 multiple-past-requires c κs =
-    let z = c.before.before.before in
+    let z = c in
     past_fits z.requires.2 z.requires.3
 
 returns-2 : tie.Need-returns

@@ -23,41 +23,41 @@ abbrev head : tie.After-slots_at invariant-loop decreases-loop → tie.At-loop-i
 head s = s.before.before.before.before.before
 
 abbrev fresh : tie.After-raised-h invariant-loop decreases-loop → tie.After-slots_at invariant-loop decreases-loop
-fresh r = r.before.before.before
+fresh r = r.before.before.before.before
 
 loop-holds : tie.Need-loop-i-init invariant-loop decreases-loop
 loop-holds c = clocking_start c.requires
 
 slots-at-requires : tie.Need-slots_at-next-requires invariant-loop decreases-loop
-slots-at-requires c κs = omega (arith, c.before.before.requires.few)
+slots-at-requires c κs = omega (arith, c.requires.few)
 
 place-of-requires : tie.Need-place_of-place-requires invariant-loop decreases-loop
 place-of-requires c κs =
-    let u = c.before.before in
-    omega (arith, c.slots_at-next.ensures, u.before.requires.high u.loop-i.i (omega arith))
+    let u = c in
+    omega (arith, c.slots_at-next.ensures, u.requires.high u.loop-i.i (omega arith))
 
 slots-at-requires-2 : tie.Need-slots_at-requires invariant-loop decreases-loop
-slots-at-requires-2 c κs = c.before.place_of-place.ensures
+slots-at-requires-2 c κs = c.place_of-place.ensures
 
 mul-met : tie.Need-offset_bounds-period-i invariant-loop decreases-loop
-mul-met c = omega (arith, (head c.before).before.requires.few)
+mul-met c = omega (arith, (head c.before).requires.few)
 
 element-copy-out-met : tie.Need-bounds-period-i invariant-loop decreases-loop
-element-copy-out-met c = omega (arith, (head c.before).before.requires.few)
+element-copy-out-met c = omega (arith, (head c.before.before).requires.few)
 
 mul-met-2 : tie.Need-offset_bounds-met-place invariant-loop decreases-loop
-mul-met-2 c = omega (arith, c.before.before.before.before.place_of-place.ensures)
+mul-met-2 c = omega (arith, c.place_of-place.ensures)
 
 array-write-met : tie.Need-bounds-met-place invariant-loop decreases-loop
-array-write-met c = c.before.before.before.before.place_of-place.ensures
+array-write-met c = c.place_of-place.ensures
 
 raised-requires : tie.Need-raised-h-requires invariant-loop decreases-loop
 raised-requires c κs =
-    let s = c.before.before in
+    let s = c.before.before.before in
     let u = head s in
-    let P = u.before.requires in
+    let P = u.requires in
     let R = u.loop-i.invariant.rising in
-    let e = s.before.before.before.slots_at-next.ensures in
+    let e = s.slots_at-next.ensures in
     (R.low, R.high, omega (arith, e, P.low u.loop-i.i (omega arith)), omega (arith, e, P.high u.loop-i.i (omega arith)))
 
 none-requires : tie.Need-none-requires invariant-loop decreases-loop
@@ -70,39 +70,39 @@ returns c =
     let u = head s in
     rw c.none.ensures
     (clocks_none
-    (rising_over u.before.requires u.loop-i.invariant.rising (omega arith)
-    (rw s.before.before.before.slots_at-next.ensures at r.raised-h.ensures) c.before.if-h.true))
+    (rising_over u.requires u.loop-i.invariant.rising (omega arith)
+    (rw s.slots_at-next.ensures at r.raised-h.ensures) c.if-h.true))
 
 is-leading-requires : tie.Need-is_leading-requires invariant-loop decreases-loop
 is-leading-requires c κs =
     let u = head (fresh c.before.before) in
-    let P = u.before.requires in
+    let P = u.requires in
     let K = u.loop-i.invariant.keeping in
     (keeping_room P K, keeping_low P K)
 
 mul-kept : tie.Need-offset_bounds-period-i-then-is_leading invariant-loop decreases-loop
-mul-kept c = omega (arith, (head (fresh c.before.before.before.before)).before.requires.few)
+mul-kept c = omega (arith, (head (fresh c.before.before.before.before)).requires.few)
 
 element-copy-out-kept : tie.Need-bounds-period-i-then-is_leading invariant-loop decreases-loop
-element-copy-out-kept c = omega (arith, (head (fresh c.before.before.before.before)).before.requires.few)
+element-copy-out-kept c = omega (arith, (head (fresh c.before.before.before.before)).requires.few)
 
 mul-kept-2 : tie.Need-offset_bounds-kept-count invariant-loop decreases-loop
 mul-kept-2 c =
     let u = head (fresh c.before.before.before.before.before) in
-    omega (arith, keeping_room u.before.requires u.loop-i.invariant.keeping)
+    omega (arith, keeping_room u.requires u.loop-i.invariant.keeping)
 
 array-write-kept : tie.Need-bounds-kept-count invariant-loop decreases-loop
 array-write-kept c =
     let u = head (fresh c.before.before.before.before.before) in
-    keeping_space u.before.requires u.loop-i.invariant.keeping (omega arith)
+    keeping_space u.requires u.loop-i.invariant.keeping (omega arith)
 
 add-count : tie.Need-overflow_add-count invariant-loop decreases-loop
 add-count c =
     let u = head (fresh c.before.before.before.before.before) in
-    omega (arith, keeping_room u.before.requires u.loop-i.invariant.keeping)
+    omega (arith, keeping_room u.requires u.loop-i.invariant.keeping)
 
 add-i : tie.Need-overflow_add-i invariant-loop decreases-loop
-add-i c = omega (arith, (head c.before).before.requires.few)
+add-i c = omega (arith, (head c.before).requires.few)
 
 loop-less : tie.Need-loop-i-smaller invariant-loop decreases-loop
 loop-less c = omega arith
@@ -111,10 +111,10 @@ loop-again : tie.Need-loop-i-preserved invariant-loop decreases-loop
 loop-again c =
     let s = c.before in
     let u = head s in
-    let P = u.before.requires in
+    let P = u.requires in
     let C = u.loop-i.invariant in
-    let e = s.before.before.before.slots_at-next.ensures in
-    let place = s.before.before.place_of in
+    let e = s.slots_at-next.ensures in
+    let place = s.place_of-place in
     ⊎_elim
     (λ w. rw (w.8, w.9, w.10, w.11)
     (clocking_new P C (omega arith) place.result place.ensures (rw e at w.2.ensures) w.3.left
@@ -124,18 +124,18 @@ loop-again c =
     (clocking_kept P C (omega arith) place.result place.ensures (rw e at w.2.ensures) w.3.left
     (not-false _ (sym (rw e at w.5.ensures) ∙ w.6.left))))
     (λ w. rw (w.1, w.2, w.3, w.4)
-    (clocking_again P C (omega arith) place.result (sym s.slots_at.ensures ∙ w.0.left ∙ e))))
+    (clocking_again P C (omega arith) place.result (sym s.slots_at-next.ensures ∙ w.0.left ∙ e))))
     c.if-slots_at-next.branch
 
 shortest-of-requires : tie.Need-shortest_of-requires invariant-loop decreases-loop
 shortest-of-requires c κs =
-    let u = c.before.before in
-    leading_periods (keeping_end u.loop-i.invariant.keeping c.before.loop-i-test.false) u.before.requires
+    let u = c in
+    leading_periods (keeping_end u.loop-i.invariant.keeping c.loop-i-test.false) u.requires
 
 returns-2 : tie.Need-returns invariant-loop decreases-loop
 returns-2 c =
-    let l = c.before.before in
-    clocks_end l.before.before.requires l.before.loop-i.invariant l.loop-i-test.false c.shortest_of.ensures
+    let l = c in
+    clocks_end l.requires l.loop-i.invariant l.loop-i-test.false c.shortest_of.ensures
 
 pub of_spec : {M : Type 1} → statement M
 of_spec =

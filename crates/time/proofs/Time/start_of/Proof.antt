@@ -28,28 +28,28 @@ returns : tie.Need-returns-then-self-ne1
 returns c = c.walk_to.ensures
 
 div-if2 : tie.Need-nonzero_div-self
-div-if2 c = let T = c.before.before.before.requires.1 in omega (arith, T.interval, shortest_positive T.sound)
+div-if2 c = let T = c.requires.1 in omega (arith, T.interval, shortest_positive T.sound)
 
 mul-result : tie.Need-overflow_mul-result
 mul-result c =
-    let z = c.before.before.before.before.before in
+    let z = c in
     let k = z.args.k in
     let T = z.requires.1 in
     let S = T.sound in
     let one : z.args.self.count ≡ 1 = omega arith in
-    let l : k < intervals z.requires.0 = rw (count T one) at c.before.if-k-self.true in
+    let l : k < intervals z.requires.0 = rw (count T one) at c.if-k-self.true in
     record { fits = omega (arith, here T one k, start_strict S k _ l (le_refl _), start_last S, T.short) }
 
 returns-2 : tie.Need-returns-then-k-self
 returns-2 c t T =
-    let z = c.before.before.before.before.before in
+    let z = c in
     let k = z.args.k in
     let one : z.args.self.count ≡ 1 = omega arith in
-    here T one k ∙ sym (start_in T.sound k (rw (count T one) at c.before.if-k-self.true))
+    here T one k ∙ sym (start_in T.sound k (rw (count T one) at c.if-k-self.true))
 
 returns-3 : tie.Need-returns
 returns-3 c t T =
-    let z = c.before.before.before.before in
+    let z = c in
     let one : z.args.self.count ≡ 1 = omega arith in
     T.hyper ∙ sym (start_late T.sound z.args.k (rw (count T one) at c.if-k-self.false))
 

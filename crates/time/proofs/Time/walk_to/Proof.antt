@@ -48,35 +48,35 @@ loop-holds c t T = (omega arith, omega arith, sym (start_first T.sound))
 
 returns : tie.Need-returns-then-passed-k invariant-loop decreases-loop
 returns c t T =
-    let u = c.before.before in
+    let u = c in
     let W = u.loop-slot.invariant in
-    let k : ℕ = u.before.args.k in
+    let k : ℕ = u.args.k in
     let e : u.loop-slot.passed ≡ k = omega arith in
     let l : u.loop-slot.passed < intervals t = inside W T (omega arith) in
     (W t T).2 ∙ ap (start t) e ∙ sym (start_in T.sound k (omega arith))
 
 multiple-past-requires : tie.Need-multiple_past-slot-requires invariant-loop decreases-loop
 multiple-past-requires c κs =
-    let u = c.before.before.before.before in
-    let T = u.before.requires.1 in
+    let u = c in
+    let T = u.requires.1 in
     (leading_periods T.leads (periods_of T.sound), omega (arith, T.hyper, T.short))
 
 add-passed : tie.Need-overflow_add-passed invariant-loop decreases-loop
 add-passed c =
-    let u = c.before.before.before.before.before in
-    let T = u.before.requires.1 in
-    omega (arith, (u.loop-slot.invariant u.before.requires.0 T).1, intervals_le T.sound, T.short)
+    let u = c in
+    let T = u.requires.1 in
+    omega (arith, (u.loop-slot.invariant u.requires.0 T).1, intervals_le T.sound, T.short)
 
 loop-less : tie.Need-loop-slot-smaller invariant-loop decreases-loop
 loop-less c = omega (arith, c.multiple_past-slot.ensures.past)
 
 loop-again : tie.Need-loop-slot-preserved invariant-loop decreases-loop
 loop-again c t T =
-    let u = c.before.before.before.before.before in
+    let u = c in
     next u.loop-slot.invariant T (omega arith) (omega (arith, (u.loop-slot.invariant t T).0)) c.multiple_past-slot.ensures
 
 returns-2 : tie.Need-returns invariant-loop decreases-loop
-returns-2 c t T = last c.before.loop-slot.invariant T (omega arith)
+returns-2 c t T = last c.loop-slot.invariant T (omega arith)
 
 pub walk_to_spec : {M : Type 1} → statement M
 walk_to_spec =

@@ -10,13 +10,13 @@ returns c = search rules
 
 returns-2 : tie.Need-returns-then-ends
 returns-2 c =
-    let z = c.before.before.args in
-    sym (ap₂ (λ (a b : Bool). a || (z.started && not b)) c.before.if-starts.false c.if-ends.true ∙ and-false z.started)
+    let z = c.args in
+    sym (ap₂ (λ (a b : Bool). a || (z.started && not b)) c.if-starts.false c.if-ends.true ∙ and-false z.started)
 
 returns-3 : tie.Need-returns
 returns-3 c =
-    let z = c.before.before.args in
-    sym (ap₂ (λ (a b : Bool). a || (z.started && not b)) c.before.if-starts.false c.if-ends.false ∙ and-true z.started)
+    let z = c.args in
+    sym (ap₂ (λ (a b : Bool). a || (z.started && not b)) c.if-starts.false c.if-ends.false ∙ and-true z.started)
 
 pub goes_on_spec : {M : Type 1} → statement M
 goes_on_spec = tie.close (tie.spec returns returns-2 returns-3)

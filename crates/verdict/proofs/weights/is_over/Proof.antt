@@ -14,7 +14,7 @@ returns c = rw c.if-equal.true
 
 mul-result : tie.Need-overflow_mul-result
 mul-result c =
-    let z = c.before.args in
+    let z = c.args in
     let a : z.load ≤ max_rows * max_slots = omega arith in
     let b : z.interval ≤ max_slots = omega arith in
     omega (arith, mul-le-mul a b)
@@ -24,7 +24,7 @@ sub-result c = search rules
 
 mul-result-2 : tie.Need-overflow_mul-result-2
 mul-result-2 c =
-    let z = c.before.args in
+    let z = c.args in
     let a : z.interval - 1 ≤ max_slots = omega arith in
     let b : z.hyper ≤ max_slots = omega arith in
     omega (arith, mul-le-mul a b)

@@ -4,7 +4,7 @@ use Rattle.verdict.proofs.weights.jobs_in.Statement.{statement}
 use Rattle.verdict.proofs.weights.jobs_in.Tie as tie
 
 returns : tie.Need-returns-then-period-last
-returns c = rw c.if-period-last.true c.before.requires.1
+returns c = rw c.if-period-last.true c.requires.1
 
 div-result : tie.Need-nonzero_div-result
 div-result c = search rules

@@ -11,7 +11,7 @@ add-result c = search rules
 
 returns : tie.Need-returns-then-not-passes
 unfolding next_lowest
-returns c = simp (eq-eqb _ _ c.before.else-found-n.true, c.if-not-passes.true)
+returns c = simp (eq-eqb _ _ c.else-found-n.true, c.if-not-passes.true)
 
 returns-2 : tie.Need-returns-else-found-n
 unfolding next_lowest

@@ -34,25 +34,25 @@ slots-at-requires-2 c κs = omega arith
 
 jobs-in-requires : tie.Need-jobs_in-jobs-requires invariant-loop decreases-loop
 jobs-in-requires c κs =
-    let u = c.before.before.before in
-    (omega (arith, c.slots_at-next.ensures, u.before.requires.0.period_low u.loop-i.i (omega arith)), u.loop-i.invariant.2)
+    let u = c in
+    (omega (arith, c.slots_at-next.ensures, u.requires.0.period_low u.loop-i.i (omega arith)), u.loop-i.invariant.2)
 
 -- a row has no more than all h slots
-rate-low : (j : tie.After-jobs_in-jobs invariant-loop decreases-loop) → j.jobs_in-jobs.result * j.before.before.slots_at-own.result ≤ max_slots
+rate-low : (j : tie.After-jobs_in-jobs invariant-loop decreases-loop) → j.jobs_in-jobs.result * j.slots_at-own.result ≤ max_slots
 rate-low j =
-    let p = j.before in
-    let s = p.before in
-    let u = s.before.before in
-    let a = u.before.args in
+    let p = j in
+    let s = p in
+    let u = s in
+    let a = u.args in
     let high : s.slots_at-own.result ≤ p.slots_at-next.result =
-    omega (arith, s.slots_at-own.ensures, p.slots_at-next.ensures, u.before.requires.0.cost_high u.loop-i.i (omega arith)) in
+    omega (arith, s.slots_at-own.ensures, p.slots_at-next.ensures, u.requires.0.cost_high u.loop-i.i (omega arith)) in
     let few : j.jobs_in-jobs.result * s.slots_at-own.result ≤ a.hyper / p.slots_at-next.result * p.slots_at-next.result =
     rw j.jobs_in-jobs.ensures (mul-le-mul_left (a.hyper / p.slots_at-next.result) high) in
     omega (
       arith,
       few,
       div-mul-le_self a.hyper p.slots_at-next.result,
-      u.before.requires.1,
+      u.requires.1,
     )
 
 mul-rate : tie.Need-overflow_mul-rate invariant-loop decreases-loop
@@ -66,25 +66,25 @@ mul-rate-2 c = omega arith
 
 element-write-rate : tie.Need-bounds-rate-i invariant-loop decreases-loop
 element-write-rate c =
-    let u = c.before.before.before.before in
-    omega (arith, u.loop-i.invariant.1.size, u.before.requires.0.few)
+    let u = c in
+    omega (arith, u.loop-i.invariant.1.size, u.requires.0.few)
 
 is-light-requires : tie.Need-is_light-requires invariant-loop decreases-loop
 is-light-requires c κs =
-    let p = c.before in
-    let u = p.before.before.before in
-    let T = u.before.requires.0 in (
+    let p = c in
+    let u = p in
+    let T = u.requires.0 in (
       omega (
         arith,
-        p.before.slots_at-own.ensures,
+        p.slots_at-own.ensures,
         T.cost_high u.loop-i.i (omega arith),
         T.period_high u.loop-i.i (omega arith),
       ),
-      u.before.requires.2,
+      u.requires.2,
     )
 
 lowest-next-requires : tie.Need-lowest_next-light-requires invariant-loop decreases-loop
-lowest-next-requires c κs = let u = c.before.before.before.before.before in omega (arith, u.before.requires.0.few)
+lowest-next-requires c κs = let u = c in omega (arith, u.requires.0.few)
 
 add-i : tie.Need-overflow_add-i invariant-loop decreases-loop
 add-i c = omega arith
@@ -94,27 +94,27 @@ loop-less c = omega arith
 
 loop-again : tie.Need-loop-i-preserved invariant-loop decreases-loop
 loop-again c =
-    let q = c.before in
-    let j = q.before in
-    let p = j.before in
-    let u = p.before.before.before in
-    let a = u.before.args in (
+    let q = c in
+    let j = q in
+    let p = j in
+    let u = p in
+    let a = u.args in (
       omega arith,
       by_row_put _ u.loop-i.invariant.1 (omega arith)
           (ap₂ (λ (x y : ℕ). x * y) (j.jobs_in-jobs.ensures ∙ ap (λ (x : ℕ). a.hyper / x) p.slots_at-next.ensures)
-          p.before.slots_at-own.ensures),
+          p.slots_at-own.ensures),
       j.jobs_in-jobs.ensures,
       c.lowest_next-light.ensures
           ∙ ap₂ (λ (x : ℕ) (y : Bool). next_lowest x u.loop-i.i y) u.loop-i.invariant.3
           (q.is_light.ensures
-          ∙ ap₂ (λ (x y : ℕ). ltb (x * a.interval) y) p.before.slots_at-own.ensures p.slots_at-next.ensures)
+          ∙ ap₂ (λ (x y : ℕ). ltb (x * a.interval) y) p.slots_at-own.ensures p.slots_at-next.ensures)
           ∙ sym (lowest_next u.loop-i.i (λ k. ltb (at a.cost.now k * a.interval) (at a.period.now k))),
     )
 
 returns : tie.Need-returns invariant-loop decreases-loop
 returns c =
-    let e : c.before.loop-i.i ≡ c.before.before.args.rows = omega arith in
-    (rw e at c.before.loop-i.invariant.1, rw e at c.before.loop-i.invariant.3)
+    let e : c.loop-i.i ≡ c.args.rows = omega arith in
+    (rw e at c.loop-i.invariant.1, rw e at c.loop-i.invariant.3)
 
 pub put_rates_spec : {M : Type 1} → statement M
 put_rates_spec =

@@ -25,7 +25,7 @@ decreases-loop rows top first second rate hyper interval joining leaving found�
 
 rates-at-requires : tie.Need-rates_at-requires invariant-loop decreases-loop
 rates-at-requires c κs =
-    let p = c.before.before.requires in
+    let p = c.requires in
     let O = p.0 in
     (p.1, λ i l. (omega (arith, O.line i l, O.within i l, O.short), omega (arith, O.within i l, O.short)), refl, refl)
 
@@ -35,28 +35,28 @@ loop-holds c = (omega arith, passing_start)
 abbrev entry : tie.In-loop-e invariant-loop decreases-loop → tie.Start invariant-loop decreases-loop
 entry c = c.before.before.before.before.before
 
-on_line : (c : tie.In-loop-e invariant-loop decreases-loop) → c.before.loop-e.e < line_size
+on_line : (c : tie.In-loop-e invariant-loop decreases-loop) → c.loop-e.e < line_size
 on_line c = omega (arith, (entry c).requires.0.short)
 
 -- the sums by first ends, and by second ends
 abbrev joining : tie.In-loop-e invariant-loop decreases-loop → List ℕ
-joining c = c.before.before.rates_at.new.joining
+joining c = c.rates_at.new.joining
 
 abbrev leaving : tie.In-loop-e invariant-loop decreases-loop → List ℕ
-leaving c = c.before.before.rates_at.new.leaving
+leaving c = c.rates_at.new.leaving
 
 joins : (c : tie.In-loop-e invariant-loop decreases-loop)
     → let a = (entry c).args in SumsAt a.rows (at a.first.now) (at a.rate.now) (joining c)
-joins c = c.before.before.rates_at.ensures.0
+joins c = c.rates_at.ensures.0
 
 leaves : (c : tie.In-loop-e invariant-loop decreases-loop)
     → let a = (entry c).args in SumsAt a.rows (at a.second.now) (at a.rate.now) (leaving c)
-leaves c = c.before.before.rates_at.ensures.1
+leaves c = c.rates_at.ensures.1
 
 -- rows end at e, or none does
 ends : (c : tie.In-loop-e invariant-loop decreases-loop)
     → let a = (entry c).args in
-    let e = c.before.loop-e.e in
+    let e = c.loop-e.e in
     not (eqb (at (leaving c) e) 0) ≡ ends_at a.rows (at a.second.now) e
 ends c = sums_there (leaves c) (entry c).requires.1.some _ (on_line c)
 
@@ -87,7 +87,7 @@ weigh-set-requires : tie.Need-weigh_set-found-requires invariant-loop decreases-
 weigh-set-requires c κs =
     let d = c.before in
     let z = (entry d).requires in
-    let P = d.before.loop-e.invariant.1 in (
+    let P = d.loop-e.invariant.1 in (
       λ q. omega (arith, passing_room z.0 z.1 P _ (ends d) (sym c.closes.ensures ∙ q), z.1.few),
       passing_small z.0 z.1 P,
       z.2,
@@ -102,13 +102,13 @@ sub-load : tie.Need-overflow_sub-load invariant-loop decreases-loop
 sub-load c =
     let d = c.before.before.before in
     let z = (entry d).requires in
-    omega (arith, (passing_load z.0 z.1 d.before.loop-e.invariant.1 (joins d) (leaves d) (on_line d)).0)
+    omega (arith, (passing_load z.0 z.1 d.loop-e.invariant.1 (joins d) (leaves d) (on_line d)).0)
 
 add-load : tie.Need-overflow_add-load invariant-loop decreases-loop
 add-load c =
     let d = c.before.before.before in
     let z = (entry d).requires in
-    let P = d.before.loop-e.invariant.1 in
+    let P = d.loop-e.invariant.1 in
     omega (
       arith,
       (passing_load z.0 z.1 P (joins d) (leaves d) (on_line d)).0,
@@ -123,11 +123,11 @@ loop-less c = omega arith
 
 loop-again : tie.Need-loop-e-preserved invariant-loop decreases-loop
 loop-again c =
-    let w = c.before in
-    let k = w.before in
-    let d = k.before in
+    let w = c in
+    let k = w in
+    let d = k.before.before.before in
     let z = (entry d).requires in
-    let P = d.before.loop-e.invariant.1 in
+    let P = d.loop-e.invariant.1 in
     let v = w.weigh_set-found.ensures in (
       omega arith,
       rw (v.0, v.1, v.2, k.closes.ensures, c.goes_on-started.ensures)
@@ -138,8 +138,8 @@ loop-again c =
 
 returns : tie.Need-returns invariant-loop decreases-loop
 returns c =
-    let z = c.before.before.before.before.before.requires in
-    passing_end z.0 z.1 c.before.loop-e.invariant.1 (omega arith)
+    let z = c.requires in
+    passing_end z.0 z.1 c.loop-e.invariant.1 (omega arith)
 
 pub weigh_line_spec : {M : Type 1} → statement M
 weigh_line_spec =

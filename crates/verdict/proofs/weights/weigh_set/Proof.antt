@@ -7,23 +7,23 @@ use Rattle.verdict.proofs.weights.weigh_set.Statement.{statement}
 use Rattle.verdict.proofs.weights.weigh_set.Tie as tie
 
 add-sets : tie.Need-overflow_add-sets
-add-sets c = omega (arith, c.before.before.requires.0 c.before.if-closes.true)
+add-sets c = omega (arith, c.requires.0 c.if-closes.true)
 
 is-over-requires : tie.Need-is_over-passes-requires
 is-over-requires c κs = search rules
 
 lowest-next-requires : tie.Need-lowest_next-requires
-lowest-next-requires c κs = c.before.before.before.requires.0 c.before.before.if-closes.true
+lowest-next-requires c κs = c.requires.0 c.if-closes.true
 
 larger-requires : tie.Need-larger-requires
 larger-requires c κs = search rules
 
 returns : tie.Need-returns-then-closes
 returns c =
-    let t = c.before.before.before.before in
-    let z = t.before.args.found in
+    let t = c in
+    let z = t.args.found in
     rw t.if-closes.true
-    (refl, c.before.lowest_next.ensures ∙ ap (next_lowest z.over z.sets) c.before.before.is_over-passes.ensures, c.larger.ensures)
+    (refl, c.lowest_next.ensures ∙ ap (next_lowest z.over z.sets) c.is_over-passes.ensures, c.larger.ensures)
 
 returns-2 : tie.Need-returns
 returns-2 c = rw c.if-closes.false (refl, refl, refl)
