@@ -20,10 +20,10 @@ const LONGEST: usize = Head::BYTES + Head::ENTRY_BYTES * (Head::ENTRIES + 1);
 
 const NUMBERS: usize = Head::ENTRY_NUMBERS * (Head::ENTRIES + 1);
 
-fn print_list(answer: Answer, hyper: usize, entries: usize) {
-    print_answer(answer);
-    print_number(hyper as u64);
-    print_number(entries as u64);
+fn print_list(rt: &impl Print, answer: Answer, hyper: usize, entries: usize) {
+    print_answer(rt, answer);
+    print_number(rt, hyper as u64);
+    print_number(rt, entries as u64);
 }
 
 // ---- the reader
@@ -54,7 +54,7 @@ fn fill(entries: usize, place: usize, row: u64, out: &mut [u8])
     }
 }
 
-pub(crate) fn full_case(given: &[u64]) {
+pub(crate) fn full_case(rt: &impl Print, given: &[u64]) {
     let mut file = [0u8; LONGEST];
     lists::put_head(1, (number_at(given, 0) % 65536) as u16, &mut file);
     let entries = room(given, 1, Head::ENTRIES + 1);
@@ -67,15 +67,15 @@ pub(crate) fn full_case(given: &[u64]) {
     let mut numbers = [0u16; NUMBERS];
     let size = Head::BYTES + Head::ENTRY_BYTES * entries;
     let r = lists::read(&file[..size], &mut numbers);
-    print_list(r.answer, r.head.hyper, r.head.entries);
+    print_list(rt, r.answer, r.head.hyper, r.head.entries);
 }
 
 // ---- the maker
 
-fn make(file: &[u8], plan: &[u64], element: u64, out: &mut [u16]) {
+fn make(rt: &impl Print, file: &[u8], plan: &[u64], element: u64, out: &mut [u16]) {
     let made = maker::make(file, plan, element, out);
-    print_list(made.answer, made.hyper, made.entries);
-    print_numbers(out);
+    print_list(rt, made.answer, made.hyper, made.entries);
+    print_numbers(rt, out);
 }
 
 // Three numbers and the plan's words; more than there are where the words are more.
@@ -87,11 +87,11 @@ pub(crate) fn before_table(given: &[u64]) -> usize {
     3 + words
 }
 
-pub(crate) fn make_case(file: &[u8], given: &[u64]) {
+pub(crate) fn make_case(rt: &impl Print, file: &[u8], given: &[u64]) {
     if given.len() < 3 {
         return;
     }
     let mut out = [KEPT as u16; MOST];
     let size = room(given, 1, MOST);
-    make(file, &given[3..], number_at(given, 0), &mut out[..size]);
+    make(rt, file, &given[3..], number_at(given, 0), &mut out[..size]);
 }
