@@ -33,11 +33,11 @@ table_with cost elements rows rings period first second way = record {
 pub record Lies (t : Table) (l : Layout) : Type 0 where
   pub timed : Timed t l.time
   pub clear : line.HasCuts t
-  pub cut : l.cut ≡ line.boardCut t clockwise
-  pub other : l.other ≡ line.boardCut t counterclockwise
-  pub top : l.top ≡ line.lineTop t
-  pub first : ByRow t.rows (line.lineFirst t) l.line.first
-  pub second : ByRow t.rows (line.lineSecond t) l.line.second
+  pub cut : l.cut ≡ line.board_cut t clockwise
+  pub other : l.other ≡ line.board_cut t counterclockwise
+  pub top : l.top ≡ line.line_top t
+  pub first : ByRow t.rows (line.line_first t) l.line.first
+  pub second : ByRow t.rows (line.line_second t) l.line.second
 
 abbrev pub no_layout : Answer → Layout
 no_layout answer = record {

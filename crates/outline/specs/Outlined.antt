@@ -23,11 +23,11 @@ pub record Found (t : Table) (o : Outline) : Type 0 where
   pub clear : line.HasCuts t
   pub elements : o.elements ≡ t.elements
   pub rows : o.rows ≡ t.rows
-  pub cut : o.cut ≡ line.boardCut t clockwise
-  pub other : o.other ≡ line.boardCut t counterclockwise
-  pub top : o.top ≡ line.lineTop t
-  pub first : ByRow t.rows (line.lineFirst t) o.first
-  pub second : ByRow t.rows (line.lineSecond t) o.second
+  pub cut : o.cut ≡ line.board_cut t clockwise
+  pub other : o.other ≡ line.board_cut t counterclockwise
+  pub top : o.top ≡ line.line_top t
+  pub first : ByRow t.rows (line.line_first t) o.first
+  pub second : ByRow t.rows (line.line_second t) o.second
   pub few : o.sets ≤ t.rows
   pub list : line.Sets t (take o.sets o.words)
   pub size : length o.words ≡ max_rows
