@@ -15,8 +15,8 @@ refused-requires c κs = search rules
 
 returns : tie.Need-returns-then-answer-ne-DONE
 returns c =
-    let d = c.before.before.before.before in
-    rw c.refused.ensures (decodes_refused d.decode_into-head.ensures c.before.if-answer-ne-DONE.true)
+    let d = c in
+    rw c.refused.ensures (decodes_refused d.decode_into-head.ensures c.if-answer-ne-DONE.true)
 
 labels-of-requires : tie.Need-labels_of-requires
 labels-of-requires c κs =

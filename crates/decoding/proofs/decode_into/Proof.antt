@@ -23,14 +23,14 @@ bytes e = (entry e).args.file.now
 
 -- the header has passed
 none : (e : tie.Else-number-ne-DONE) → None (header_checks (bytes e))
-none e = none_of _ 0 (header_numbered _) (rw e.if-number-ne-DONE.false at e.before.header_fault-number.ensures)
+none e = none_of _ 0 (header_numbered _) (rw e.if-number-ne-DONE.false at e.header_fault-number.ensures)
 
 whole : (e : tie.Else-number-ne-DONE) → Whole (bytes e)
 whole e = header_whole (bytes e) (none e)
 
 -- the way back from the rows to the directions, and on to the header's checks
 abbrev turned : tie.After-put_rows-answer → tie.After-put_ways
-turned p = p.before.before.before.before.before.before
+turned p = p.before.before.before.before.before
 
 abbrev asked : tie.After-put_rows-answer → tie.Else-number-ne-DONE
 asked p = (turned p).before.before
@@ -41,18 +41,18 @@ passed o = o.before.before.before
 -- what is written
 abbrev columns : tie.After-rings_of → Columns
 columns r =
-    let of = r.before.of-table.result in
+    let of = r.of-table.result in
     let p = passed r.before in
-    let xs = p.put_rows-answer.last in
+    let xs = p.put_rows-answer.new in
     record {
       elements = of.elements;
       rows = of.rows;
       rings = r.rings_of.result;
-      cost = xs.1.0;
-      period = xs.1.1.0;
-      first = xs.1.1.1.0;
-      second = xs.1.1.1.1.0;
-      way = (turned p).put_ways.last.1.0;
+      cost = xs.cost;
+      period = xs.period;
+      first = xs.first;
+      second = xs.second;
+      way = (turned p).put_ways.new.way;
     }
 
 held : (r : tie.After-rings_of) → Holds (file_table (bytes (asked (passed r.before)))) (columns r)
@@ -63,7 +63,7 @@ held r =
     let k = columns r in
     decoding_end k (whole (asked p)) of.elements of.rows r.rings_of.ensures
     (subst (λ (n : ℕ). Decoding (file_table (bytes (asked p))) n k.cost k.period k.first k.second) (sym of.rows)
-    (p.put_rows-answer.ensures.1 o.before.if-answer-ne-DONE.false))
+    (p.put_rows-answer.ensures.1 o.if-answer-ne-DONE.false))
     (turned p).put_ways.ensures
 
 header-fault-requires : tie.Need-header_fault-number-requires
@@ -78,8 +78,8 @@ refused-requires c κs = search rules
 returns : tie.Need-returns-then-number-ne-DONE
 returns c =
     rw c.refused.ensures
-    (into_header _ _ c.before.before.before.header_fault-number.ensures c.before.before.if-number-ne-DONE.true c.before.at.ensures.0
-    c.before.at.ensures.1)
+    (into_header _ _ c.header_fault-number.ensures c.if-number-ne-DONE.true c.at.ensures.0
+    c.at.ensures.1)
 
 put-ways-requires : tie.Need-put_ways-requires
 put-ways-requires c κs =
@@ -88,8 +88,8 @@ put-ways-requires c κs =
 
 put-rows-requires : tie.Need-put_rows-answer-requires
 put-rows-requires c κs =
-    let w = c.before.before.before.before.before in
-    let e = w.before.before in
+    let w = c in
+    let e = w.before.before.before.before.before.before in
     let b = (entry e).requires in
     (whole e, rw (b.costs, b.periods, b.firsts, b.seconds) (decoding_start _), w.put_ways.ensures)
 
@@ -99,7 +99,7 @@ refused-requires-2 c κs = search rules
 returns-2 : tie.Need-returns-then-answer-ne-DONE
 returns-2 c =
     let p = c.before.before.before in
-    rw c.refused-then-answer-ne-DONE.ensures (into_row _ _ (none (asked p)) p.put_rows-answer.ensures.0 c.before.if-answer-ne-DONE.true)
+    rw c.refused-then-answer-ne-DONE.ensures (into_row _ _ (none (asked p)) p.put_rows-answer.ensures.0 c.if-answer-ne-DONE.true)
 
 of-requires : tie.Need-of-table-requires
 of-requires c κs = omega (arith, (whole (asked c.before.before)).size)
@@ -111,7 +111,7 @@ returns-3 : tie.Need-returns
 returns-3 c =
     let o = c.before in
     let p = passed o in
-    into_all _ _ (none (asked p)) p.put_rows-answer.ensures.0 o.before.if-answer-ne-DONE.false (held c)
+    into_all _ _ (none (asked p)) p.put_rows-answer.ensures.0 o.if-answer-ne-DONE.false (held c)
 
 pub decode_into_spec : {M : Type 1} → statement M
 decode_into_spec =

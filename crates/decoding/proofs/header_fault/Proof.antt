@@ -1,10 +1,8 @@
 -- `decoding::header_fault` meets its contract.
 use mathlib.Core.Path.{refl}
-use mathlib.Core.List.{List}
-use Prim.Native.Nat.{ℕ}
 use native.Mathlib.Omega.{arith}
-use Rattle.rules.specs.TableFile.{mark, version, file_rings}
-use Rattle.rules.specs.Refusals.{unknown_mark, wrong_version, header_checks}
+use Rattle.rules.specs.TableFile.{mark}
+use Rattle.rules.specs.Refusals.{unknown_mark, header_checks}
 use Rattle.rules.proofs.Answers.{applied, passed}
 use Rattle.table.proofs.Faults.{header_rest}
 use borrow.Author.Rules.{rules}
@@ -22,7 +20,7 @@ returns-2 : tie.Need-returns-then-is_strange
 unfolding header_checks
 returns-2 c =
     passed _ _ 2 0 (λ l. let z : ⊥ = omega arith in z)
-    (applied _ _ 2 0 (c.before.is_strange.ensures.holds c.if-is_strange.true) refl refl)
+    (applied _ _ 2 0 (c.is_strange.ensures.holds c.if-is_strange.true) refl refl)
 
 rings-of-requires : tie.Need-rings_of-rings-requires
 rings-of-requires c κs = search rules
@@ -34,16 +32,16 @@ is-unknown-requires : tie.Need-is_unknown-requires
 is-unknown-requires c κs = search rules
 
 -- the mark is one of the two
-known_mark : (z : tie.Else-is_strange) → (unknown_mark (mark z.before.before.before.before.args.file.now)).applies → ⊥
-known_mark z = z.before.is_strange.ensures.fails z.if-is_strange.false
+known_mark : (z : tie.Else-is_strange) → (unknown_mark (mark z.args.file.now)).applies → ⊥
+known_mark z = z.is_strange.ensures.fails z.if-is_strange.false
 
 returns-3 : tie.Need-returns-then-is_unknown
 unfolding header_checks
 returns-3 c =
-    let v = c.before.before in
+    let v = c in
     passed _ _ 3 0 (λ l. let z : ⊥ = omega arith in z)
-    (passed _ _ 3 0 (known_mark v.before.before)
-    (applied _ _ 3 0 (rw (v.before.rings_of-rings.ensures, v.version_of-version.ensures) at (c.before.is_unknown.ensures.holds c.if-is_unknown.true))
+    (passed _ _ 3 0 (known_mark v.before.before.before.before)
+    (applied _ _ 3 0 (rw (v.rings_of-rings.ensures, v.version_of-version.ensures) at (c.is_unknown.ensures.holds c.if-is_unknown.true))
     refl refl))
 
 of-requires : tie.Need-of-table-requires
@@ -57,14 +55,14 @@ size-fault-requires c κs = (omega arith, c.row_bytes.ensures.1)
 
 returns-4 : tie.Need-returns
 returns-4 c =
-    let o = c.before.before.of-table.ensures in
-    let y = c.before.before.before in
-    let u = y.before in
-    let v = u.before.version_of-version.ensures in
-    let r = u.before.before.rings_of-rings.ensures in
-    let z = u.before.before.before in
-    header_rest _ _ z.before.before.if-file-lt-HEADER.false (known_mark z) (rw (r, v) at (u.is_unknown.ensures.fails y.if-is_unknown.false))
-    (rw (c.before.row_bytes.ensures.0, r, v, o.elements, o.rows) at c.size_fault.ensures)
+    let o = c.of-table.ensures in
+    let y = c in
+    let u = y in
+    let v = u.version_of-version.ensures in
+    let r = u.rings_of-rings.ensures in
+    let z = u.before.before.before.before.before.before.before in
+    header_rest _ _ z.if-file-lt-HEADER.false (known_mark z) (rw (r, v) at (u.is_unknown.ensures.fails y.if-is_unknown.false))
+    (rw (c.row_bytes.ensures.0, r, v, o.elements, o.rows) at c.size_fault.ensures)
 
 pub header_fault_spec : {M : Type 1} → statement M
 header_fault_spec =

@@ -21,16 +21,16 @@ rings-of-requires : tie.Need-rings_of-requires invariant-loop decreases-loop
 rings-of-requires c κs = omega arith
 
 returns : tie.Need-returns-then-rings_of-eq-RINGS invariant-loop decreases-loop
-returns c = labels_none_way c.before.before.before.args.file.now (rw c.before.rings_of.ensures at c.if-rings_of-eq-RINGS.true)
+returns c = labels_none_way c.args.file.now (rw c.rings_of.ensures at c.if-rings_of-eq-RINGS.true)
 
 version-of-requires : tie.Need-version_of-requires invariant-loop decreases-loop
 version-of-requires c κs = omega arith
 
 returns-2 : tie.Need-returns-then-version_of-ne-VERSION_2 invariant-loop decreases-loop
 returns-2 c =
-    let y = c.before.before in
-    labels_none y.before.before.before.args.file.now (rw y.before.rings_of.ensures at y.if-rings_of-eq-RINGS.false)
-    (rw c.before.version_of.ensures at c.if-version_of-ne-VERSION_2.true)
+    let y = c in
+    labels_none y.args.file.now (rw y.rings_of.ensures at y.if-rings_of-eq-RINGS.false)
+    (rw c.version_of.ensures at c.if-version_of-ne-VERSION_2.true)
 
 of-requires : tie.Need-of-rows-requires invariant-loop decreases-loop
 of-requires c κs = omega arith
@@ -39,19 +39,19 @@ loop-holds : tie.Need-loop-i-init invariant-loop decreases-loop
 loop-holds c = (omega arith, by_row_start _)
 
 row-in-requires : tie.Need-row_in-requires invariant-loop decreases-loop
-row-in-requires c κs = (c.before.before.before.before.before.before.before.before.requires, omega arith)
+row-in-requires c κs = (c.requires, omega arith)
 
 add-read16 : tie.Need-overflow_add-row_in invariant-loop decreases-loop
 add-read16 c = omega arith
 
 read16-requires : tie.Need-read16-requires invariant-loop decreases-loop
 read16-requires c κs =
-    let e = c.before.before.before.before in
-    let y = e.before.before in
+    let e = c in
+    let y = e in
     omega (
       arith,
-      last_label (version y.before.before.before.args.file.now) (rw y.before.rings_of.ensures at y.if-rings_of-eq-RINGS.false),
-      label_two (sym e.before.version_of.ensures ∙ e.if-version_of-ne-VERSION_2.false),
+      last_label (version y.args.file.now) (rw y.rings_of.ensures at y.if-rings_of-eq-RINGS.false),
+      label_two (sym e.version_of.ensures ∙ e.if-version_of-ne-VERSION_2.false),
     )
 
 mul-labels : tie.Need-offset_bounds-labels-i invariant-loop decreases-loop
@@ -68,24 +68,24 @@ loop-less c = omega arith
 
 loop-again : tie.Need-loop-i-preserved invariant-loop decreases-loop
 loop-again c =
-    let e = c.before.before.before.before.before in
-    let y = e.before.before in
-    let f = y.before.before.before.args.file.now in
-    let one = rw y.before.rings_of.ensures at y.if-rings_of-eq-RINGS.false in
-    let two = sym e.before.version_of.ensures ∙ e.if-version_of-ne-VERSION_2.false in
-    let u = c.before.before.before.loop-i in (
+    let e = c in
+    let y = e in
+    let f = y.args.file.now in
+    let one = rw y.rings_of.ensures at y.if-rings_of-eq-RINGS.false in
+    let two = sym e.version_of.ensures ∙ e.if-version_of-ne-VERSION_2.false in
+    let u = c.loop-i in (
       omega arith,
       by_row_put _ u.invariant.1 (omega arith)
-          (c.read16.ensures ∙ ap (λ (k : ℕ). read16 f (k + 6)) c.before.row_in.ensures.0 ∙ sym (label_at f u.i one two)),
+          (c.read16.ensures ∙ ap (λ (k : ℕ). read16 f (k + 6)) c.row_in.ensures.0 ∙ sym (label_at f u.i one two)),
     )
 
 returns-3 : tie.Need-returns invariant-loop decreases-loop
 returns-3 c =
-    let of = c.before.before.of in
-    let e : c.before.loop-i.i ≡ of.result.rows = omega arith in
-    let z = c.before.before.before.before.before.before.before.before in
+    let of = c.of-rows in
+    let e : c.loop-i.i ≡ of.result.rows = omega arith in
+    let z = c in
     last_end z.args.file.now z.requires (label_in (file_rings z.args.file.now)) (labelless (file_rings z.args.file.now))
-    of.ensures.rows (rw e at c.before.loop-i.invariant.1)
+    of.ensures.rows (rw e at c.loop-i.invariant.1)
 
 pub labels_of_spec : {M : Type 1} → statement M
 labels_of_spec =

@@ -49,9 +49,9 @@ place : (p : tie.After-row_place-at invariant-loop decreases-loop)
     p.row_place-at.result ≡ header_size + row_size (file_rings (bytes u)) (version (bytes u)) * u.loop-i.i)
 place p =
     let u = head p.before in
-    let v = u.before in
+    let v = u in
     p.row_place-at.ensures
-    ∙ ap₂ (λ (r n : ℕ). header_size + row_size r n * u.loop-i.i) v.before.rings_of-rings.ensures v.version_of-version.ensures
+    ∙ ap₂ (λ (r n : ℕ). header_size + row_size r n * u.loop-i.i) v.rings_of-rings.ensures v.version_of-version.ensures
 
 inside : (p : tie.After-row_place-at invariant-loop decreases-loop)
     → (let f = bytes (head p.before) in
@@ -68,19 +68,19 @@ is_row : (r : tie.After-row_from-row invariant-loop decreases-loop)
 is_row r =
     let p = r.before.before in
     let u = head p.before in
-    stands_row r.row_from-row.ensures (place p) (r.before.way_at.ensures ∙ ways u u.loop-i.i)
+    stands_row r.row_from-row.ensures (place p) (r.way_at.ensures ∙ ways u u.loop-i.i)
 
 of-requires : tie.Need-of-table-requires invariant-loop decreases-loop
-of-requires c κs = omega (arith, c.before.requires.0.size)
+of-requires c κs = omega (arith, c.requires.0.size)
 
 rings-of-requires : tie.Need-rings_of-rings-requires invariant-loop decreases-loop
-rings-of-requires c κs = omega (arith, c.before.before.requires.0.size)
+rings-of-requires c κs = omega (arith, c.requires.0.size)
 
 version-of-requires : tie.Need-version_of-version-requires invariant-loop decreases-loop
-version-of-requires c κs = omega (arith, c.before.before.before.requires.0.size)
+version-of-requires c κs = omega (arith, c.requires.0.size)
 
 loop-holds : tie.Need-loop-i-init invariant-loop decreases-loop
-loop-holds c = (checked_start _, c.before.before.before.before.requires.1)
+loop-holds c = (checked_start _, c.requires.1)
 
 row-place-requires : tie.Need-row_place-at-requires invariant-loop decreases-loop
 row-place-requires c κs = omega (arith, few c)
@@ -90,7 +90,7 @@ way-at-requires c κs =
     let u = head c.before in
     let i = u.loop-i.i in (
       few c.before,
-      λ r. ways u i ∙ file_one_way (bytes u) (rw u.before.before.rings_of-rings.ensures at r) i (row c.before),
+      λ r. ways u i ∙ file_one_way (bytes u) (rw u.rings_of-rings.ensures at r) i (row c.before),
     )
 
 row-from-requires : tie.Need-row_from-row-requires invariant-loop decreases-loop
@@ -104,15 +104,15 @@ at-requires c κs = omega (arith, few c.before.before.before.before.before)
 
 returns : tie.Need-returns-then-number-ne-DONE invariant-loop decreases-loop
 returns c =
-    let n = c.before.before in
-    let r = n.before in
+    let n = c in
+    let r = n.before.before.before in
     let t = r.before.before.before in
     let u = head t in
     let a = c.at.ensures in (
       rw (a.0, a.1)
-          (checked_stop _ _ _ (sym (sizes u).of-table.ensures.elements) (sym u.before.before.rings_of-rings.ensures) (is_row r)
-          n.row_fault-number.ensures u.loop-i.invariant.0 (row t) c.before.if-number-ne-DONE.true),
-      λ z. absurd (c.before.if-number-ne-DONE.true (sym a.0 ∙ z)),
+          (checked_stop _ _ _ (sym (sizes u).of-table.ensures.elements) (sym u.rings_of-rings.ensures) (is_row r)
+          n.row_fault-number.ensures u.loop-i.invariant.0 (row t) c.if-number-ne-DONE.true),
+      λ z. absurd (c.if-number-ne-DONE.true (sym a.0 ∙ z)),
     )
 
 -- past the checks of a row
@@ -123,49 +123,49 @@ mul-cost : tie.Need-offset_bounds-cost-i invariant-loop decreases-loop
 mul-cost c = omega (arith, few (checked c))
 
 element-write-cost : tie.Need-bounds-cost-i invariant-loop decreases-loop
-element-write-cost c = let t = checked c in omega (arith, few t, (head t).loop-i.invariant.1.costs.size)
+element-write-cost c = let t = checked c.before in omega (arith, few t, (head t).loop-i.invariant.1.costs.size)
 
 mul-period : tie.Need-offset_bounds-period-i invariant-loop decreases-loop
-mul-period c = omega (arith, few (checked c))
+mul-period c = omega (arith, few (checked c.before))
 
 element-write-period : tie.Need-bounds-period-i invariant-loop decreases-loop
-element-write-period c = let t = checked c in omega (arith, few t, (head t).loop-i.invariant.1.periods.size)
+element-write-period c = let t = checked c.before.before in omega (arith, few t, (head t).loop-i.invariant.1.periods.size)
 
 add-first : tie.Need-overflow_add-first invariant-loop decreases-loop
-add-first c = omega (arith, inside c.before.before.before.before)
+add-first c = omega (arith, inside c.before.before.before.before.before.before)
 
 shared-slice-read-first : tie.Need-bounds-file-at invariant-loop decreases-loop
-shared-slice-read-first c = omega (arith, inside c.before.before.before.before.before)
+shared-slice-read-first c = omega (arith, inside c.before.before.before.before.before.before.before)
 
 element-write-first : tie.Need-bounds-first-i invariant-loop decreases-loop
-element-write-first c = let t = checked c.before in omega (arith, few t, (head t).loop-i.invariant.1.firsts.size)
+element-write-first c = let t = checked c.before.before.before.before in omega (arith, few t, (head t).loop-i.invariant.1.firsts.size)
 
 add-second : tie.Need-overflow_add-second invariant-loop decreases-loop
-add-second c = omega (arith, inside c.before.before.before.before.before)
+add-second c = omega (arith, inside c.before.before.before.before.before.before.before.before)
 
 shared-slice-read-second : tie.Need-bounds-file-at-in-loop-i invariant-loop decreases-loop
-shared-slice-read-second c = omega (arith, inside c.before.before.before.before.before.before)
+shared-slice-read-second c = omega (arith, inside c.before.before.before.before.before.before.before.before.before)
 
 element-write-second : tie.Need-bounds-second-i invariant-loop decreases-loop
-element-write-second c = let t = checked c.before.before in omega (arith, few t, (head t).loop-i.invariant.1.seconds.size)
+element-write-second c = let t = checked c.before.before.before.before.before.before in omega (arith, few t, (head t).loop-i.invariant.1.seconds.size)
 
 add-i : tie.Need-overflow_add-i invariant-loop decreases-loop
-add-i c = omega (arith, few (checked c.before.before))
+add-i c = omega (arith, few (checked c.before.before.before.before.before.before))
 
 loop-less : tie.Need-loop-i-smaller invariant-loop decreases-loop
-loop-less c = omega (arith, (checked c.before.before).loop-i-test.true)
+loop-less c = omega (arith, (checked c.before.before.before.before.before.before).loop-i-test.true)
 
 loop-again : tie.Need-loop-i-preserved invariant-loop decreases-loop
 loop-again c =
-    let e = c.before.before in
-    let r = e.before.before in
+    let e = c in
+    let r = e.before.before.before.before.before.before.before.before in
     let p = r.before.before in
     let t = p.before in
     let u = head t in
     let f = bytes u in
     let q = is_row r in (
-      checked_next _ _ _ (sym (sizes u).of-table.ensures.elements) (sym u.before.before.rings_of-rings.ensures) q
-          e.before.row_fault-number.ensures u.loop-i.invariant.0 (row t) e.if-number-ne-DONE.false,
+      checked_next _ _ _ (sym (sizes u).of-table.ensures.elements) (sym u.rings_of-rings.ensures) q
+          e.row_fault-number.ensures u.loop-i.invariant.0 (row t) e.if-number-ne-DONE.false,
       decoding_next u.loop-i.invariant.1 (few t) q.cost q.period (ap (λ (k : ℕ). at f (k + 4)) (place p))
           (ap (λ (k : ℕ). at f (k + 5)) (place p)),
     )
@@ -177,7 +177,7 @@ returns-2 : tie.Need-returns invariant-loop decreases-loop
 returns-2 c =
     let u = c.before.before.before in
     let d = c.done.ensures in
-    let l : (file_table (bytes u)).rows ≤ u.loop-i.i = omega (arith, c.before.loop-i-test.false, (sizes u).of-table.ensures.rows) in
+    let l : (file_table (bytes u)).rows ≤ u.loop-i.i = omega (arith, c.loop-i-test.false, (sizes u).of-table.ensures.rows) in
     let e : u.loop-i.i ≡ (file_table (bytes u)).rows = omega (arith, l, u.loop-i.invariant.0.there) in
     (rw (d.0, d.1) (checked_end u.loop-i.invariant.0 l), λ z. rw e at u.loop-i.invariant.1)
 

@@ -22,28 +22,28 @@ rings-of-requires c κs = omega arith
 
 returns : tie.Need-returns-then-rings_of-ne-RINGS invariant-loop decreases-loop
 returns c =
-    let z = c.before.before.before in
-    rw z.requires.1 (ways_none z.args.file.now (rw c.before.rings_of.ensures at c.if-rings_of-ne-RINGS.true))
+    let z = c in
+    rw z.requires.1 (ways_none z.args.file.now (rw c.rings_of.ensures at c.if-rings_of-ne-RINGS.true))
 
 of-requires : tie.Need-of-rows-requires invariant-loop decreases-loop
 of-requires c κs = omega arith
 
 loop-holds : tie.Need-loop-i-init invariant-loop decreases-loop
-loop-holds c = (omega arith, rw c.before.before.before.before.requires.1 (by_row_start _))
+loop-holds c = (omega arith, rw c.requires.1 (by_row_start _))
 
 row-in-requires : tie.Need-row_in-requires invariant-loop decreases-loop
-row-in-requires c κs = (c.before.before.before.before.before.before.requires.0, omega arith)
+row-in-requires c κs = (c.requires.0, omega arith)
 
 add-way : tie.Need-overflow_add-way invariant-loop decreases-loop
 add-way c = omega arith
 
 shared-slice-read-way : tie.Need-bounds-file-row_in invariant-loop decreases-loop
 shared-slice-read-way c =
-    let e = c.before.before.before.before.before in
-    omega (arith, last_way (version e.before.before.before.args.file.now) (sym e.before.rings_of.ensures ∙ e.if-rings_of-ne-RINGS.false))
+    let e = c in
+    omega (arith, last_way (version e.args.file.now) (sym e.rings_of.ensures ∙ e.if-rings_of-ne-RINGS.false))
 
 element-write-way : tie.Need-bounds-way-i invariant-loop decreases-loop
-element-write-way c = let u = c.before.before.before in omega (arith, u.loop-i.invariant.1.size)
+element-write-way c = let u = c in omega (arith, u.loop-i.invariant.1.size)
 
 add-i : tie.Need-overflow_add-i invariant-loop decreases-loop
 add-i c = omega arith
@@ -53,22 +53,22 @@ loop-less c = omega arith
 
 loop-again : tie.Need-loop-i-preserved invariant-loop decreases-loop
 loop-again c =
-    let y = c.before.before.before.before.before in
-    let f = y.before.before.before.args.file.now in
-    let two = sym y.before.rings_of.ensures ∙ y.if-rings_of-ne-RINGS.false in
-    let u = c.before.before.before.loop-i in (
+    let y = c in
+    let f = y.args.file.now in
+    let two = sym y.rings_of.ensures ∙ y.if-rings_of-ne-RINGS.false in
+    let u = c.loop-i in (
       omega arith,
       by_row_put _ u.invariant.1 (omega arith)
-          (ap (λ (k : ℕ). at f (k + 6)) c.before.row_in.ensures.0 ∙ sym (way_at f u.i two)),
+          (ap (λ (k : ℕ). at f (k + 6)) c.row_in.ensures.0 ∙ sym (way_at f u.i two)),
     )
 
 returns-2 : tie.Need-returns invariant-loop decreases-loop
 returns-2 c =
-    let of = c.before.before.of in
-    let z = c.before.before.before.before.before.before in
-    let e : c.before.loop-i.i ≡ of.result.rows = omega arith in
+    let of = c.of-rows in
+    let z = c in
+    let e : c.loop-i.i ≡ of.result.rows = omega arith in
     last_end z.args.file.now z.requires.0 (way_in (file_rings z.args.file.now)) (wayless (file_rings z.args.file.now))
-    of.ensures.rows (rw e at c.before.loop-i.invariant.1)
+    of.ensures.rows (rw e at c.loop-i.invariant.1)
 
 pub put_ways_spec : {M : Type 1} → statement M
 put_ways_spec =

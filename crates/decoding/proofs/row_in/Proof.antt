@@ -5,18 +5,18 @@ use Rattle.decoding.proofs.row_in.Statement.{statement}
 use Rattle.decoding.proofs.row_in.Tie as tie
 
 rings-of-requires : tie.Need-rings_of-requires
-rings-of-requires c κs = omega (arith, c.before.requires.0.size)
+rings-of-requires c κs = omega (arith, c.requires.0.size)
 
 version-of-requires : tie.Need-version_of-requires
-version-of-requires c κs = omega (arith, c.before.before.requires.0.size)
+version-of-requires c κs = omega (arith, c.requires.0.size)
 
 row-place-requires : tie.Need-row_place-requires
-row-place-requires c κs = omega (arith, c.before.before.before.requires.0.few)
+row-place-requires c κs = omega (arith, c.requires.0.few)
 
 returns : tie.Need-returns
 returns c =
-    let z = c.before.before.before.before in
-    let e = rw (c.before.before.rings_of.ensures, c.before.version_of.ensures) at c.row_place.ensures in
+    let z = c in
+    let e = rw (c.rings_of.ensures, c.version_of.ensures) at c.row_place.ensures in
     (e, omega (arith, e, row_inside z.requires.0 z.requires.1))
 
 pub row_in_spec : {M : Type 1} → statement M
