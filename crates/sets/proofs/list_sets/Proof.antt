@@ -1,6 +1,5 @@
 -- `list_sets` gives the list of overlap sets: its first loop fills in the rows by their ends, its second keeps `Walked`.
 use mathlib.Core.Path.{◌≡◌, refl}
-use mathlib.Core.Logic.{⊎_elim}
 use Prim.Native.Nat.{◌+◌, ◌-◌, ◌≤◌, ◌<◌}
 use native.Mathlib.Omega.{arith}
 use Rattle.numbers.specs.Lists.{at}
@@ -33,6 +32,7 @@ use Rattle.sets.proofs.Loops.{
 }
 use Rattle.sets.proofs.list_sets.Statement.{statement}
 use Rattle.sets.proofs.list_sets.Tie as tie
+use Rattle.sets.proofs.list_sets.Lts.{then-ending-ne0+then-started, then-ending-ne0+else-started, else-ending-ne0, then-starting-ne0, else-starting-ne0}
 
 abbrev invariant-loop : tie.invariant-loop-i
 invariant-loop first second rows top starts₀ ends₀ i₀ starts ends i =
@@ -55,20 +55,20 @@ loop-holds : tie.Need-loop-i-init invariant-loop decreases-loop invariant-loop2 
 loop-holds c = (omega arith, filling_start line_size _, filling_start line_size _)
 
 end-at-requires : tie.Need-end_at-from-requires invariant-loop decreases-loop invariant-loop2 decreases-loop2
-end-at-requires c κs = omega (arith, c.before.before.requires.few)
+end-at-requires c κs = omega (arith, c.requires.few)
 
 end-at-requires-2 : tie.Need-end_at-to-requires invariant-loop decreases-loop invariant-loop2 decreases-loop2
-end-at-requires-2 c κs = omega (arith, c.before.before.before.requires.few)
+end-at-requires-2 c κs = omega (arith, c.requires.few)
 
 -- both ends of row i are on the line
 places : (c : tie.After-end_at-to invariant-loop decreases-loop invariant-loop2 decreases-loop2)
-    → (c.before.end_at-from.result < line_size) × (c.end_at-to.result < line_size)
+    → (c.end_at-from.result < line_size) × (c.end_at-to.result < line_size)
 places c =
     let z = c.before.before.before in
     let i = z.loop-i.i in
-    let O = z.before.requires in
-    let l : i < z.before.args.rows = omega arith in (
-      omega (arith, c.before.end_at-from.ensures, O.line i l, O.within i l, O.short),
+    let O = z.requires in
+    let l : i < z.args.rows = omega arith in (
+      omega (arith, c.end_at-from.ensures, O.line i l, O.within i l, O.short),
       omega (arith, c.end_at-to.ensures, O.within i l, O.short),
     )
 
@@ -76,31 +76,31 @@ mul-starts : tie.Need-offset_bounds-starts-from invariant-loop decreases-loop in
 mul-starts c = omega (arith, places c)
 
 array-read-starts : tie.Need-bounds-starts-from invariant-loop decreases-loop invariant-loop2 decreases-loop2
-array-read-starts c = omega (arith, places c, c.before.before.before.loop-i.invariant.1.size)
+array-read-starts c = omega (arith, places c, c.loop-i.invariant.1.size)
 
 shl-starts : tie.Need-overflow_shl-starts invariant-loop decreases-loop invariant-loop2 decreases-loop2
-shl-starts c = omega (arith, c.before.before.before.before.requires.few)
+shl-starts c = omega (arith, c.requires.few)
 
 mul-starts-2 : tie.Need-offset_bounds-starts-from-in-loop-i invariant-loop decreases-loop invariant-loop2 decreases-loop2
 mul-starts-2 c = omega (arith, places c)
 
 array-write-starts : tie.Need-bounds-starts-from-in-loop-i invariant-loop decreases-loop invariant-loop2 decreases-loop2
-array-write-starts c = omega (arith, places c, c.before.before.before.loop-i.invariant.1.size)
+array-write-starts c = omega (arith, places c, c.loop-i.invariant.1.size)
 
 mul-ends : tie.Need-offset_bounds-ends-to invariant-loop decreases-loop invariant-loop2 decreases-loop2
 mul-ends c = omega (arith, places c)
 
 array-read-ends : tie.Need-bounds-ends-to invariant-loop decreases-loop invariant-loop2 decreases-loop2
-array-read-ends c = omega (arith, places c, c.before.before.before.loop-i.invariant.2.size)
+array-read-ends c = omega (arith, places c, c.loop-i.invariant.2.size)
 
 shl-ends : tie.Need-overflow_shl-ends invariant-loop decreases-loop invariant-loop2 decreases-loop2
-shl-ends c = omega (arith, c.before.before.before.before.requires.few)
+shl-ends c = omega (arith, c.requires.few)
 
 mul-ends-2 : tie.Need-offset_bounds-ends-to-in-loop-i invariant-loop decreases-loop invariant-loop2 decreases-loop2
 mul-ends-2 c = omega (arith, places c)
 
 array-write-ends : tie.Need-bounds-ends-to-in-loop-i invariant-loop decreases-loop invariant-loop2 decreases-loop2
-array-write-ends c = omega (arith, places c, c.before.before.before.loop-i.invariant.2.size)
+array-write-ends c = omega (arith, places c, c.loop-i.invariant.2.size)
 
 add-i : tie.Need-overflow_add-i invariant-loop decreases-loop invariant-loop2 decreases-loop2
 add-i c = omega arith
@@ -111,9 +111,9 @@ loop-less c = omega arith
 loop-again : tie.Need-loop-i-preserved invariant-loop decreases-loop invariant-loop2 decreases-loop2
 loop-again c =
     let z = c.before.before.before in
-    let few = z.before.requires.few in (
+    let few = z.requires.few in (
       omega arith,
-      filling_next _ z.loop-i.invariant.1 (omega (arith, few)) c.before.end_at-from.ensures (places c).0,
+      filling_next _ z.loop-i.invariant.1 (omega (arith, few)) c.end_at-from.ensures (places c).0,
       filling_next _ z.loop-i.invariant.2 (omega (arith, few)) c.end_at-to.ensures (places c).1,
     )
 
@@ -121,46 +121,46 @@ loop-again c =
 
 -- what stands at e, and the walk so far
 at_e : (c : tie.In-loop-e invariant-loop decreases-loop invariant-loop2 decreases-loop2)
-    → let a = c.before.before.before.before.args in
-    let l = c.before.loop-e in
+    → let a = c.args in
+    let l = c.loop-e in
     let f = at a.first.now in
     let s = at a.second.now in Here a.rows f s l.e (ends_at a.rows f l.e) (ends_at a.rows s l.e) l.across
-at_e c = here _ _ _ _ _ c.before.loop-e.invariant.2
+at_e c = here _ _ _ _ _ c.loop-e.invariant.2
 
-on_line : (c : tie.In-loop-e invariant-loop decreases-loop invariant-loop2 decreases-loop2) → c.before.loop-e.e < line_size
-on_line c = omega (arith, c.before.before.before.before.requires.short)
+on_line : (c : tie.In-loop-e invariant-loop decreases-loop invariant-loop2 decreases-loop2) → c.loop-e.e < line_size
+on_line c = omega (arith, c.requires.short)
 
 -- a row ends at e, or none does
 ends : (c : tie.In-loop-e invariant-loop decreases-loop invariant-loop2 decreases-loop2)
-    → let a = c.before.before.before.before.args in
-    RowsAt a.rows (at a.second.now) c.before.before.before.loop-i.ends
-ends c = filling_end (omega arith) c.before.before.before.loop-i.invariant.2
+    → let a = c.args in
+    RowsAt a.rows (at a.second.now) c.loop-i.ends
+ends c = filling_end (omega arith) c.loop-i.invariant.2
 
 starts : (c : tie.In-loop-e invariant-loop decreases-loop invariant-loop2 decreases-loop2)
-    → let a = c.before.before.before.before.args in
-    RowsAt a.rows (at a.first.now) c.before.before.before.loop-i.starts
-starts c = filling_end (omega arith) c.before.before.before.loop-i.invariant.1
+    → let a = c.args in
+    RowsAt a.rows (at a.first.now) c.loop-i.starts
+starts c = filling_end (omega arith) c.loop-i.invariant.1
 
 loop2-holds : tie.Need-loop-e-init invariant-loop decreases-loop invariant-loop2 decreases-loop2
 loop2-holds c = (omega arith, walked_start _ _ _ _, across_start _ _ _)
 
 mul-starting : tie.Need-offset_bounds-starts-e invariant-loop decreases-loop invariant-loop2 decreases-loop2
-mul-starting c = omega (arith, on_line c)
+mul-starting c = omega (arith, c.requires.short)
 
 array-read-starting : tie.Need-bounds-starts-e invariant-loop decreases-loop invariant-loop2 decreases-loop2
-array-read-starting c = omega (arith, on_line c, (starts c).size)
+array-read-starting c = omega (arith, c.requires.short, c.loop-i.invariant.1.size)
 
 mul-ending : tie.Need-offset_bounds-ends-e invariant-loop decreases-loop invariant-loop2 decreases-loop2
-mul-ending c = omega (arith, on_line c)
+mul-ending c = omega (arith, c.requires.short)
 
 array-read-ending : tie.Need-bounds-ends-e invariant-loop decreases-loop invariant-loop2 decreases-loop2
-array-read-ending c = omega (arith, on_line c, (ends c).size)
+array-read-ending c = omega (arith, c.requires.short, c.loop-i.invariant.2.size)
 
 has_room : (c : tie.Then-started invariant-loop decreases-loop invariant-loop2 decreases-loop2)
-    → c.before.before.before.loop-e.count < c.before.before.before.before.before.before.args.rows
+    → c.loop-e.count < c.args.rows
 has_room c =
     let d = c.before.before in
-    walked_room d.before.loop-e.invariant.1 (at_e d) (some_there (ends d) _ (on_line d) c.before.if-ending-ne0.true) c.if-started.true
+    walked_room d.before.loop-e.invariant.1 (at_e d) (some_there (ends d) _ (on_line d) c.if-ending-ne0.true) c.if-started.true
 
 mul_words : tie.Need-offset_bounds-words-count invariant-loop decreases-loop invariant-loop2 decreases-loop2
 mul_words c = omega (arith, has_room c)
@@ -186,22 +186,24 @@ loop2-again c =
     let S = starts d in
     let some = some_there (ends d) _ (on_line d) in
     let ended : Ended _ _ _ _ _ _ _ _ =
-    ⊎_elim
-    (λ w. ended_as w.2 w.3 w.4 (ended_put W H (some w.0.true) w.1.true z.requires.few))
-    (λ v. ⊎_elim
-    (λ w. ended_as w.2 w.3 w.4 (ended_none W H (some w.0.true) w.1.left))
-    (λ w. ended_as w.1 w.2 w.3 (ended_still W H (none_there (ends d) _ (on_line d) w.0.left)))
-    v)
-    c.before.if-ending-ne0.branch in (
+    elim c.if-ending-ne0.branch [
+      | then-ending-ne0+then-started w ↦ ended_as w.words-is w.count-is w.started-is
+          (ended_put W H (some w.if-ending-ne0.true) w.if-started.true z.requires.few)
+      | then-ending-ne0+else-started w ↦ ended_as w.words-is w.count-is w.started-is
+          (ended_none W H (some w.if-ending-ne0.true) w.if-started.false)
+      | else-ending-ne0 w ↦ ended_as w.words-is w.count-is w.started-is
+          (ended_still W H (none_there (ends d) _ (on_line d) w.if-ending-ne0.false))
+    ] in (
       omega arith,
-      ⊎_elim (λ w. walked_starts ended H (some_there S _ (on_line d) w.0.true) w.1)
-          (λ w. walked_on ended H (none_there S _ (on_line d) w.0.left) w.1)
-          c.if-starting-ne0.branch,
+      elim c.if-starting-ne0.branch [
+        | then-starting-ne0 w ↦ walked_starts ended H (some_there S _ (on_line d) w.if-starting-ne0.true) w.started-is
+        | else-starting-ne0 w ↦ walked_on ended H (none_there S _ (on_line d) w.if-starting-ne0.false) w.started-is
+      ],
       across_next z.requires.line S (ends d) _ _ (on_line d) d.before.loop-e.invariant.2,
     )
 
 returns : tie.Need-returns invariant-loop decreases-loop invariant-loop2 decreases-loop2
-returns c = walked_end c.before.before.before.before.requires (omega arith) refl (zeros_at max_rows) c.before.loop-e.invariant.1
+returns c = walked_end c.requires (omega arith) refl (zeros_at max_rows) c.loop-e.invariant.1
 
 pub list_sets_spec : {M : Type 1} → statement M
 list_sets_spec =

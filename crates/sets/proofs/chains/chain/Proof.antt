@@ -25,11 +25,11 @@ end-at-requires c κs = omega arith
 
 -- the row's first end has a head
 low : (c : tie.After-end_at-element invariant-loop decreases-loop)
-    → at c.before.before.before.args.first.now (c.before.before.loop-i.i - 1) < all_heads
-low c = c.before.before.before.requires.1 (c.before.before.loop-i.i - 1) (omega arith)
+    → at c.args.first.now (c.loop-i.i - 1) < all_heads
+low c = c.requires.1 (c.loop-i.i - 1) (omega arith)
 
 element-copy-out-next : tie.Need-bounds-head-element invariant-loop decreases-loop
-element-copy-out-next c = omega (arith, low c)
+element-copy-out-next c = omega (arith, low c.before)
 
 sub-next : tie.Need-overflow_sub-next invariant-loop decreases-loop
 sub-next c = omega arith
@@ -41,7 +41,7 @@ cast-head : tie.Need-overflow_cast-head invariant-loop decreases-loop
 cast-head c = omega arith
 
 element-write-head : tie.Need-bounds-head-element-in-loop-i invariant-loop decreases-loop
-element-write-head c = omega (arith, low c.before)
+element-write-head c = omega (arith, low c.before.before.before)
 
 sub-i : tie.Need-overflow_sub-i-in-loop-i invariant-loop decreases-loop
 sub-i c = omega arith
@@ -50,15 +50,14 @@ loop-less : tie.Need-loop-i-smaller invariant-loop decreases-loop
 loop-less c = omega arith
 
 loop-again : tie.Need-loop-i-preserved invariant-loop decreases-loop
-loop-again c =
-    let d = c.before in (
-      omega arith,
-      chain_more d.before.before.loop-i.invariant.1 (omega arith) (omega arith) (omega arith) d.end_at-element.ensures
-          (omega (arith, low d)),
-    )
+loop-again c = (
+  omega arith,
+  chain_more c.loop-i.invariant.1 (omega arith) (omega arith) (omega arith) c.end_at-element.ensures
+      (omega (arith, low c.before.before.before)),
+)
 
 returns : tie.Need-returns invariant-loop decreases-loop
-returns c = chain_end c.before.loop-i.invariant.1 (omega arith)
+returns c = chain_end c.loop-i.invariant.1 (omega arith)
 
 pub chain_spec : {M : Type 1} → statement M
 chain_spec =
