@@ -26,12 +26,6 @@ returns c =
     let z = c in
     rw (eq-eqb z.args.rings max_rings z.if-rings-eq-RINGS.true) (p.0, omega (arith, p.1))
 
-slice-aggregate-put-line-3 : tie.Need-slice-aggregate-put-line-3
-slice-aggregate-put-line-3 c = search rules
-
-slice-aggregate-put-line-4 : tie.Need-slice-aggregate-put-line-4
-slice-aggregate-put-line-4 c = search rules
-
 put-line-requires-2 : tie.Need-put_line-requires-2
 put-line-requires-2 c κs = search rules
 
@@ -50,12 +44,10 @@ put_heading_spec =
     tie.close
     (tie.spec
     slice-aggregate-put-line
-    slice-aggregate-put-line-2
     put-line-requires
     same_length
     returns
-    slice-aggregate-put-line-3
-    slice-aggregate-put-line-4
+    slice-aggregate-put-line-2
     put-line-requires-2
     same-length-2
     returns-2)

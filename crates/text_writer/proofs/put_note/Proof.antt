@@ -9,9 +9,6 @@ use borrow.Author.Rules.{rules}
 use Rattle.text_writer.proofs.put_note.Statement.{statement}
 use Rattle.text_writer.proofs.put_note.Tie as tie
 
-slice-aggregate-put-bytes : tie.Need-slice-aggregate-put-bytes
-slice-aggregate-put-bytes c = search rules
-
 put-bytes-requires : tie.Need-put_bytes-requires
 put-bytes-requires c κs = search rules
 
@@ -24,9 +21,6 @@ returns c =
     let p = c.put_bytes.ensures in
     let z = c in
     rw (eq-eqb z.args.rings max_rings z.if-rings-eq-RINGS.true) (p, omega (arith, p.after))
-
-slice-aggregate-put-bytes-2 : tie.Need-slice-aggregate-put-bytes-2
-slice-aggregate-put-bytes-2 c = search rules
 
 put-bytes-requires-2 : tie.Need-put_bytes-requires-then-version-eq-VERSION_2
 put-bytes-requires-2 c κs = search rules
@@ -42,9 +36,6 @@ returns-2 c =
     let z = y in
     let a = z.args in
     rw (ne_eqb a.rings max_rings z.if-rings-eq-RINGS.false, eq-eqb a.version version_2 y.if-version-eq-VERSION_2.true) (p, omega (arith, p.after))
-
-slice-aggregate-put-bytes-3 : tie.Need-slice-aggregate-put-bytes-3
-slice-aggregate-put-bytes-3 c = search rules
 
 put-bytes-requires-3 : tie.Need-put_bytes-requires-2
 put-bytes-requires-3 c κs = search rules
@@ -65,15 +56,12 @@ pub put_note_spec : {M : Type 1} → statement M
 put_note_spec =
     tie.close
     (tie.spec
-    slice-aggregate-put-bytes
     put-bytes-requires
     same_length
     returns
-    slice-aggregate-put-bytes-2
     put-bytes-requires-2
     same-length-2
     returns-2
-    slice-aggregate-put-bytes-3
     put-bytes-requires-3
     same-length-3
     returns-3)

@@ -56,12 +56,6 @@ returns c =
     puts_row a.rings a.version a.row (small z) (last_absent a.rings a.version a.row.label e) d.put_decimal-next.ensures.0
     c.put_line.ensures.0
 
-slice-aggregate-put-line-3 : tie.Need-slice-aggregate-put-line-3
-slice-aggregate-put-line-3 c = search rules
-
-slice-aggregate-put-line-4 : tie.Need-slice-aggregate-put-line-4
-slice-aggregate-put-line-4 c = search rules
-
 put-line-requires-2 : tie.Need-put_line-requires-2
 put-line-requires-2 c κs = search rules
 
@@ -91,12 +85,10 @@ put_row_spec =
     put-decimal-requires
     row-bytes-requires
     slice-aggregate-put-line
-    slice-aggregate-put-line-2
     put-line-requires
     same_length
     returns
-    slice-aggregate-put-line-3
-    slice-aggregate-put-line-4
+    slice-aggregate-put-line-2
     put-line-requires-2
     same-length-2
     returns-2)
