@@ -1,5 +1,5 @@
 -- `reader::last_numbers` meets its contract. The loop's invariant: the numbers of the rows before row `i` are there.
-use mathlib.Core.Path.{◌≡◌, ◌∙◌}
+use mathlib.Core.Path.{◌≡◌}
 use Prim.Native.Nat.{◌-◌, ◌≤◌}
 use native.Mathlib.Omega.{arith}
 use Rattle.numbers.specs.Lists.{at}

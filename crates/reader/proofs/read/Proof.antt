@@ -26,10 +26,10 @@ none z = none_of _ _ (file_numbered _) (rw z.if-answer-ne-DONE.false at z.decode
 held : (z : tie.Else-answer-ne-DONE) → Holds (file_table (bytes z)) z.decode-found.result.columns
 held z = z.decode-found.ensures.passed z.if-answer-ne-DONE.false
 
-rows : (z : tie.Else-answer-ne-DONE) → z.decode-found.result.columns-1.rows ≡ (file_table (bytes z)).rows
+rows : (z : tie.Else-answer-ne-DONE) → z.decode-found.result.columns.rows ≡ (file_table (bytes z)).rows
 rows z = ap (λ (t : Table). t.rows) (held z).table
 
-few : (z : tie.Else-answer-ne-DONE) → z.decode-found.result.columns-1.rows ≤ max_rows
+few : (z : tie.Else-answer-ne-DONE) → z.decode-found.result.columns.rows ≤ max_rows
 few z = omega (arith, rows z, (passed_none _ (none z)).sound.rows_high)
 
 marks : (z : tie.Else-answer-ne-DONE) → Marked (mark (bytes z))
@@ -77,7 +77,7 @@ last-numbers-requires c κs = few c.before.before.before.before
 put-all-numbers-requires : tie.Need-put_all_numbers-requires
 put-all-numbers-requires c κs =
     let e = roomy c.before.before.before.before.before.before in
-    (few e.before.before, omega (arith, e.if-out-columns.left))
+    (few e.before.before, omega (arith, e.if-out-columns.false))
 
 array-read-t28 : tie.Need-bounds-0
 array-read-t28 c = search rules
@@ -108,9 +108,9 @@ returns-3 c =
     let u = found.result.columns in
     let t : column_labelled u.elements u.rows u.rings u.cost u.period u.first u.second u.way found.result.labels
     ≡ file_labelled f =
-    λ k. record { table = (held z).table k; label = (found.ensures.labelled z.if-answer-ne-DONE.left).labels k } in
-    read_done f was _ _ _ _ _ _ _ found.ensures.answers z.if-answer-ne-DONE.left
-    (λ l. let q : ⊥ = omega (arith, y.if-out-columns.left, rows z) in q)
+    λ k. record { table = (held z).table k; label = (found.ensures.labelled z.if-answer-ne-DONE.false).labels k } in
+    read_done f was _ _ _ _ _ _ _ found.ensures.answers z.if-answer-ne-DONE.false
+    (λ l. let q : ⊥ = omega (arith, y.if-out-columns.false, rows z) in q)
     (mark_read f c.mark_byte.ensures (ap (λ (t : Table). t.rings) (held z).table) (marks z))
     c.version_of.ensures (ap (λ (t : Table). t.elements) (held z).table) (rows z)
     (numbers_read u.elements u.rows u.rings u.cost u.period u.first u.second u.way found.result.labels
