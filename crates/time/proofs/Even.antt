@@ -1,6 +1,6 @@
 -- Where intervals end. All are as long as L where that is one of the leading periods, as it then divides every period; in any case one ends
 -- at the first multiple of a leading period past its begin.
-use mathlib.Core.Path.{◌≡◌, sym, ap, ◌∙◌, subst}
+use mathlib.Core.Path.{◌≡◌, sym, ◌∙◌, subst}
 use Prim.Native.Nat.{ℕ, ◌+◌, ◌<◌, ◌≤◌, ◌∣◌}
 use native.Mathlib.Nat.{le_of_dvd}
 use native.Mathlib.Omega.{arith}

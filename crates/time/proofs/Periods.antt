@@ -20,8 +20,8 @@ use Rattle.numbers.specs.Finite.{any}
 use Rattle.numbers.specs.Lists.{at}
 use Rattle.numbers.specs.Divisors.{divides, lcm, leading, Leads}
 use Rattle.numbers.specs.Pairs.{IsGcd, IsLcm, LeastGcd}
-use Rattle.numbers.proofs.Truth.{is_true, of_true, le_or_lt}
-use Rattle.numbers.proofs.Finite.{any_of, any_none, least}
+use Rattle.numbers.proofs.Truth.{is_true, le_or_lt}
+use Rattle.numbers.proofs.Finite.{any_of, any_none}
 use Rattle.numbers.proofs.Lists.{Filled, filled_start, filled_put, zeros_at}
 use Rattle.numbers.proofs.Pairs.{pair_gcd, pair_gcd_self, pair_gcd_swap, pair_gcd_only}
 use Rattle.numbers.proofs.Divisors.{Positive, lcm_none, lcm_next, lcm_multiple, lcm_positive, lcm_grows, of_dvd}

@@ -1,9 +1,6 @@
 -- end_of: all intervals are as long as L, or the next ends at the first multiple of a leading period.
-use mathlib.Core.Path.{◌≡◌, sym, ◌∙◌}
-use mathlib.Core.Bool.{true}
+use mathlib.Core.Path.{sym, ◌∙◌}
 use native.Mathlib.Omega.{arith}
-use borrow.Author.Rules.{rules}
-use lib.Dec.{T}
 use Rattle.numbers.proofs.Truth.{of_true}
 use Rattle.lags.proofs.Intervals.{end_le}
 use Rattle.time.proofs.Even.{even_is, past_fits, past_is}

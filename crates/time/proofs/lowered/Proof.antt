@@ -43,7 +43,7 @@ loop-again c =
       λ n P N l.
           rw c.lower-least.ensures
           (nearing_next P (u.loop-j.invariant.1 n P N l) l (omega arith)
-          (rw (u.slots_at-own.ensures, c.slots_at-own.ensures) at c.gcd_of.ensures)),
+          (rw (u.slots_at-own.ensures, c.slots_at.ensures) at c.gcd_of.ensures)),
     )
 
 returns : tie.Need-returns invariant-loop decreases-loop

@@ -56,7 +56,7 @@ loop-again c =
     let u = c in
     let z = u in (
       omega arith,
-      rw (c.lower-end.ensures, c.after-end.ensures, c.slots_at-in-loop-k.ensures)
+      rw (c.lower-end.ensures, c.after.ensures, c.slots_at-in-loop-k.ensures)
           (past_next u.loop-k.invariant.1 (z.requires.0.low u.loop-k.k (omega arith))),
     )
 

@@ -1,15 +1,14 @@
 -- of: h and the leading periods go up the rows, and a period that was met changes neither; the leading ones tell L.
 use mathlib.Core.Path.{sym, ◌∙◌}
-use mathlib.Core.Logic.{⊎_elim}
 use Prim.Native.Nat.{◌-◌}
 use native.Mathlib.Omega.{arith}
 use borrow.Author.Rules.{rules}
 use borrow.Author.Tests.{not-true, not-false}
 use Rattle.numbers.specs.Lists.{at}
-use Rattle.time.specs.Time.{Periods}
 use Rattle.time.proofs.Periods.{keeping_low, keeping_room, keeping_space, keeping_end, leading_periods, rising_over}
 use Rattle.time.proofs.Periods.{Clocking, clocking_start, clocking_again, clocking_kept, clocking_new, clocks_none, clocks_end}
 use Rattle.time.proofs.Time.of.Statement.{statement}
+use Rattle.time.proofs.Time.of.Lts.{then-slots_at-next+else-h+then-is_leading, then-slots_at-next+else-h+else-is_leading, else-slots_at-next}
 use Rattle.time.proofs.Time.of.Tie as tie
 
 abbrev invariant-loop : tie.invariant-loop-i
@@ -115,17 +114,19 @@ loop-again c =
     let C = u.loop-i.invariant in
     let e = s.slots_at-next.ensures in
     let place = s.place_of-place in
-    ⊎_elim
-    (λ w. rw (w.8, w.9, w.10, w.11)
-    (clocking_new P C (omega arith) place.result place.ensures (rw e at w.2.ensures) w.3.left
-    (not-true _ (sym (rw e at w.5.ensures) ∙ w.6.true))))
-    (⊎_elim
-    (λ w. rw (w.7, w.8, w.9, w.10)
-    (clocking_kept P C (omega arith) place.result place.ensures (rw e at w.2.ensures) w.3.left
-    (not-false _ (sym (rw e at w.5.ensures) ∙ w.6.left))))
-    (λ w. rw (w.1, w.2, w.3, w.4)
-    (clocking_again P C (omega arith) place.result (sym s.slots_at-next.ensures ∙ w.0.left ∙ e))))
-    c.if-slots_at-next.branch
+    elim c.if-slots_at-next.branch [
+      | then-slots_at-next+else-h+then-is_leading w ↦
+          rw (w.met-is, w.kept-is, w.count-is, w.h-is)
+          (clocking_new P C (omega arith) place.result place.ensures (rw e at w.raised-h.ensures) w.if-h.false
+          (not-true _ (sym (rw e at w.is_leading.ensures) ∙ w.if-is_leading.true)))
+      | then-slots_at-next+else-h+else-is_leading w ↦
+          rw (w.met-is, w.kept-is, w.count-is, w.h-is)
+          (clocking_kept P C (omega arith) place.result place.ensures (rw e at w.raised-h.ensures) w.if-h.false
+          (not-false _ (sym (rw e at w.is_leading.ensures) ∙ w.if-is_leading.false)))
+      | else-slots_at-next w ↦
+          rw (w.met-is, w.kept-is, w.count-is, w.h-is)
+          (clocking_again P C (omega arith) place.result (sym s.slots_at.ensures ∙ w.if-slots_at-next.false ∙ e))
+    ]
 
 shortest-of-requires : tie.Need-shortest_of-requires invariant-loop decreases-loop
 shortest-of-requires c κs =
