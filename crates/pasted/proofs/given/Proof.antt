@@ -31,7 +31,7 @@ module _ (e : tie.Else-answer-ne-DONE) where
   ends : (columns.rows ≤ max_rows) × ((i : ℕ) → i < columns.rows → at columns.first i ≤ max_elements)
   ends =
       let d = (decoded e).decode-found.ensures in
-      given_ends (bytes (decoded e)) answer columns d.answers d.passed e.if-answer-ne-DONE.left
+      given_ends (bytes (decoded e)) answer columns d.answers d.passed e.if-answer-ne-DONE.false
 
 returns : tie.Need-returns-then-answer-ne-DONE
 returns c =
@@ -40,10 +40,10 @@ returns c =
     decodes_as D (given_stopped _ d.result.answer d.result.columns D.answers D.passed c.if-answer-ne-DONE.true)
 
 lowest-pasted-requires : tie.Need-lowest_pasted-row-requires
-lowest-pasted-requires c κs = ends c.before.before.before.before.before
+lowest-pasted-requires c κs = ends c.before.before.before.before
 
 at-requires : tie.Need-at-requires
-at-requires c κs = omega (arith, c.if-row-found.true, (ends c.before.before.before.before.before.before.before).0)
+at-requires c κs = omega (arith, c.if-row-found.true, (ends c.before.before.before.before.before.before).0)
 
 refused-requires : tie.Need-refused-requires
 refused-requires c κs = search rules

@@ -14,7 +14,7 @@ use Rattle.pasted.proofs.given_into.Tie as tie
 abbrev columns : tie.After-decode_into-head → Columns
 columns d =
     let xs = d.decode_into-head.new in
-    columns_by d.decode_into-head.result xs.1.0 xs.1.1.0 xs.1.1.1.0 xs.1.1.1.1.0 xs.1.1.1.1.1.0
+    columns_by d.decode_into-head.result xs.cost xs.period xs.first xs.second xs.way
 
 abbrev bytes : tie.After-decode_into-head → List ℕ
 bytes d = d.args.file.now
@@ -64,7 +64,7 @@ returns-2 c =
     rw c.refused.ensures
     (into_refusal a.result (λ z. omega (arith, a.ensures.0))
     (rw (a.ensures.0, a.ensures.1)
-    (given_pasted (bytes d) d.decode_into-head.result.answer k D.answers D.passed e.if-answer-ne-DONE.left _
+    (given_pasted (bytes d) d.decode_into-head.result.answer k D.answers D.passed e.if-answer-ne-DONE.false _
     (p.lowest_pasted-row.ensures k.elements k.rings k.cost) t.if-row-head.true)))
 
 returns-3 : tie.Need-returns
@@ -75,7 +75,7 @@ returns-3 c =
     let D = d.decode_into-head.ensures in
     let k = columns d in
     into_as D
-    (given_whole (bytes d) d.decode_into-head.result.answer k D.answers D.passed e.if-answer-ne-DONE.left _
+    (given_whole (bytes d) d.decode_into-head.result.answer k D.answers D.passed e.if-answer-ne-DONE.false _
     (p.lowest_pasted-row.ensures k.elements k.rings k.cost) (omega (arith, c.if-row-head.false)))
 
 pub given_into_spec : {M : Type 1} → statement M
