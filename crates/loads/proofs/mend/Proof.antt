@@ -1,6 +1,6 @@
 -- `mend` brings one more to a set that is too low, at each turn: what is needed still falls.
 use mathlib.Core.Path.{◌≡◌, refl, sym, ap, ◌∙◌}
-use mathlib.Core.Bool.{true, false, false≢true}
+use mathlib.Core.Bool.{true, false≢true}
 use Prim.Native.Nat.{ℕ, suc, ◌+◌, ◌-◌, ◌*◌, ◌/◌, ◌%◌, ◌^◌, ◌<◌}
 use native.Mathlib.Omega.{arith}
 use lib.Bits.{bit_and, bit_xor}
@@ -81,15 +81,15 @@ narrow : (p : tie.After-pick-q invariant-loop decreases-loop) (f : ℕ → ℕ)
     (entry p).args.head.now f (entry p).args.start)
     → Narrow (entry p).args.size.sets
     (record {
-      up = bit_xor p.before.before.loop-low.s.parted p.before.before.loop-low.s.top;
-      down = p.before.before.loop-low.s.top;
-      more = bit_xor p.before.before.loop-low.s.more (1 * 2 ^ (p.pick-q.result + 1) % 2 ^ 64);
-      less = p.before.before.loop-low.s.less;
+      up = bit_xor p.loop-low.s.parted p.loop-low.s.top;
+      down = p.loop-low.s.top;
+      more = bit_xor p.loop-low.s.more (1 * 2 ^ (p.pick-q.result + 1) % 2 ^ 64);
+      less = p.loop-low.s.less;
     })
 narrow p f A B =
     let M = now p f A B in
     mend_narrow _ _ _ _ _ (at (entry p).args.head.now) f (heads_are A.ends) A.ends.spans A.parts
-    p.before.before.loop-low.s.parted p.before.before.loop-low.s.top _ _ _ M.parted_is M.upper M.compared
+    p.loop-low.s.parted p.loop-low.s.top _ _ _ M.parted_is M.upper M.compared
     p.pick-q.result (small p f A B) (lacking p f A B)
 
 find-way-requires : tie.Need-find_way-way-requires invariant-loop decreases-loop
@@ -160,13 +160,13 @@ loop-less c =
     let a = (entry p).args in
     let M = now p q.0 q.1 q.2 in
     let t = mend_less _ _ _ _ _ (at a.head.now) q.0 (heads_are q.1.ends) q.1.ends.spans q.1.parts
-    p.before.before.loop-low.s.parted p.before.before.loop-low.s.top _ _ _ M.parted_is M.upper M.compared p.pick-q.result
+    p.loop-low.s.parted p.loop-low.s.top _ _ _ M.parted_is M.upper M.compared p.pick-q.result
     (small p q.0 q.1 q.2) (lacking p q.0 q.1 q.2) w.find_way-way.result.rows (sought w q.0 q.1 q.2) in
-    let top' : ℕ = bit_xor p.before.before.loop-low.s.top w.find_way-way.result.rows in
+    let top' : ℕ = bit_xor p.loop-low.s.top w.find_way-way.result.rows in
     omega (
       arith,
       t,
-      need_is q.1 p.before.before.loop-low.s.top,
+      need_is q.1 p.loop-low.s.top,
       need_is q.1 top',
       ap (λ (z : ℕ). sum a.size.sets (λ k. at a.sum.now k / a.size.hyper
           - ones (bit_and z (over (at a.out.now) (at a.into.now) (suc k))))) c.compare-s.ensures.1,
@@ -180,10 +180,10 @@ loop-again c =
       refl,
       λ f A B.
           let M = now p f A B in
-          state_of A c.compare-s.result p.before.before.loop-low.s.parted
-          (bit_xor p.before.before.loop-low.s.top w.find_way-way.result.rows) M.parted_is
+          state_of A c.compare-s.result p.loop-low.s.parted
+          (bit_xor p.loop-low.s.top w.find_way-way.result.rows) M.parted_is
           (mend_upper _ _ _ _ _ (at a.head.now) f (heads_are A.ends) A.ends.spans A.parts
-          p.before.before.loop-low.s.parted p.before.before.loop-low.s.top _ _ _ M.parted_is M.upper M.compared
+          p.loop-low.s.parted p.loop-low.s.top _ _ _ M.parted_is M.upper M.compared
           p.pick-q.result
           (small p f A B) (lacking p f A B) w.find_way-way.result.rows (sought w f A B))
           c.compare-s.ensures.0 c.compare-s.ensures.1 c.compare-s.ensures.2,
@@ -191,7 +191,7 @@ loop-again c =
 
 returns : tie.Need-returns invariant-loop decreases-loop
 returns c f A B =
-    let u = c.before.loop-low in
+    let u = c.loop-low in
     mended_of A u.s (u.invariant.1 f A B) (sym u.invariant.0 ∙ omega arith)
 
 pub mend_spec : {M : Type 1} → statement M

@@ -1,7 +1,6 @@
 -- `raise_rows` raises one row after the other: those passed are settled.
 use mathlib.Core.Path.{◌≡◌, sym, ap, ◌∙◌}
 use mathlib.Core.Bool.{Bool, ◌&&◌}
-use mathlib.Core.Logic.{⊎_elim}
 use Prim.Native.Nat.{ℕ, ◌+◌, ◌-◌, ◌≤◌, ◌<◌}
 use native.Mathlib.Omega.{arith}
 use lib.Dec.{leb}
@@ -17,6 +16,7 @@ use Rattle.loads.proofs.Settling.{carried_circ, settled_greatest}
 use Rattle.loads.proofs.States.{sums_most, after_next, after_step, raised_next, raised_same}
 use Rattle.loads.proofs.raise_rows.Statement.{statement}
 use Rattle.loads.proofs.raise_rows.Tie as tie
+use Rattle.loads.proofs.raise_rows.Lts.{then-way-ne0, else-way-ne0}
 
 abbrev invariant-loop : tie.invariant-loop-i
 invariant-loop tail head out into sums size s₀ later₀ i₀ s later i =
@@ -69,7 +69,7 @@ turn w f A M =
       ends = A.ends;
       parts = A.parts;
       mended = record { state = r.0; within = r.1.within };
-      row = w.before.loop-i-test.true;
+      row = w.loop-i-test.true;
       after = after_next _ u.i u.later w.without-later.result (bit u.s.parted) u.invariant.1 w.without-later.ensures;
     }
 
@@ -96,7 +96,7 @@ add-i : tie.Need-overflow_add-i invariant-loop decreases-loop
 add-i c = omega (arith, low-row c.before.before.before)
 
 loop-less : tie.Need-loop-i-smaller invariant-loop decreases-loop
-loop-less c = omega (arith, c.before.before.before.loop-i-test.true)
+loop-less c = omega (arith, c.loop-i-test.true)
 
 loop-again : tie.Need-loop-i-preserved invariant-loop decreases-loop
 loop-again c =
@@ -104,29 +104,29 @@ loop-again c =
     let w = k.before in
     let t = w.before in
     let u = (state t).loop-i in
-    ⊎_elim
-    (λ z. rw z.3 (
-      omega (arith, t.loop-i-test.true),
-      λ j l. rest w j l ∙ ap (λ (b : ℕ). leb (u.i + 1) j && bit b j) (sym z.2.ensures.0),
-      λ f A M.
-          let r = u.invariant.2 f A M in
-          raised_next A u.s k.seek-way.result u.i r.0 r.1 (k.seek-way.ensures _ _ _ f (turn w f A M)) z.2.result
-          z.2.ensures.0 z.2.ensures.1 z.2.ensures.2,
-    ))
-    (λ z. rw z.1 (
-      omega (arith, t.loop-i-test.true),
-      rest w,
-      λ f A M.
-          let r = u.invariant.2 f A M in
-          raised_same A u.s k.seek-way.result u.i r.0 r.1 (k.seek-way.ensures _ _ _ f (turn w f A M)) (omega (arith, z.0.left)),
-    ))
-    c.if-way-ne0.branch
+    elim c.if-way-ne0.branch [
+      | then-way-ne0 z ↦ rw z.s-is (
+        omega (arith, t.loop-i-test.true),
+        λ j l. rest w j l ∙ ap (λ (b : ℕ). leb (u.i + 1) j && bit b j) (sym z.compare-s.ensures.0),
+        λ f A M.
+            let r = u.invariant.2 f A M in
+            raised_next A u.s k.seek-way.result u.i r.0 r.1 (k.seek-way.ensures _ _ _ f (turn w f A M)) z.compare-s.result
+            z.compare-s.ensures.0 z.compare-s.ensures.1 z.compare-s.ensures.2,
+      )
+      | else-way-ne0 z ↦ rw z.s-is (
+        omega (arith, t.loop-i-test.true),
+        rest w,
+        λ f A M.
+            let r = u.invariant.2 f A M in
+            raised_same A u.s k.seek-way.result u.i r.0 r.1 (k.seek-way.ensures _ _ _ f (turn w f A M)) (omega arith),
+      )
+    ]
 
 returns : tie.Need-returns invariant-loop decreases-loop
 returns c f A M =
-    let u = c.before.before.loop-i in
+    let u = c.loop-i in
     let r = u.invariant.2 f A M in
-    let e : u.i ≡ c.before.before.before.args.size.rows = omega (arith, c.loop-i-test.false, u.invariant.0) in
+    let e : u.i ≡ c.args.size.rows = omega (arith, c.loop-i-test.false, u.invariant.0) in
     settled_greatest _ _ _ _ _ f A.ends.spans A.parts (digit u.s.top) (rw e at r.1)
 
 pub raise_rows_spec : {M : Type 1} → statement M

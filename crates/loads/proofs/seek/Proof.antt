@@ -25,7 +25,7 @@ shr-if1 c = let z = c.before in omega (arith, z.requires.4.row, z.requires.4.end
 
 returns : tie.Need-returns-then-s-i-eq0
 returns c n K h f T =
-    let a = c.before.before.args in
+    let a = c.args in
     let M = T.mended.state in
     turn_still _ _ _ _ _ (at a.head.now) f (heads_are T.ends) T.ends.spans T.parts a.s.parted a.s.top _ _ _
     M.parted_is M.upper M.compared T.mended.within a.i T.row (bit_none _ a.i c.if-s-i-eq0.true)
@@ -35,18 +35,18 @@ element-copy-out-from c =
     let z = c.before.before.before in omega (arith, z.requires.4.row, z.requires.4.ends.spans.few_rows)
 
 cast-from : tie.Need-overflow_cast-from
-cast-from c = let z = c.before.before.before.before in omega (arith, near z, low_sets z)
+cast-from c = let z = c.before.before.before.before.before in omega (arith, near z, low_sets z)
 
 element-copy-out-to : tie.Need-bounds-tail-i
 element-copy-out-to c =
     let z = c.before.before.before.before in omega (arith, z.requires.4.row, z.requires.4.ends.spans.few_rows)
 
 cast-to : tie.Need-overflow_cast-to
-cast-to c = let z = c.before.before.before.before.before in omega (arith, near z, low_sets z)
+cast-to c = let z = c.before.before.before.before.before.before.before in omega (arith, near z, low_sets z)
 
 find-way-requires : tie.Need-find_way-way-requires
 find-way-requires c κs =
-    let z = c.before.before.before.before.before in
+    let z = c.before.before.before.before.before.before.before in
     let T = z.requires.4 in
     (z.requires.0, z.requires.1, T.ends.wired, narrow_of T.mended.state.compared _ _, (near z).0, (near z).1)
 
@@ -88,8 +88,8 @@ returns-3 c n K h f T =
     (carried_circ _ _ _ _ _ f T.ends.spans T.parts (digit a.s.top)) in
     turn_found _ _ _ _ _ (at a.head.now) f H T.ends.spans T.parts a.s.parted a.s.top _ _ _ M.parted_is M.upper
     M.compared T.mended.within a.i T.row a.later T.after w.find_way-way.result.rows
-    (rw (not-false w.find_way-way.result.found c.before.if-not-way.false) at s)
-    (bit_some _ a.i w.before.before.before.before.if-s-i-eq0.false) _ (λ j m. bit_one_more w.find_way-way.result.rows a.i j l)
+    (rw (not-false w.find_way-way.result.found c.if-not-way.false) at s)
+    (bit_some _ a.i w.if-s-i-eq0.false) _ (λ j m. bit_one_more w.find_way-way.result.rows a.i j l)
 
 pub seek_spec : {M : Type 1} → statement M
 seek_spec =

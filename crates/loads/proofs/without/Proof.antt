@@ -23,9 +23,9 @@ and_on false = refl
 
 returns : tie.Need-returns-then-w-i-eq1
 returns c j =
-    let a = c.before.args in
+    let a = c.args in
     bit_xor_lem a.w (1 * 2 ^ a.i % 2 ^ 64) j ∙ ap (λ (q : Bool). cond q (not (bit a.w j)) (bit a.w j))
-    (bit_first a.i j c.before.requires)
+    (bit_first a.i j c.requires)
     ∙ go a.w a.i (bit_odd a.w a.i c.if-w-i-eq1.true) (ℕ_discrete j a.i)
   where
     go : (w i : ℕ) → bit w i ≡ true → Dec (j ≡ i)
@@ -35,7 +35,7 @@ returns c j =
 
 returns-2 : tie.Need-returns
 returns-2 c j =
-    let a = c.before.args in
+    let a = c.args in
     go a.w a.i (bit_even a.w a.i c.if-w-i-eq1.false) (ℕ_discrete j a.i)
   where
     go : (w i : ℕ) → bit w i ≡ false → Dec (j ≡ i) → bit w j ≡ (bit w j && not (eqb j i))

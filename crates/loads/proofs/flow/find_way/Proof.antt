@@ -73,17 +73,17 @@ mul-t21 : tie.Need-offset_bounds-by-t invariant-loop decreases-loop
 mul-t21 c = omega (arith, small c.before.before.before)
 
 array-read-t24 : tie.Need-bounds-by-t invariant-loop decreases-loop
-array-read-t24 c = omega (arith, small c.before.before.before, c.before.before.loop-seen.invariant.0)
+array-read-t24 c = omega (arith, small c.before.before.before, c.loop-seen.invariant.0)
 
 returns : tie.Need-returns-then-seen-t-eq1 invariant-loop decreases-loop
 returns c n K G may x W N sK tK S circ =
-    let u = c.before.before.loop-seen in
-    let t = c.before.before.before.args.t in
+    let u = c.loop-seen in
+    let t = c.args.t in
     let w = (u.invariant.3 n K G may x W N sK S circ).0.way t (bit_odd u.seen t c.if-seen-t-eq1.true) in
     record { found = λ q. (bit u.seen, w.0, w.1, w.2); none = λ q. absurd (true≢false q) }
 
 pick-requires : tie.Need-pick-u-requires invariant-loop decreases-loop
-pick-requires c κs = c.before.loop-seen-test.true
+pick-requires c κs = c.loop-seen-test.true
 
 mul-way : tie.Need-offset_bounds-by-u invariant-loop decreases-loop
 mul-way c = omega (arith, low c)
@@ -95,11 +95,11 @@ mul-visit : tie.Need-offset_bounds-out-u invariant-loop decreases-loop
 mul-visit c = omega (arith, low c)
 
 element-copy-out-visit : tie.Need-bounds-out-u invariant-loop decreases-loop
-element-copy-out-visit c = omega (arith, low c)
+element-copy-out-visit c = omega (arith, low c.before)
 
 visit-requires : tie.Need-visit-ahead-requires invariant-loop decreases-loop
 visit-requires c κs =
-    let p = c.before.before.before in
+    let p = c.before.before.before.before in
     let q = (entry p).requires in (
       λ i b. omega (
         arith,
@@ -110,15 +110,15 @@ visit-requires c κs =
     )
 
 mul-visit-2 : tie.Need-offset_bounds-into-u invariant-loop decreases-loop
-mul-visit-2 c = omega (arith, low c.before.before.before.before)
+mul-visit-2 c = omega (arith, low c.before.before.before.before.before)
 
 element-copy-out-visit-2 : tie.Need-bounds-into-u invariant-loop decreases-loop
-element-copy-out-visit-2 c = omega (arith, low c.before.before.before.before)
+element-copy-out-visit-2 c = omega (arith, low c.before.before.before.before.before.before)
 
 visit-requires-2 : tie.Need-visit-back-requires invariant-loop decreases-loop
 visit-requires-2 c κs =
     let v = c.before.before.before in
-    let p = v.before.before.before.before in
+    let p = v.before.before.before.before.before.before in
     let q = (entry p).requires in (
       λ i b. omega (
         arith,
@@ -130,7 +130,7 @@ visit-requires-2 c κs =
 
 -- the pick, from the second visit on
 abbrev picking : tie.After-visit-back invariant-loop decreases-loop → tie.After-pick-u invariant-loop decreases-loop
-picking w = w.before.before.before.before.before.before.before.before
+picking w = w.before.before.before.before.before.before.before.before.before.before
 
 step-down-requires : tie.Need-step_down-lower-requires invariant-loop decreases-loop
 step-down-requires c κs =
@@ -169,9 +169,9 @@ loop-again c =
     let u = p.pick-u.result in
     let l = p.pick-u.ensures.0 in
     let w2 = c.before.before.before.before in
-    let a = w2.before.before.before.before.visit-ahead.ensures.1 in
+    let a = w2.visit-ahead.ensures.1 in
     let b = w2.visit-back.ensures.1 in
-    let d = c.before.before.step_down-lower.ensures.1 in
+    let d = c.step_down-lower.ensures.1 in
     let e = c.step_up-seen.ensures in
     let wider : (v : ℕ) → bit L.seen v ≡ true → bit c.step_up-seen.result v ≡ true =
     λ v q. (e.1.kept v (d.kept v (b.kept v (a.kept v q).0).0).0).0 in (
@@ -198,12 +198,12 @@ mul-t39 : tie.Need-offset_bounds-by-t-2 invariant-loop decreases-loop
 mul-t39 c = omega (arith, small c.before.before)
 
 array-read-t42 : tie.Need-bounds-by-t-2 invariant-loop decreases-loop
-array-read-t42 c = omega (arith, small c.before.before, c.before.loop-seen.invariant.0)
+array-read-t42 c = omega (arith, small c.before.before, c.loop-seen.invariant.0)
 
 returns-2 : tie.Need-returns invariant-loop decreases-loop
 returns-2 c n K G may x W N sK tK S circ =
-    let u = c.before.loop-seen in
-    let t = c.before.before.args.t in
+    let u = c.loop-seen in
+    let t = c.args.t in
     let R = u.invariant.3 n K G may x W N sK S circ in
     let same : u.seen ≡ u.done = omega arith in record {
       found = λ q.

@@ -26,7 +26,7 @@ returns-2 : tie.Need-returns
 returns-2 c =
     let z = c.before.before.before in (
       c.reach.ensures.0,
-      entered_on _ _ _ _ _ _ _ (bit_some z.args.more z.args.u c.before.before.if-more-u-eq0.false)
+      entered_on _ _ _ _ _ _ _ (bit_some z.args.more z.args.u c.if-more-u-eq0.false)
           c.reach.ensures.1,
     )
 

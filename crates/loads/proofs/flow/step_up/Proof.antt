@@ -21,13 +21,13 @@ add-reach c = search rules
 reach-requires : tie.Need-reach-requires
 reach-requires c κs =
     let z = c.before.before in
-    (z.requires.1 (bit_some z.args.less z.args.u c.before.if-less-u-eq0.false), z.requires.2)
+    (z.requires.1 (bit_some z.args.less z.args.u c.if-less-u-eq0.false), z.requires.2)
 
 returns-2 : tie.Need-returns
 returns-2 c =
     let z = c.before.before.before in (
       c.reach.ensures.0,
-      entered_on _ _ _ _ _ _ _ (bit_some z.args.less z.args.u c.before.before.if-less-u-eq0.false)
+      entered_on _ _ _ _ _ _ _ (bit_some z.args.less z.args.u c.if-less-u-eq0.false)
           c.reach.ensures.1,
     )
 

@@ -25,16 +25,16 @@ decreases-loop far rows way seen by₀ all₀ done₀ by all done = count 64 (λ
 
 -- the row that is taken
 picked : (p : tie.After-pick-i invariant-loop decreases-loop)
-    → (bit p.before.before.before.args.rows p.pick-i.result ≡ true)
-    × (bit p.before.before.loop-done.done p.pick-i.result ≡ false)
-picked p = in_first _ _ p.pick-i.ensures.1 (p.before.before.loop-done.invariant.1 p.pick-i.result)
+    → (bit p.args.rows p.pick-i.result ≡ true)
+    × (bit p.loop-done.done p.pick-i.result ≡ false)
+picked p = in_first _ _ p.pick-i.ensures.1 (p.loop-done.invariant.1 p.pick-i.result)
 
 loop-holds : tie.Need-loop-done-init invariant-loop decreases-loop
 loop-holds c = (c.requires.1, λ i q. absurd (false≢true (sym (bit_zero i) ∙ q)), visit_start c.args.rows _ _ _ _)
 
 -- its far end is a node
-near : (p : tie.After-pick-i invariant-loop decreases-loop) → at p.before.before.before.args.far.now p.pick-i.result < nodes_most
-near p = p.before.before.before.requires.0 p.pick-i.result (picked p).0
+near : (p : tie.After-pick-i invariant-loop decreases-loop) → at p.args.far.now p.pick-i.result < nodes_most
+near p = p.requires.0 p.pick-i.result (picked p).0
 
 pick-requires : tie.Need-pick-i-requires invariant-loop decreases-loop
 pick-requires c κs = λ q. c.loop-done-test.true (sym q)
@@ -43,29 +43,29 @@ element-copy-out-p : tie.Need-bounds-far-i invariant-loop decreases-loop
 element-copy-out-p c = omega (arith, c.pick-i.ensures.0)
 
 cast-p : tie.Need-overflow_cast-p invariant-loop decreases-loop
-cast-p c = omega (arith, near c.before)
+cast-p c = omega (arith, near c.before.before)
 
 shl-reach : tie.Need-overflow_shl-i invariant-loop decreases-loop
-shl-reach c = omega (arith, c.before.pick-i.ensures.0)
+shl-reach c = omega (arith, c.pick-i.ensures.0)
 
 reach-requires : tie.Need-reach-all-requires invariant-loop decreases-loop
-reach-requires c κs = let p = c.before.before in (near p, p.before.before.loop-done.invariant.0)
+reach-requires c κs = let p = c.before.before.before in (near p, p.loop-done.invariant.0)
 
 shl-done : tie.Need-overflow_shl-done invariant-loop decreases-loop
-shl-done c = omega (arith, c.before.before.before.pick-i.ensures.0)
+shl-done c = omega (arith, c.pick-i.ensures.0)
 
 loop-less : tie.Need-loop-done-smaller invariant-loop decreases-loop
 loop-less c =
-    let p = c.before.before.before in
+    let p = c.before.before.before.before in
     let l = p.pick-i.ensures.0 in
-    let d = p.before.before.loop-done.done in
+    let d = p.loop-done.done in
     fewer d _ p.pick-i.result l (picked p).1 (λ v. bit_one_more d p.pick-i.result v l)
 
 loop-again : tie.Need-loop-done-preserved invariant-loop decreases-loop
 loop-again c =
-    let p = c.before.before.before in
-    let u = p.before.before.loop-done in
-    let a = p.before.before.before.args in
+    let p = c.before.before.before.before in
+    let u = p.loop-done in
+    let a = p.args in
     let i = p.pick-i.result in
     let l = p.pick-i.ensures.0 in
     let e = c.reach-all.ensures in (
@@ -77,8 +77,8 @@ loop-again c =
 
 returns : tie.Need-returns invariant-loop decreases-loop
 returns c =
-    let u = c.before.loop-done in
-    let q : u.done ≡ c.before.before.args.rows = omega arith in
+    let u = c.loop-done in
+    let q : u.done ≡ c.args.rows = omega arith in
     (u.invariant.0, rw q at u.invariant.2)
 
 pub visit_spec : {M : Type 1} → statement M

@@ -5,7 +5,6 @@ use Prim.Native.Nat.{ℕ}
 use native.Mathlib.Omega.{arith}
 use lib.Dec.{leb, ltb}
 use borrow.Author.Tests.{le-leb}
-use Rattle.numbers.specs.Word.{bit}
 use Rattle.numbers.proofs.Word.{stretch_pow}
 use Rattle.rules.specs.Bounds.{max_rows}
 use Rattle.loads.proofs.nodes.all_rows.Statement.{statement}
@@ -16,14 +15,14 @@ from_none i n = ap (λ (b : Bool). b && ltb i n) (le-leb 0 i (omega arith))
 
 returns : tie.Need-returns-then-rows-eq-ROWS
 returns c =
-    let e : c.before.args.rows ≡ max_rows = omega (arith, c.if-rows-eq-ROWS.true) in
+    let e : c.args.rows ≡ max_rows = omega (arith, c.if-rows-eq-ROWS.true) in
     λ i. rw e (stretch_pow i 0 64 (omega arith) ∙ from_none i 64)
 
 stretch-requires : tie.Need-stretch-requires
-stretch-requires c κs = omega (arith, c.before.requires, c.if-rows-eq-ROWS.false)
+stretch-requires c κs = omega (arith, c.requires, c.if-rows-eq-ROWS.false)
 
 returns-2 : tie.Need-returns
-returns-2 c = λ i. c.stretch.ensures.bits i ∙ from_none i c.before.before.args.rows
+returns-2 c = λ i. c.stretch.ensures.bits i ∙ from_none i c.args.rows
 
 pub all_rows_spec : {M : Type 1} → statement M
 all_rows_spec = tie.close (tie.spec returns stretch-requires returns-2)

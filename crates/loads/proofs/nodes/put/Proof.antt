@@ -22,9 +22,9 @@ decreases-loop rows v to₀ done₀ to done = count 64 (λ i. not (bit done i))
 
 -- the row that is taken
 picked : (p : tie.After-pick-i invariant-loop decreases-loop)
-    → (bit p.before.before.before.args.rows p.pick-i.result ≡ true)
-    × (bit p.before.before.loop-done.done p.pick-i.result ≡ false)
-picked p = in_first _ _ p.pick-i.ensures.1 (p.before.before.loop-done.invariant.0 p.pick-i.result)
+    → (bit p.args.rows p.pick-i.result ≡ true)
+    × (bit p.loop-done.done p.pick-i.result ≡ false)
+picked p = in_first _ _ p.pick-i.ensures.1 (p.loop-done.invariant.0 p.pick-i.result)
 
 loop-holds : tie.Need-loop-done-init invariant-loop decreases-loop
 loop-holds c = (
@@ -36,7 +36,7 @@ pick-requires : tie.Need-pick-i-requires invariant-loop decreases-loop
 pick-requires c κs = λ q. c.loop-done-test.true (sym q)
 
 element-write-to : tie.Need-bounds-to-i invariant-loop decreases-loop
-element-write-to c = omega (arith, c.pick-i.ensures.0, c.before.before.loop-done.invariant.1.size)
+element-write-to c = omega (arith, c.pick-i.ensures.0, c.loop-done.invariant.1.size)
 
 shl-done : tie.Need-overflow_shl-done invariant-loop decreases-loop
 shl-done c = omega (arith, c.pick-i.ensures.0)
@@ -44,25 +44,25 @@ shl-done c = omega (arith, c.pick-i.ensures.0)
 loop-less : tie.Need-loop-done-smaller invariant-loop decreases-loop
 loop-less c =
     let l = c.pick-i.ensures.0 in
-    let d = c.before.before.loop-done.done in
-    fewer d _ c.pick-i.result l (picked c).1 (λ v. bit_one_more d c.pick-i.result v l)
+    let d = c.loop-done.done in
+    fewer d _ c.pick-i.result l (picked c.before).1 (λ v. bit_one_more d c.pick-i.result v l)
 
 loop-again : tie.Need-loop-done-preserved invariant-loop decreases-loop
 loop-again c =
-    let u = c.before.before.loop-done in
-    let a = c.before.before.before.args in
+    let u = c.loop-done in
+    let a = c.args in
     let i = c.pick-i.result in
     let l = c.pick-i.ensures.0 in
     let M = u.invariant.1 in
     let p = put_set u.to i a.v (omega (arith, M.size, l)) in (
-      λ j q. one_of (bit u.done j) j i (sym (bit_one_more u.done i j l) ∙ q) (u.invariant.0 j) (λ k. rw k (picked c).0),
+      λ j q. one_of (bit u.done j) j i (sym (bit_one_more u.done i j l) ∙ q) (u.invariant.0 j) (λ k. rw k (picked c.before).0),
       marked_next u.done _ i a.v _ _ _ M p (simp length-set M.size) (λ j. bit_one_more u.done i j l),
     )
 
 returns : tie.Need-returns invariant-loop decreases-loop
 returns c =
-    let u = c.before.loop-done in
-    let q : u.done ≡ c.before.before.args.rows = omega arith in
+    let u = c.loop-done in
+    let q : u.done ≡ c.args.rows = omega arith in
     rw q at u.invariant.1
 
 pub put_spec : {M : Type 1} → statement M

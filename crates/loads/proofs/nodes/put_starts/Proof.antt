@@ -1,7 +1,6 @@
 -- `put_starts` gives each row the node of the first set that has it, and each node these rows.
 use borrow.Author.Rules.{rules}
 use mathlib.Core.Path.{◌≡◌, refl, sym}
-use mathlib.Core.Bool.{Bool}
 use Prim.Native.Nat.{ℕ, ◌-◌, ◌≤◌, ◌<◌}
 use native.Mathlib.Omega.{arith}
 use lib.Dec.{T}
@@ -32,9 +31,9 @@ all-rows-requires c κs = search rules
 loop-holds : tie.Need-loop-k-init invariant-loop decreases-loop
 loop-holds c = (
   omega arith,
-  rw c.before.requires.2 (leaving_start _ _ _ _ c.all_rows-left.ensures (λ i j l. absurd (omega arith))),
-  rw c.before.requires.3 refl,
-  rw c.before.requires.3 (sorted_start _ _ c.before.args.tail.now c.all_rows-left.ensures),
+  rw c.requires.2 (leaving_start _ _ _ _ c.all_rows-left.ensures (λ i j l. absurd (omega arith))),
+  rw c.requires.3 refl,
+  rw c.requires.3 (sorted_start _ _ c.args.tail.now c.all_rows-left.ensures),
 )
 
 mul-here : tie.Need-offset_bounds-words-k invariant-loop decreases-loop
@@ -47,13 +46,13 @@ cast-put : tie.Need-overflow_cast-k invariant-loop decreases-loop
 cast-put c = omega arith
 
 put-requires : tie.Need-put-requires invariant-loop decreases-loop
-put-requires c κs = c.before.before.before.loop-k.invariant.1.size
+put-requires c κs = c.loop-k.invariant.1.size
 
 mul-out : tie.Need-offset_bounds-out-k invariant-loop decreases-loop
 mul-out c = omega arith
 
 element-copy-out-out : tie.Need-bounds-out-k invariant-loop decreases-loop
-element-copy-out-out c = let l = c.before.before.before in omega (arith, l.before.loop-k.invariant.2, l.before.before.before.requires.1)
+element-copy-out-out c = let l = c.before.before.before in omega (arith, l.loop-k.invariant.2, l.requires.1)
 
 mul-out-2 : tie.Need-offset_bounds-out-k-in-loop-k invariant-loop decreases-loop
 mul-out-2 c = omega arith
@@ -61,7 +60,7 @@ mul-out-2 c = omega arith
 element-write-out : tie.Need-bounds-out-k-in-loop-k invariant-loop decreases-loop
 element-write-out c =
     let l = c.before.before.before.before in
-    omega (arith, l.before.loop-k.invariant.2, l.before.before.before.requires.1)
+    omega (arith, l.loop-k.invariant.2, l.requires.1)
 
 add-k : tie.Need-overflow_add-k invariant-loop decreases-loop
 add-k c = omega arith
@@ -73,7 +72,7 @@ loop-again : tie.Need-loop-k-preserved invariant-loop decreases-loop
 loop-again c =
     let p = c.before in
     let l = p.before.before.before in
-    let u = l.before.loop-k in
+    let u = l.loop-k in
     let z = l.before.before.before in
     let a = z.args in
     let w = at a.words.now u.k in (
@@ -89,24 +88,24 @@ cast-put-2 : tie.Need-overflow_cast-sets invariant-loop decreases-loop
 cast-put-2 c = omega arith
 
 put-requires-2 : tie.Need-put-requires-2 invariant-loop decreases-loop
-put-requires-2 c κs = c.before.before.loop-k.invariant.1.size
+put-requires-2 c κs = c.loop-k.invariant.1.size
 
 mul-out-3 : tie.Need-offset_bounds-out-sets invariant-loop decreases-loop
-mul-out-3 c = omega (arith, c.before.before.before.before.before.requires.1)
+mul-out-3 c = omega (arith, c.requires.1)
 
 element-copy-out-out-2 : tie.Need-bounds-out-sets invariant-loop decreases-loop
-element-copy-out-out-2 c = let u = c.before.before.before in omega (arith, u.loop-k.invariant.2, u.before.before.requires.1)
+element-copy-out-out-2 c = let u = c.before.before.before in omega (arith, u.loop-k.invariant.2, u.requires.1)
 
 mul-out-4 : tie.Need-offset_bounds-out-sets-2 invariant-loop decreases-loop
-mul-out-4 c = omega (arith, c.before.before.before.before.before.before.requires.1)
+mul-out-4 c = omega (arith, c.requires.1)
 
 element-write-out-2 : tie.Need-bounds-out-sets-2 invariant-loop decreases-loop
-element-write-out-2 c = let u = c.before.before.before.before in omega (arith, u.loop-k.invariant.2, u.before.before.requires.1)
+element-write-out-2 c = let u = c.before.before.before.before in omega (arith, u.loop-k.invariant.2, u.requires.1)
 
 returns : tie.Need-returns invariant-loop decreases-loop
 returns c =
     let p = c.before in
-    let u = p.before.before.before.loop-k in
+    let u = p.loop-k in
     let z = p.before.before.before.before.before in
     let a = z.args in (
       leaving_end u.invariant.1 a.sets p.put-2.ensures

@@ -50,9 +50,9 @@ all-rows-requires c κs = search rules
 loop-holds : tie.Need-loop-k-init invariant-loop decreases-loop
 loop-holds c = (
   omega arith,
-  rw c.before.requires.2 (leaving_start _ _ _ _ c.all_rows-left.ensures (λ i j l m. absurd (omega arith))),
-  rw c.before.requires.3 refl,
-  rw c.before.requires.3 (sorted_start _ _ c.before.args.head.now c.all_rows-left.ensures),
+  rw c.requires.2 (leaving_start _ _ _ _ c.all_rows-left.ensures (λ i j l m. absurd (omega arith))),
+  rw c.requires.3 refl,
+  rw c.requires.3 (sorted_start _ _ c.args.head.now c.all_rows-left.ensures),
 )
 
 sub-here : tie.Need-overflow_sub-here invariant-loop decreases-loop
@@ -68,7 +68,7 @@ cast-put : tie.Need-overflow_cast-k invariant-loop decreases-loop
 cast-put c = omega arith
 
 put-requires : tie.Need-put-requires invariant-loop decreases-loop
-put-requires c κs = c.before.before.before.loop-k.invariant.1.size
+put-requires c κs = c.loop-k.invariant.1.size
 
 mul-into : tie.Need-offset_bounds-into-k invariant-loop decreases-loop
 mul-into c = omega arith
@@ -76,7 +76,7 @@ mul-into c = omega arith
 element-copy-out-into : tie.Need-bounds-into-k invariant-loop decreases-loop
 element-copy-out-into c =
     let u = c.before.before.before.before in
-    omega (arith, u.loop-k.invariant.0, u.loop-k.invariant.2, u.before.before.requires.1)
+    omega (arith, u.loop-k.invariant.0, u.loop-k.invariant.2, u.requires.1)
 
 mul-into-2 : tie.Need-offset_bounds-into-k-in-loop-k invariant-loop decreases-loop
 mul-into-2 c = omega arith
@@ -84,7 +84,7 @@ mul-into-2 c = omega arith
 element-write-into : tie.Need-bounds-into-k-in-loop-k invariant-loop decreases-loop
 element-write-into c =
     let u = c.before.before.before.before.before in
-    omega (arith, u.loop-k.invariant.0, u.loop-k.invariant.2, u.before.before.requires.1)
+    omega (arith, u.loop-k.invariant.0, u.loop-k.invariant.2, u.requires.1)
 
 sub-k : tie.Need-overflow_sub-k invariant-loop decreases-loop
 sub-k c = omega arith
@@ -96,7 +96,7 @@ loop-again : tie.Need-loop-k-preserved invariant-loop decreases-loop
 loop-again c =
     let p = c.before in
     let l = p.before.before.before in
-    let u = l.before.loop-k in
+    let u = l.loop-k in
     let z = l.before.before.before in
     let a = z.args in
     let w = at a.words.now (u.k - 1) in
@@ -110,19 +110,19 @@ loop-again c =
     )
 
 put-requires-2 : tie.Need-put-requires-2 invariant-loop decreases-loop
-put-requires-2 c κs = c.before.before.loop-k.invariant.1.size
+put-requires-2 c κs = c.loop-k.invariant.1.size
 
 element-copy-out-into-2 : tie.Need-bounds-into-1 invariant-loop decreases-loop
-element-copy-out-into-2 c = omega (arith, c.before.before.before.loop-k.invariant.2)
+element-copy-out-into-2 c = omega (arith, c.loop-k.invariant.2)
 
 element-write-into-2 : tie.Need-bounds-into-1-2 invariant-loop decreases-loop
-element-write-into-2 c = omega (arith, c.before.before.before.before.loop-k.invariant.2)
+element-write-into-2 c = omega (arith, c.loop-k.invariant.2)
 
 returns : tie.Need-returns invariant-loop decreases-loop
 returns c =
     let p = c.before in
-    let u = p.before.before.before.loop-k in
-    let a = p.before.before.before.before.before.args in
+    let u = p.loop-k in
+    let a = p.args in
     let e : u.k ≡ 0 = omega arith in (
       leaving_end u.invariant.1 1 p.put-2.ensures
           (λ i m o. above_none a.sets (λ j. bit (at a.words.now j) i) (λ j l g. o j (omega arith) g)),
