@@ -6,19 +6,19 @@ use mathlib.Core.List.{List}
 use Prim.Native.Nat.{ℕ, zero, suc, ◌≤◌, ◌<◌, ◌∣◌, max}
 use native.Mathlib.Nat.{le_of_dvd, not-suc-le-zero}
 use native.Mathlib.Omega.{arith}
-use lib.Dec.{T, eqb, ltb, ltb→lt}
+use lib.Dec.{T, eqb, ltb→lt}
 use lib.ListN.{length}
-use Rattle.numbers.specs.Finite.{sum, count, any}
+use Rattle.numbers.specs.Finite.{sum, count}
 use Rattle.numbers.specs.Divisors.{lcm}
 use Rattle.numbers.proofs.Truth.{fst, decide, le_or_lt, is_true, is_false}
 use Rattle.numbers.proofs.Finite.{least, only_true, only_false, count_mono}
 use Rattle.numbers.proofs.Divisors.{Positive, lcm_divides, lcm_multiple}
 use Rattle.rules.specs.Bounds.{max_rows, max_slots}
 use Rattle.rules.specs.Bus.{Labelled, pasted}
-use Rattle.rules.specs.TableFile.{table_mark, rings_of, file_table, file_labelled, memory_labelled, numbers, bytes}
+use Rattle.rules.specs.TableFile.{table_mark, rings_of, file_table, memory_labelled, numbers, bytes}
 use Rattle.rules.specs.Loads.{hyperperiod}
 use Rattle.rules.specs.Refusals.{Answers, pasted_row, file_checks, pasted_checks, given_checks, version_checks}
-use Rattle.rules.specs.Live.{Live, InOrder, Seated, places, held, place_of, common_of, common, present, rows_file_checks, Filed}
+use Rattle.rules.specs.Live.{Live, InOrder, held, place_of, common_of, common, present, rows_file_checks}
 use Rattle.rules.proofs.Answers.{None, Numbered, answered, none_join, single_none}
 use Rattle.rules.proofs.Calls.{call_none}
 use Rattle.round_trip.proofs.RoundTrip.{bytes_alike, memory_back, writer_numbered, written_none, written_back, written_passes}

@@ -1,7 +1,6 @@
 -- Only one answer fits each call of a live table.
 use mathlib.Core.Path.{◌≡◌, sym, ◌∙◌}
-use mathlib.Core.Logic.{◌⊎◌, ⊎_elim}
-use Rattle.rules.specs.Live as rules
+use mathlib.Core.Logic.{⊎_elim}
 use Rattle.rules.proofs.Calls.{call_only}
 use Rattle.live.specs.declared.Changed.{Changed}
 use Rattle.live.specs.State.{live_of}

@@ -1,12 +1,12 @@
 -- `files::put_present` meets its contract: place after place, the row that it holds is put after those before.
 use mathlib.Core.Path.{sym, ◌∙◌}
-use mathlib.Core.Logic.{⊎_elim}
 use Prim.Native.Nat.{◌-◌}
 use native.Mathlib.Omega.{arith}
 use borrow.Author.Rules.{rules}
 use Rattle.rules.specs.Bounds.{max_rows}
 use Rattle.live.proofs.Present.{Packing, packing_start, packing_free, packing_held, packing_end}
 use Rattle.live.proofs.files.put_present.Statement.{statement}
+use Rattle.live.proofs.files.put_present.Lts.{then-slots_at-ne0, else-slots_at-ne0}
 use Rattle.live.proofs.files.put_present.Tie as tie
 
 abbrev invariant-loop : tie.invariant-loop-i
@@ -49,13 +49,15 @@ loop-less c = search rules
 
 loop-again : tie.Need-loop-i-preserved invariant-loop decreases-loop
 loop-again c =
-    let s = c in
-    let u = s in
-    ⊎_elim
-    (λ w. rw (w.7, w.8) (packing_held u.loop-i.invariant (omega arith) (λ e. w.0.true (s.slots_at.ensures ∙ e)) u.requires
-    w.2.ensures w.4.ensures))
-    (λ w. rw (w.1, w.2) (packing_free u.loop-i.invariant (omega arith) (sym s.slots_at.ensures ∙ w.0.left)))
-    c.if-slots_at-ne0.branch
+    elim c.if-slots_at-ne0.branch [
+      | then-slots_at-ne0 w ↦
+          rw (w.out-is, w.rows-is)
+          (packing_held c.loop-i.invariant (omega arith) (λ e. w.if-slots_at-ne0.true (c.slots_at.ensures ∙ e)) c.requires
+          w.row_at.ensures w.put_numbers.ensures)
+      | else-slots_at-ne0 w ↦
+          rw (w.out-is, w.rows-is)
+          (packing_free c.loop-i.invariant (omega arith) (sym c.slots_at.ensures ∙ w.if-slots_at-ne0.false))
+    ]
 
 same_length : tie.Need-shape_of-out invariant-loop decreases-loop
 same_length c = c.loop-i.invariant.filled.same

@@ -2,7 +2,7 @@
 use mathlib.Core.Path.{sym}
 use native.Mathlib.Omega.{arith}
 use borrow.Author.Rules.{rules}
-use Rattle.numbers-1.proofs.Truth.{denied, granted}
+use Rattle.numbers.proofs.Truth.{denied, granted}
 use Rattle.rules.specs.TableFile.{numbers}
 use Rattle.live.specs.State.{live_of}
 use Rattle.live.proofs.Present.{present_few, present_length, present_numbers, file_off, file_written}
@@ -20,7 +20,7 @@ returns c =
     let i = c in
     let z = i.args in
     rw (c.at.ensures.0, c.at.ensures.1)
-    (file_off z.version (live_of z.t1) z.out.now (denied i.is_in_order.ensures c.if-not-is_in_order.true))
+    (file_off z.version (live_of z.live) z.out.now (denied i.is_in_order.ensures c.if-not-is_in_order.true))
 
 slice-aggregate-put-present : tie.Need-slice_bounds-put_present-end
 slice-aggregate-put-present c = search rules
@@ -51,7 +51,7 @@ returns-2 c =
     let e = p in
     let i = e in
     let z = i.args in
-    file_written z.version (live_of z.t1) z.out.now p.put_present-rows.result _ _ _ _
+    file_written z.version (live_of z.live) z.out.now p.put_present-rows.result _ _ _ _
     (granted i.is_in_order.ensures e.if-not-is_in_order.false) p.put_present-rows.ensures.rows (present_numbers p.put_present-rows.ensures)
     w.write_plain.ensures
 

@@ -4,7 +4,6 @@ use Prim.Native.Nat.{◌-◌}
 use native.Mathlib.Omega.{arith}
 use borrow.Author.Rules.{rules}
 use Rattle.rules.specs.Bounds.{max_rows}
-use Rattle.rules.specs.Live.{sum_over}
 use Rattle.live.specs.Tally.{column_places}
 use Rattle.live.proofs.Sums.{Adding, adding_start, adding_next, adding_end, place_row, row_alone, load_alone}
 use Rattle.live.proofs.tally.sum_of.Statement.{statement}
