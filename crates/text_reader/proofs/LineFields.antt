@@ -63,6 +63,7 @@ kept_filled : (k n : ℕ) (bs : List ℕ) (qs : List Part) → 0 < n → n ≤ l
     → kept has (part k (take n bs) ∷ qs) ≡ part k (take n bs) ∷ kept has qs
 unfolding kept
 kept_filled k n [] qs l m = absurd (let w : ⊥ = omega arith in w)
+kept_filled k zero (b ∷ bs) qs l m = elim l [ ]
 kept_filled k (suc n) (b ∷ bs) qs l m = refl
 
 -- up to the next blank

@@ -25,7 +25,7 @@ returns c =
     let l = c in
     let u = l in
     record {
-      answers = celled_stop u.loop-k.invariant (omega arith) l.Cell-at.ensures c.if-cell-ne0.true;
+      answers = celled_stop u.loop-k.invariant (omega arith) l.cell_at-cell.ensures c.if-cell-ne0.true;
       value = λ z. absurd (c.if-cell-ne0.true z);
       size = u.loop-k.invariant.size;
     }
@@ -45,7 +45,7 @@ loop-less c = omega arith
 loop-again : tie.Need-loop-k-preserved invariant-loop decreases-loop
 loop-again c =
     let l = c in
-    celled_next l.loop-k.invariant (omega arith) l.Cell-at.ensures c.if-cell-ne0.false
+    celled_next l.loop-k.invariant (omega arith) l.cell_at-cell.ensures c.if-cell-ne0.false
 
 returns-2 : tie.Need-returns invariant-loop decreases-loop
 returns-2 c =

@@ -20,7 +20,7 @@ cells z = none_of _ _ (cells_numbered _) (rw z.if-cells-ne0.false at z.first_cel
 lasts : (z : tie.Else-last-ne0)
     → let a = z.args in
     None (number_checks (last (part a.from a.line.now)))
-lasts z = none_of _ _ (numbers_numbered _) (rw z.if-last-ne0.false at z.Cell-at.ensures.answers)
+lasts z = none_of _ _ (numbers_numbered _) (rw z.if-last-ne0.false at z.cell_at-last.ensures.answers)
 
 first-cells-requires : tie.Need-first_cells-cells-requires
 first-cells-requires c κs = search rules
@@ -47,7 +47,7 @@ returns-2 c =
     let h = c.if-last-ne0.true in
     let a = c in
     record {
-      answers = rw (e.0, e.1) (form_last _ _ (cells a.before.before.before.before) _ _ h a.Cell-at.ensures.answers);
+      answers = rw (e.0, e.1) (form_last _ _ (cells a.before.before.before.before) _ _ h a.cell_at-last.ensures.answers);
       row = λ z. absurd (h (sym e.0 ∙ z));
     }
 
@@ -108,7 +108,7 @@ returns-4 c =
         period = v 1 (omega arith);
         first = v 2 (omega arith);
         second = v 3 (omega arith);
-        label = a.Cell-at.ensures.value n.if-last-ne0.false;
+        label = a.cell_at-last.ensures.value n.if-last-ne0.false;
       };
     }
 

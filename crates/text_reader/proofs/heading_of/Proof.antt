@@ -18,7 +18,7 @@ worded z = (z.is_no_heading.ensures z.args.from).fails z.if-is_no_heading.false
 cell : (z : tie.Else-cell-ne0)
     → let a = z.args in
     None (number_checks (field (part a.from a.line.now) 1))
-cell z = none_of _ _ (numbers_numbered _) (rw z.if-cell-ne0.false at z.Cell-at.ensures.answers)
+cell z = none_of _ _ (numbers_numbered _) (rw z.if-cell-ne0.false at z.cell_at-cell.ensures.answers)
 
 -- and nothing else
 shape : (z : tie.Else-shape-ne0)
@@ -60,7 +60,7 @@ returns-2 c =
     let h = c.if-cell-ne0.true in
     let a = c in
     record {
-      answers = rw (e.0, e.1) (heading_cell _ (worded a.before.before.before.before) _ _ h a.Cell-at.ensures.answers);
+      answers = rw (e.0, e.1) (heading_cell _ (worded a.before.before.before.before) _ _ h a.cell_at-cell.ensures.answers);
       elements = λ z. absurd (h (sym e.0 ∙ z));
       rings = λ z. absurd (h (sym e.0 ∙ z));
     }
@@ -102,7 +102,7 @@ returns-4 c =
     record {
       answers =
           heading_wrong _ (worded a.before.before.before.before.before.before.before.before.before.before) (cell s.before.before.before.before.before.before.before) (shape w.before.before.before.before) _
-          (a.Cell-at.ensures.value s.if-cell-ne0.false) _ _ e.0 (e.1 ∙ p.place_of-then-is_wrong_size.ensures)
+          (a.cell_at-cell.ensures.value s.if-cell-ne0.false) _ _ e.0 (e.1 ∙ p.place_of-then-is_wrong_size.ensures)
           (w.is_wrong_size.ensures.holds p.if-is_wrong_size.true);
       elements = λ z. absurd (let y : ⊥ = omega (arith, e.0, z) in y);
       rings = λ z. absurd (let y : ⊥ = omega (arith, e.0, z) in y);
@@ -116,7 +116,7 @@ returns-5 c =
     let w = c in
     let s = w in
     let a = s in
-    let v = a.Cell-at.ensures.value s.if-cell-ne0.false in
+    let v = a.cell_at-cell.ensures.value s.if-cell-ne0.false in
     record {
       answers =
           heading_right _ (worded a.before.before.before.before.before.before.before.before.before) (cell s.before.before.before.before.before.before) (shape w.before.before.before) _ v

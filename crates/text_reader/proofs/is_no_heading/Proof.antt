@@ -4,17 +4,11 @@ use Rattle.numbers.proofs.Truth.{decides_yes, decides_no}
 use Rattle.text_reader.proofs.is_no_heading.Statement.{statement}
 use Rattle.text_reader.proofs.is_no_heading.Tie as tie
 
-slice-aggregate-is-word : tie.Need-slice-aggregate-is-word
-slice-aggregate-is-word c = search rules
-
 is-word-requires : tie.Need-is_word-requires
 is-word-requires c κs = search rules
 
 returns : tie.Need-returns-then-is_word
-returns c = λ from. decides_no (λ w. w.0 ((c.is_IsWord.ensures from).holds c.if-is_word.true))
-
-slice-aggregate-is-word-2 : tie.Need-slice-aggregate-is-word-2
-slice-aggregate-is-word-2 c = search rules
+returns c = λ from. decides_no (λ w. w.0 ((c.is_word.ensures from).holds c.if-is_word.true))
 
 is-word-requires-2 : tie.Need-is_word-requires-2
 is-word-requires-2 c κs = search rules
@@ -25,16 +19,14 @@ returns-2 c = λ from. decides_no (λ w. w.1 ((c.is_word-2.ensures from).holds c
 returns-3 : tie.Need-returns
 returns-3 c =
     let z = c in
-    λ from. decides_yes ((z.is_IsWord.ensures from).fails z.if-is_word.false, (c.is_word-2.ensures from).fails c.if-is_word-2.false)
+    λ from. decides_yes ((z.is_word.ensures from).fails z.if-is_word.false, (c.is_word-2.ensures from).fails c.if-is_word-2.false)
 
 pub is_no_heading_spec : {M : Type 1} → statement M
 is_no_heading_spec =
     tie.close
     (tie.spec
-    slice-aggregate-is-word
     is-word-requires
     returns
-    slice-aggregate-is-word-2
     is-word-requires-2
     returns-2
     returns-3)

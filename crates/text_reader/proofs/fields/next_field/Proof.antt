@@ -12,8 +12,7 @@ stop-requires-2 c κs = search rules
 
 returns : tie.Need-returns
 returns c =
-    let z = c in
-    λ from. is_next from _ _ _ z.requires z.stop-start.ensures.0 c.stop-start.ensures.0
+    λ from. is_next from _ _ _ c.requires c.stop-start.ensures.0 c.stop.ensures.0
 
 pub next_field_spec : {M : Type 1} → statement M
 next_field_spec = tie.close (tie.spec stop-requires stop-requires-2 returns)

@@ -22,13 +22,13 @@ line-at-requires : tie.Need-line_at-line-requires invariant-loop decreases-loop
 line-at-requires c κs = search rules
 
 sub-next-field : tie.Need-slice_bounds-next_field-count invariant-loop decreases-loop
-sub-next-field c = omega (arith, c.line_at_lem.ensures.ordered)
+sub-next-field c = omega (arith, c.line_at-line.ensures.ordered)
 
 part-next-field-start : tie.Need-slice_bounds-next_field-start invariant-loop decreases-loop
-part-next-field-start c = omega (arith, c.line_at_lem.ensures.ordered)
+part-next-field-start c = omega (arith, c.line_at-line.ensures.ordered)
 
 part-next-field-end : tie.Need-slice_bounds-next_field-end invariant-loop decreases-loop
-part-next-field-end c = let l = c.line_at_lem.ensures in omega (arith, l.high, l.past)
+part-next-field-end c = let l = c.line_at-line.ensures in omega (arith, l.high, l.past)
 
 next-field-requires : tie.Need-next_field-first-requires invariant-loop decreases-loop
 next-field-requires c κs = omega arith
@@ -37,20 +37,20 @@ returns : tie.Need-returns-then-first invariant-loop decreases-loop
 returns c =
     let n = c in
     let l = n in
-    line_found l.line_at_lem.ensures (n.next_field-first.ensures l.line_at_lem.result.start) _ c.if-first.true
+    line_found l.line_at-line.ensures (n.next_field-first.ensures l.line_at-line.result.start) _ c.if-first.true
     l.loop-at.invariant.1
 
 loop-less : tie.Need-loop-at-smaller invariant-loop decreases-loop
 loop-less c =
-    let l = c.line_at_lem.ensures in
+    let l = c.line_at-line.ensures in
     omega (arith, l.start, l.ordered, l.high, l.past)
 
 loop-again : tie.Need-loop-at-preserved invariant-loop decreases-loop
 loop-again c =
     let n = c in
     let l = n in (
-      l.line_at_lem.ensures.past,
-      line_skipped l.line_at_lem.ensures (n.next_field-first.ensures l.line_at_lem.result.start) _ c.if-first.false
+      l.line_at-line.ensures.past,
+      line_skipped l.line_at-line.ensures (n.next_field-first.ensures l.line_at-line.result.start) _ c.if-first.false
           l.loop-at.invariant.1,
     )
 
