@@ -10,7 +10,7 @@ use Rattle.rules.specs.Bus.{Table}
 use Rattle.rules.specs.Line.{Sets}
 use Rattle.rules.specs.Refusals.{Check, Answers, short_output, sets_checks}
 use Rattle.rules.specs.Calls.{lent, Ask, admitted, line_ask, Listed}
-use Rattle.rules.proofs.Answers.{None, Numbered, done, none_of, none_left, numbered_join, answers_only}
+use Rattle.rules.proofs.Answers.{None, Numbered, none_of, none_left, numbered_join, answers_only}
 use Rattle.rules.proofs.Calls.{call_refused, call_short, call_done, call_after}
 use Rattle.rules.proofs.Sets.{sets_only}
 use Rattle.outline.specs.declared.Outline.{Outline}

@@ -1,5 +1,4 @@
 -- cut_on: the search on a ring that is there, or 1.
-use native.Mathlib.Omega.{arith}
 use borrow.Author.Rules.{rules}
 use Rattle.outline.proofs.Cuts.{searched_there, searched_not}
 use Rattle.outline.proofs.cut_on.Statement.{statement}

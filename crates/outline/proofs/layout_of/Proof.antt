@@ -51,7 +51,7 @@ refused-requires c κs = search rules
 
 returns : tie.Need-returns-then-uncut-lt-RINGS
 returns c cost s =
-    let u = c in
+    let u = c.before.before.before in
     rw c.refused.ensures
     (laid_refused _ (λ q. omega (arith, c.at.ensures.0))
     (answers_at _ _ _ _ c.at.ensures
@@ -76,21 +76,21 @@ module _ (e : tie.Else-uncut-lt-RINGS) (cost : ℕ → ℕ) (s : Sound (table (e
   has_cut : Element (entry e.before).args.elements e.before.before.before.cut_on-cut.result
   has_cut =
       let u = e.before in
-      cut_element s (is_cut u cost s) (is-other u cost s) u.lowest_uncut-uncut.ensures e.if-uncut-lt-RINGS.left
+      cut_element s (is_cut u cost s) (is-other u cost s) u.lowest_uncut-uncut.ensures e.if-uncut-lt-RINGS.false
 
   has_other : Element (entry e.before).args.elements e.before.before.cut_on-other.result
   has_other =
       let u = e.before in
-      other_element s (is_cut u cost s) (is-other u cost s) u.lowest_uncut-uncut.ensures e.if-uncut-lt-RINGS.left
+      other_element s (is_cut u cost s) (is-other u cost s) u.lowest_uncut-uncut.ensures e.if-uncut-lt-RINGS.false
 
 returns-2 : tie.Need-returns-then-time-eq0
 returns-2 c cost s =
-    let h = c in
-    let t = table (entry h.before.before.before.before.before.before) cost in
+    let e = c.before.before.before.before.before in
+    let t = table (entry e.before) cost in
     rw c.refused-then-time-eq0.ensures
     (laid_refused _ (λ q. omega (arith, c.at-then-time-eq0.ensures.0))
     (answers_at _ _ _ _ c.at-then-time-eq0.ensures
-    (long_refused t (has_cuts h.before cost s) (clocks_long s h.of-time.ensures c.if-time-eq0.true))))
+    (long_refused t (has_cuts e cost s) (clocks_long s c.of-time.ensures c.if-time-eq0.true))))
 
 -- ---- past both tests all is found
 
@@ -131,7 +131,7 @@ lay-requires c κs =
 returns-3 : tie.Need-returns
 returns-3 c cost z =
     let d = c.before.before.before in
-    let u = (asked d) in
+    let u = (asked d).before in
     let t = table (start d) cost in
     let q = is_cut u cost z in
     let o = is-other u cost z in

@@ -19,7 +19,7 @@ taken c = c.before.before.before
 abbrev bytes : tie.Else-answer-ne-DONE → List ℕ
 bytes c = (taken c).args.file.now
 
-checked : (c : tie.Else-answer-ne-DONE) → Answers (given_checks (bytes c)) 0 (taken c).given-found.result.answer-1.place
+checked : (c : tie.Else-answer-ne-DONE) → Answers (given_checks (bytes c)) 0 (taken c).given-found.result.answer.place
 checked c = answers_zero (given_checks (bytes c)) (taken c).given-found.result.answer c.if-answer-ne-DONE.false (taken c).given-found.ensures.answers
 
 held : (c : tie.Else-answer-ne-DONE) → table_of (taken c).given-found.result.columns ≡ file_table (bytes c)

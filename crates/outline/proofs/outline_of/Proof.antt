@@ -1,6 +1,5 @@
 -- outline_of: a layout, and the list of its sets.
 use Prim.Native.Nat.{ℕ}
-use native.Mathlib.Omega.{arith}
 use borrow.Author.Rules.{rules}
 use Rattle.rules.specs.Bus.{Table}
 use Rattle.outline.specs.Layout.{table_with}
@@ -36,13 +35,13 @@ list-sets-requires c κs =
     let e = unrefused c in
     let d = taken e in
     let p = d.requires in
-    lies_on_line (d.layout_of-laid.ensures p.0 p.1) e.if-answer-ne-DONE.left
+    lies_on_line (d.layout_of-laid.ensures p.0 p.1) e.if-answer-ne-DONE.false
 
 returns-2 : tie.Need-returns
 returns-2 c cost s =
     let L = c in
     let e = unrefused L.before.before.before in
-    outlined_laid ((taken e).layout_of-laid.ensures cost s) e.if-answer-ne-DONE.left _ _ L.list_sets-list.ensures
+    outlined_laid ((taken e).layout_of-laid.ensures cost s) e.if-answer-ne-DONE.false _ _ L.list_sets-list.ensures
 
 pub outline_of_spec : {M : Type 1} → statement M
 outline_of_spec =
