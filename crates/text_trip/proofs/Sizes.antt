@@ -3,7 +3,6 @@ use Prim.Native.Nat.{ℕ, ◌+◌, ◌*◌, ◌≤◌}
 use mathlib.Core.List.{List}
 use native.Mathlib.Omega.{arith}
 use lib.ListN.{length}
-use Rattle.numbers.specs.Lists.{at}
 use Rattle.numbers.specs.Codec.{read_low}
 use Rattle.numbers.proofs.Codec.{low_two}
 use Rattle.rules.specs.TableFile.{header_size, label_size, last_size, row_with, version, file_rings}
