@@ -1,22 +1,22 @@
 -- What a step promises from any state that isn't off, and the first steps of a fresh planner, proved.
-use mathlib.Core.Path.{◌≡◌, refl, sym, ap, ◌∙◌, subst}
+use mathlib.Core.Path.{◌≡◌, sym, ap, ◌∙◌, subst}
 use mathlib.Core.Logic.{⊎_elim}
 use mathlib.Core.List.{List}
-use Prim.Native.Nat.{ℕ, ◌+◌, ◌-◌, ◌*◌, ◌≤◌, ◌<◌}
-use native.Mathlib.Nat.{zero-add, eq-or-lt_of_le}
+use Prim.Native.Nat.{ℕ, ◌+◌, ◌*◌, ◌≤◌, ◌<◌}
+use native.Mathlib.Nat.{eq-or-lt_of_le}
 use native.Mathlib.Omega.{arith}
 use lib.ListN.{length}
 use Rattle.numbers.specs.Finite.{count}
 use Rattle.numbers.specs.Rounding.{Rounded}
 use Rattle.rules.specs.Bus.{Table}
-use Rattle.rules.specs.Loads.{hyperperiod, start, end, intervals, share}
+use Rattle.rules.specs.Loads.{start, end, intervals}
 use Rattle.rules.specs.Interval.{moves}
 use Rattle.rules.specs.Planner.{Planner, fresh, reached, Step, Run, none, more}
 use Rattle.lags.specs.Lags.{Admissible, NotOff}
 use Rattle.lags.proofs.Intervals.{end_next, end_far, start_last}
 use Rattle.lags.proofs.Lags.{rounded_share}
 use Rattle.lags.proofs.States.{not_off, next_reached, not_off_next}
-use Rattle.promises.specs.Steps.{Serves, StepServes, Served, RunServes}
+use Rattle.promises.specs.Steps.{Serves, StepServes, RunServes}
 use Rattle.promises.proofs.Words.{words_apart}
 use Rattle.promises.proofs.Plans.{Ran, ran}
 

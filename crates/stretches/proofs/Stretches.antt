@@ -16,7 +16,7 @@
 --                            it had no more; it had, and is parted
 --   fitted_end               where the stretch then ends
 use mathlib.Core.Path.{◌≡◌, refl, sym, ap, ◌∙◌, subst}
-use mathlib.Core.Logic.{◌⊎◌, inl, inr, ⊎_elim}
+use mathlib.Core.Logic.{inl, inr, ⊎_elim}
 use mathlib.Core.List.{List}
 use Prim.Native.Nat.{ℕ, suc, ◌+◌, ◌-◌, ◌≤◌, ◌<◌}
 use native.Mathlib.Nat.{not-suc-le-zero}
@@ -27,8 +27,7 @@ use Rattle.numbers.specs.Lists.{at}
 use Rattle.numbers.proofs.Truth.{le_or_lt}
 use Rattle.numbers.proofs.Finite.{below}
 use Rattle.stretches.specs.Stretches.{most_stretches, Tiles, Parted, Repeated, Spread}
-use Rattle.placing.specs.Filled.{Kept}
-use Rattle.placing.proofs.Kept.{kept_set, kept_of}
+use Rattle.placing.proofs.Kept.{kept_of}
 
 -- ---- a walk along the stretches
 

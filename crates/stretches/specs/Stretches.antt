@@ -10,7 +10,7 @@
 --                        the slots from `from` up to `to` have the word of the first of them
 --   Spread l of begin was now
 --                        each slot below l has the word of its stretch
-use Rattle.std.specs.Prelude.{◌≡◌, ◌⊎◌, List, ℕ, ◌+◌, ◌-◌, ◌≤◌, ◌<◌, length, set}
+use Rattle.std.specs.Prelude.{◌≡◌, ◌⊎◌, List, ℕ, ◌+◌, ◌≤◌, ◌<◌, length, set}
 use Rattle.numbers.specs.Lists.{at}
 use Rattle.rules.specs.Bounds.{max_rows}
 use Rattle.placing.specs.Filled.{Kept}
