@@ -35,8 +35,8 @@ returns c =
     let from = c in
     let way = from in
     let a = way.args in
-    through_is (table_of a.t1) a.i a.relay way.end_at.ensures from.end_at-2.ensures c.end_at-3.ensures
-    c.Goes-through.ensures
+    through_is (table_of a.columns) a.i a.relay way.end_at.ensures from.end_at-2.ensures c.end_at-3.ensures
+    c.goes_through.ensures
 
 pub goes_spec : {M : Type 1} → statement M
 goes_spec =

@@ -13,7 +13,7 @@ row-at-requires c κs = search rules
 returns : tie.Need-returns
 returns c =
     let e = c in
-    let a = e.args.t1 in
+    let a = e.args.columns in
     row_numbers_lem a c.row_at.ensures e.end_at-way.ensures
 
 pub row_of_spec : {M : Type 1} → statement M

@@ -30,7 +30,7 @@ to-relay-requires c κs = search rules
 with-row-requires : tie.Need-with_row-half-requires
 with-row-requires c κs =
     let z = c.before in
-    (omega (arith, two z), fits_first z.requires.1 z.requires.2 c.to_relay_jobs.ensures)
+    (omega (arith, two z), fits_first z.requires.1 z.requires.2 c.to_relay.ensures)
 
 from-relay-requires : tie.Need-from_relay-requires
 from-relay-requires c κs = search rules
@@ -38,15 +38,15 @@ from-relay-requires c κs = search rules
 with-row-requires-2 : tie.Need-with_row-requires
 with-row-requires-2 c κs =
     let z = c.before.before.before in
-    (omega (arith, two z, c.with_row-half.ensures.0), fits_second z.requires.1 z.requires.2 c.from_relay_jobs.ensures)
+    (omega (arith, two z, c.with_row-half.ensures.0), fits_second z.requires.1 z.requires.2 c.from_relay.ensures)
 
 returns : tie.Need-returns-then-goes
 returns c M d xs H =
     let z = c in
     let a = z.args in
-    let half = numbers_of c.to_relay_jobs.result in
-    holds_two M d xs a.relay a.goes (numbers_of a.row) _ _ z.if-goes.true c.to_relay_jobs.ensures
-    c.from_relay_jobs.ensures (c.with_row-half.ensures.1 M d (xs ++ (half ∷ [])) (c.with_row-half.ensures.1 M d xs H))
+    let half = numbers_of c.to_relay.result in
+    holds_two M d xs a.relay a.goes (numbers_of a.row) _ _ z.if-goes.true c.to_relay.ensures
+    c.from_relay.ensures (c.with_row.ensures.1 M d (xs ++ (half ∷ [])) (c.with_row-half.ensures.1 M d xs H))
 
 with-row-requires-3 : tie.Need-with_row-requires-2
 with-row-requires-3 c κs = (omega (arith, one c), c.requires.1)
