@@ -37,7 +37,7 @@ use Rattle.placing.proofs.Kept.{kept_none, kept_set}
 use Rattle.placing.proofs.Upto.{has, chosen, Upto, upto_none, upto_eq, upto_step, upto_words}
 use Rattle.placing.proofs.Scan.{within, within_is, within_of, Scan, scan_start, scan_skip, scan_take, scan_end}
 use Rattle.placing.proofs.Order.{taken, taken_is, taken_ahead, taken_more, taken_skip, taken_next, taken_none, taken_all, free_among}
-use Rattle.slots.specs.Plain.{is_open_now, open_at, RowPlaced, Cleared}
+use Rattle.slots.specs.Plain.{is_open, open_at, RowPlaced, Cleared}
 
 -- ---- clearing
 
@@ -67,7 +67,7 @@ module _ {f g : ℕ → ℕ} {i x l : ℕ} {was : List ℕ} where
     here {b} q u a c =
         let e : u ≡ s = omega arith in
         ap (open_at f g i was) e
-        ∙ subst (λ (w : ℕ). is_open_now f g i w ≡ b) (P.later s (omega arith) h) q
+        ∙ subst (λ (w : ℕ). is_open f g i w ≡ b) (P.later s (omega arith) h) q
 
     pub placing_skip : open_at f g i now s ≡ false → Placing f g i x l was (s + 1) left now
     placing_skip q = record {

@@ -1,6 +1,6 @@
 -- `fill` meets its contract: `Course` says what each of its loops keeps.
 use mathlib.Core.Path.{◌≡◌, refl, sym, ap, ◌∙◌}
-use mathlib.Core.Logic.{inl, inr, ⊎_elim}
+use mathlib.Core.Logic.{inl, inr}
 use mathlib.Core.List.{List}
 use Prim.Native.Nat.{ℕ, ◌+◌, ◌-◌, ◌^◌, ◌≤◌, ◌<◌}
 use native.Mathlib.Omega.{arith}
@@ -22,6 +22,7 @@ use Rattle.stretches.proofs.Course.{Coming, coming_start, coming_end, Along, alo
 use Rattle.stretches.proofs.Course.{Turning, turning_start, turning_skip, turning_take, turning_end}
 use Rattle.slots.proofs.fill.Statement.{statement}
 use Rattle.slots.proofs.fill.Tie as tie
+use Rattle.slots.proofs.fill.Lts.{else-slots-test, then-slots-test+then-left-eq0}
 
 abbrev invariant-slots : tie.invariant-slots
 invariant-slots second head next load top slots words₀ end₀ last₀ after₀ k₀ s₀ element r i row left₀ words end last after k s left =
@@ -90,7 +91,7 @@ abbrev start : AtElements → tie.Start invariant-slots decreases-slots invarian
 start c = c.before.before.before.before.before.before
 
 abbrev start_rows : AtRows → tie.Start invariant-slots decreases-slots invariant-loop2 decreases-loop2 invariant-loop decreases-loop
-start_rows c = start c.before.before.before
+start_rows c = start c.before.before.before.before
 
 abbrev rows_of : AtSlots → InRows
 rows_of c = c.before.before
@@ -150,7 +151,7 @@ loop-holds c =
 -- ---- at an element
 
 element-copy-out-r : tie.Need-bounds-head-element invariant-slots decreases-slots invariant-loop2 decreases-loop2 invariant-loop decreases-loop
-element-copy-out-r c = omega (arith, (start c.before).requires.0.2.low, c.loop-element-test.true)
+element-copy-out-r c = omega (arith, (start c.before.before).requires.0.2.low, c.loop-element-test.true)
 
 loop2-holds : tie.Need-loop-r-init invariant-slots decreases-slots invariant-loop2 decreases-loop2 invariant-loop decreases-loop
 loop2-holds c =
@@ -200,8 +201,11 @@ some : (c : Loaded) → 0 < (slots_of c).slots.left
 some c = omega (arith, c.if-left-eq0.false)
 
 -- it is one of those there can be
+low_in : (c : InSlots) → c.slots.k < most_stretches
+low_in c = stretched_low (c.slots.invariant.1 _ _ (start_slots c.before).requires.0.2).stretched c.slots-test.true
+
 low : (c : Loaded) → (slots_of c).slots.k < most_stretches
-low c = stretched_low ((slots_of c).slots.invariant.1 _ _ (start_slots (slots_of c)).requires.0.2).stretched (here c)
+low c = low_in c.before
 
 sized : (c : Loaded) → (length (slots_of c).slots.end ≡ most_stretches) × (length (slots_of c).slots.after ≡ most_stretches)
 sized c = let S = ((slots_of c).slots.invariant.1 _ _ (start_slots (slots_of c)).requires.0.2).stretched in (S.end_size, S.after_size)
@@ -218,10 +222,10 @@ ends c =
     (e.0, e.1, S.requires.1, T.room)
 
 mul-slot : tie.Need-offset_bounds-end-k invariant-slots decreases-slots invariant-loop2 decreases-loop2 invariant-loop decreases-loop
-mul-slot c = record { fits = omega (arith, low c) }
+mul-slot c = record { fits = omega (arith, low_in c.before) }
 
 array-read-slot : tie.Need-bounds-end-k invariant-slots decreases-slots invariant-loop2 decreases-loop2 invariant-loop decreases-loop
-array-read-slot c = low c
+array-read-slot c = low_in c.before
 
 slot-requires : tie.Need-slot-to-requires invariant-slots decreases-slots invariant-loop2 decreases-loop2 invariant-loop decreases-loop
 slot-requires c κs = search rules
@@ -243,12 +247,12 @@ wide-requires-2 c κs = search rules
 slots-less : tie.Need-slots-smaller-then-element-wide invariant-slots decreases-slots invariant-loop2 decreases-loop2 invariant-loop decreases-loop
 slots-less c =
     let S = c in
-    omega (arith, S.slot-to.ensures, ends S.before)
+    omega (arith, S.slot-to.ensures, ends S.before.before.before.before)
 
 slots-again : tie.Need-slots-preserved-then-element-wide invariant-slots decreases-slots invariant-loop2 decreases-loop2 invariant-loop decreases-loop
 slots-again c =
     let W = c in
-    let L = W in
+    let L = W.before.before.before.before in
     let I = (slots_of L).slots.invariant in (
       I.0,
       λ n f O.
@@ -303,7 +307,7 @@ add-part-2 c = record { fits = omega (arith, row_is (row_of (long_of c.before.be
 
 part-requires : tie.Need-part-requires invariant-slots decreases-slots invariant-loop2 decreases-loop2 invariant-loop decreases-loop
 part-requires c κs =
-    let M = c in
+    let M = c.before.before.before in
     let L = long_of M in
     let S = start_slots (slots_of L) in
     let T = ((slots_of L).slots.invariant.1 _ _ S.requires.0.2).stretched in (
@@ -316,26 +320,26 @@ part-requires c κs =
     )
 
 element-copy-out-last : tie.Need-bounds-second-i invariant-slots decreases-slots invariant-loop2 decreases-loop2 invariant-loop decreases-loop
-element-copy-out-last c = omega (arith, row_is (row_of (long_of c.before.before.before.before)))
+element-copy-out-last c = omega (arith, row_is (row_of (long_of c.before.before.before.before.before)))
 
 array-write-last : tie.Need-bounds-last-k-then-left-to invariant-slots decreases-slots invariant-loop2 decreases-loop2 invariant-loop decreases-loop
-array-write-last c = low (long_of c.before.before.before.before.before)
+array-write-last c = low (long_of c.before.before.before.before.before.before)
 
 add-s : tie.Need-overflow_add-s-then-left-to invariant-slots decreases-slots invariant-loop2 decreases-loop2 invariant-loop decreases-loop
-add-s c = record { fits = omega (arith, middle c.before.before.before.before.before) }
+add-s c = record { fits = omega (arith, middle c.before.before.before.before.before.before) }
 
 add-k : tie.Need-overflow_add-k invariant-slots decreases-slots invariant-loop2 decreases-loop2 invariant-loop decreases-loop
-add-k c = record { fits = omega (arith, row_is (row_of (long_of c.before.before.before.before.before))) }
+add-k c = record { fits = omega (arith, row_is (row_of (long_of c.before.before.before.before.before.before))) }
 
 slots-less-2 : tie.Need-slots-smaller-then-left-to invariant-slots decreases-slots invariant-loop2 decreases-loop2 invariant-loop decreases-loop
 slots-less-2 c =
-    let M = c in
+    let M = c.before.before.before.before.before.before in
     omega (arith, some (long_of M), here (long_of M))
 
 slots-again-2 : tie.Need-slots-preserved-then-left-to invariant-slots decreases-slots invariant-loop2 decreases-loop2 invariant-loop decreases-loop
 slots-again-2 c =
     let P = c.part.ensures in
-    let M = c in
+    let M = c.before.before.before.before.before.before in
     let L = long_of M in
     let l = (slots_of L).slots in
     let i = (row_of L).loop-r.r - 1 in
@@ -372,35 +376,35 @@ slice-write-words-3 : tie.Need-bounds-words-s-else-left-to invariant-slots decre
 slice-write-words-3 c = omega (arith, ends (short_of c))
 
 element-copy-out-last-2 : tie.Need-bounds-second-i-else-left-to invariant-slots decreases-slots invariant-loop2 decreases-loop2 invariant-loop decreases-loop
-element-copy-out-last-2 c = omega (arith, row_is (row_of (short_of c)))
+element-copy-out-last-2 c = omega (arith, row_is (row_of (short_of c.before)))
 
 array-write-last-2 : tie.Need-bounds-last-k-else-left-to invariant-slots decreases-slots invariant-loop2 decreases-loop2 invariant-loop decreases-loop
-array-write-last-2 c = low (short_of c.before)
+array-write-last-2 c = low (short_of c.before.before)
 
 sub-left : tie.Need-overflow_sub-left invariant-slots decreases-slots invariant-loop2 decreases-loop2 invariant-loop decreases-loop
 sub-left c =
-    let S = c in
+    let S = c.before.before in
     omega (arith, ends (short_of S), S.slot-to.ensures)
 
 sub-left-2 : tie.Need-overflow_sub-left-else-left-to invariant-slots decreases-slots invariant-loop2 decreases-loop2 invariant-loop decreases-loop
 sub-left-2 c =
-    let S = c in
+    let S = c.before.before in
     omega (arith, fitting S, S.slot-to.ensures)
 
 array-read-wide-3 : tie.Need-bounds-after-k-else-left-to invariant-slots decreases-slots invariant-loop2 decreases-loop2 invariant-loop decreases-loop
-array-read-wide-3 c = low (short_of c.before)
+array-read-wide-3 c = low (short_of c.before.before)
 
 wide-requires-3 : tie.Need-wide-k-requires-else-left-to invariant-slots decreases-slots invariant-loop2 decreases-loop2 invariant-loop decreases-loop
 wide-requires-3 c κs = search rules
 
 slots-less-3 : tie.Need-slots-smaller invariant-slots decreases-slots invariant-loop2 decreases-loop2 invariant-loop decreases-loop
 slots-less-3 c =
-    let S = c in
+    let S = c.before.before.before in
     omega (arith, ends (short_of S), S.slot-to.ensures)
 
 slots-again-3 : tie.Need-slots-preserved invariant-slots decreases-slots invariant-loop2 decreases-loop2 invariant-loop decreases-loop
 slots-again-3 c =
-    let S = c in
+    let S = c.before.before.before in
     let L = short_of S in
     let l = (slots_of L).slots in
     let i = (row_of L).loop-r.r - 1 in
@@ -417,11 +421,11 @@ slots-again-3 c =
 -- ---- the turn is over
 
 element-copy-out-r-2 : tie.Need-bounds-next-i invariant-slots decreases-slots invariant-loop2 decreases-loop2 invariant-loop decreases-loop
-element-copy-out-r-2 c = omega (arith, row_is (rows_of c.before))
+element-copy-out-r-2 c = omega (arith, row_is (rows_of c.before.before))
 
 loop2-less : tie.Need-loop-r-smaller invariant-slots decreases-slots invariant-loop2 decreases-loop2 invariant-loop decreases-loop
 loop2-less c =
-    let I = rows_of c.before.before in
+    let I = rows_of c.before.before.before in
     let r = row_is I in
     let O = (start_rows I.before).requires.0.2 in
     let m = link_row (I.loop-r.invariant.1 _ _ O).link in
@@ -429,12 +433,17 @@ loop2-less c =
 
 loop2-again : tie.Need-loop-r-preserved invariant-slots decreases-slots invariant-loop2 decreases-loop2 invariant-loop decreases-loop
 loop2-again c =
-    let I = rows_of c.before.before in
+    let I = rows_of c.before.before.before in
     let l = c.slots in (
       kept_trans I.loop-r.invariant.0 l.invariant.0,
       λ n f O.
           let T = l.invariant.1 n f O in
-          turning_end T (⊎_elim (λ z. inl z.left) (λ z. inr (omega (arith, z.1.true))) c.slots-test.branch)
+          turning_end T (
+          elim c.slots-test.branch [
+            | else-slots-test z ↦ inl z.slots-test.false
+            | then-slots-test+then-left-eq0 z ↦ inr (omega (arith, z.if-left-eq0.true))
+          ]
+          )
           (O.chained.nexts (I.loop-r.r - 1) (omega arith) T.row),
     )
 
@@ -459,7 +468,7 @@ loop-again c =
 
 spread-requires : tie.Need-spread-requires invariant-slots decreases-slots invariant-loop2 decreases-loop2 invariant-loop decreases-loop
 spread-requires c κs =
-    let L = c in
+    let L = c.before.before.before.before in
     let S = (L.loop-element.invariant.3 _ _ (start L).requires.0.2).stretched in
     ((S.of, S.begin, S.tiles), S.room)
 

@@ -23,32 +23,32 @@ loop-holds c = (refl, λ of begin t. spreading_start t _)
 
 -- in a turn: the stretch is one of those there can be, and it ends past slot s
 module _ (c : tie.In-loop-s invariant-loop decreases-loop) where
-  low : c.before.loop-s.k < most_stretches
+  low : c.loop-s.k < most_stretches
   low =
-      let p = c.before.before.before.requires.0 in
-      cursor_low p.2 (c.before.loop-s.invariant.1 p.0 p.1 p.2).cursor c.loop-s-test.true
+      let p = c.requires.0 in
+      cursor_low p.2 (c.loop-s.invariant.1 p.0 p.1 p.2).cursor c.loop-s-test.true
 
-  ends : (c.before.loop-s.s < at c.before.before.before.args.end.now c.before.loop-s.k)
-      × (at c.before.before.before.args.end.now c.before.loop-s.k ≤ c.before.before.before.args.slots)
+  ends : (c.loop-s.s < at c.args.end.now c.loop-s.k)
+      × (at c.args.end.now c.loop-s.k ≤ c.args.slots)
   ends =
-      let p = c.before.before.before.requires.0 in
-      cursor_end p.2 (c.before.loop-s.invariant.1 p.0 p.1 p.2).cursor c.loop-s-test.true
+      let p = c.requires.0 in
+      cursor_end p.2 (c.loop-s.invariant.1 p.0 p.1 p.2).cursor c.loop-s-test.true
 
 mul-to : tie.Need-offset_bounds-end-k invariant-loop decreases-loop
 mul-to c = omega (arith, low c)
 
 element-copy-out-to : tie.Need-bounds-end-k invariant-loop decreases-loop
-element-copy-out-to c = low c
+element-copy-out-to c = low c.before
 
 cast-to : tie.Need-overflow_cast-to invariant-loop decreases-loop
 cast-to c = record { fits = omega (arith, low c) }
 
 cast-to-2 : tie.Need-overflow_cast-to-in-loop-s invariant-loop decreases-loop
-cast-to-2 c = record { fits = omega (arith, ends c.before) }
+cast-to-2 c = record { fits = omega (arith, ends c.before.before) }
 
 repeat-requires : tie.Need-repeat-requires invariant-loop decreases-loop
 repeat-requires c κs =
-    let e = ends c.before.before in (omega arith, omega arith)
+    let e = ends c.before.before.before in (omega arith, omega arith)
 
 -- the turn, from its end
 abbrev turn : tie.After-slice_known-in-loop-s-1 invariant-loop decreases-loop → tie.In-loop-s invariant-loop decreases-loop

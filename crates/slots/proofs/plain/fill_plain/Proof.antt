@@ -44,7 +44,7 @@ abbrev start : AtElements → tie.Start invariant-loop2 decreases-loop2 invarian
 start c = c.before.before.before.before.before.before
 
 abbrev start_rows : AtRows → tie.Start invariant-loop2 decreases-loop2 invariant-loop decreases-loop
-start_rows c = start c.before.before.before
+start_rows c = start c.before.before.before.before
 
 -- ---- before the first element
 
@@ -58,7 +58,7 @@ loop-holds c =
 -- ---- at an element
 
 element-copy-out-r : tie.Need-bounds-head-element invariant-loop2 decreases-loop2 invariant-loop decreases-loop
-element-copy-out-r c = omega (arith, (start c.before).requires.0.1.low, c.loop-element-test.true)
+element-copy-out-r c = omega (arith, (start c.before.before).requires.0.1.low, c.loop-element-test.true)
 
 loop2-holds : tie.Need-loop-r-init invariant-loop2 decreases-loop2 invariant-loop decreases-loop
 loop2-holds c =
@@ -79,7 +79,7 @@ row_is c =
 -- there is room for all slots
 room : (c : AtRows) → (start_rows c).args.slots ≤ length c.loop-r.words
 room c =
-    let L = c.before.before.before in
+    let L = c.before.before.before.before in
     omega (
       arith,
       (start L).requires.1,
@@ -99,7 +99,7 @@ slots-at-requires c κs = omega (arith, row_is c)
 
 place-row-requires : tie.Need-place_row-requires invariant-loop2 decreases-loop2 invariant-loop decreases-loop
 place-row-requires c κs =
-    let I = c in
+    let I = c.before.before in
     (omega (arith, row_is I), room I.before)
 
 abbrev rows_of : tie.After-slice_known-in-loop-r-1 invariant-loop2 decreases-loop2 invariant-loop decreases-loop → InRows

@@ -1,6 +1,6 @@
 -- `place_row` meets its contract: `Placing` says what its loop keeps.
 use mathlib.Core.Path.{sym, ap, ◌∙◌}
-use mathlib.Core.Logic.{inl, inr, ⊎_elim}
+use mathlib.Core.Logic.{inl, inr}
 use Prim.Native.Nat.{◌-◌, ◌<◌}
 use native.Mathlib.Omega.{arith}
 use lib.Bits.{bit_or}
@@ -10,6 +10,7 @@ use Rattle.numbers.proofs.Word.{one_shl}
 use Rattle.slots.proofs.PlainWalk.{Placing, placing_start, placing_skip, placing_take, placing_end}
 use Rattle.slots.proofs.plain.place_row.Statement.{statement}
 use Rattle.slots.proofs.plain.place_row.Tie as tie
+use Rattle.slots.proofs.plain.place_row.Lts.{then-is_free, else-is_free}
 
 abbrev invariant-slots : tie.invariant-slots
 invariant-slots first second i load slots words₀ row left₀ s₀ words left s =
@@ -65,14 +66,13 @@ slots-again c =
     let l = I.slots in
     let z = I.args in
     let opens = sym c.is_free.ensures in
-    ⊎_elim
-    (λ w.
-    rw (w.2, w.3)
-    (placing_take l.invariant I.slots-test.true
-    (omega (arith, l.invariant.kept.long, I.requires.1)) (opens ∙ w.0.true) (omega (arith, e.if-left-eq0.false))
-    (ap (bit_or (at l.words l.s)) (one_shl z.i I.requires.0))))
-    (λ w. rw (w.1, w.2) (placing_skip l.invariant I.slots-test.true (opens ∙ w.0.left)))
-    c.if-is_free.branch
+    elim c.if-is_free.branch [
+      | then-is_free w ↦ rw (w.words-is, w.left-is)
+          (placing_take l.invariant I.slots-test.true
+          (omega (arith, l.invariant.kept.long, I.requires.1)) (opens ∙ w.if-is_free.true) (omega (arith, e.if-left-eq0.false))
+          (ap (bit_or (at l.words l.s)) (one_shl z.i I.requires.0)))
+      | else-is_free w ↦ rw (w.words-is, w.left-is) (placing_skip l.invariant I.slots-test.true (opens ∙ w.if-is_free.false))
+    ]
 
 same_length : tie.Need-shape_of-words-after-slots invariant-slots decreases-slots
 same_length c = c.slots.invariant.kept.long
