@@ -12,7 +12,7 @@ use Rattle.rules.specs.TableFile.{file_table}
 use Rattle.numbers.specs.Finite.{lowest}
 use Rattle.numbers.specs.Divisors.{lcm}
 use Rattle.rules.specs.Loads.{hyperperiod, reported}
-use Rattle.rules.specs.Refusals.{Check, Answers, given_checks, line_checks, bound_checks, verdict_checks}
+use Rattle.rules.specs.Refusals.{Check, Answers, given_checks, line_checks, bound_checks}
 use Rattle.rules.specs.Calls as calls
 use Rattle.rules.proofs.Answers.{None, Numbered, none_of, stopped, joined, answered, answers_only, none_position, position_none}
 use Rattle.rules.proofs.Sets.{sets_only}

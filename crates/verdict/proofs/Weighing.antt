@@ -10,10 +10,10 @@ use native.Mathlib.Omega.{arith}
 use lib.Dec.{T, ltb, eqb, eqb→eq, lt→ltb}
 use borrow.Author.Count.{below_more}
 use borrow.Author.Tests.{le-ltb}
-use Rattle.numbers.specs.Finite.{every, lowest, largest}
+use Rattle.numbers.specs.Finite.{lowest, largest}
 use Rattle.numbers.specs.Word.{bit}
 use Rattle.numbers.specs.Lists.{at}
-use Rattle.numbers.proofs.Truth.{both, fst, snd, decide, is_true, is_false, of_true, eqb_of, le_or_lt, refutes}
+use Rattle.numbers.proofs.Truth.{both, fst, snd, decide, is_true, is_false, of_true, eqb_of, le_or_lt}
 use Rattle.numbers.proofs.Finite.{every_of, lowest_is, lowest_none, lowest_le, lowest_has, lowest_below, lowest_eq}
 use Rattle.numbers.proofs.Finite.{sum_in_eq, sum_in_most, largest_next, largest_eq}
 use Rattle.rules.specs.Bounds.{max_rows, max_slots}

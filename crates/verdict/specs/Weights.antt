@@ -7,7 +7,7 @@
 --   SumsAt n ends xs ys  for each element of the line the sum of xs over the n rows that have this end there
 --   Weighed n xs k ws e h l over largest
 --                        what one pass over k sets finds: the lowest set over its bound (k where none is), and the largest load
-use Rattle.std.specs.Prelude.{◌≡◌, Bool, not, ◌&&◌, cond, List, ℕ, ◌+◌, ◌-◌, ◌*◌, ◌≤◌, ◌<◌, ltb, eqb, length}
+use Rattle.std.specs.Prelude.{◌≡◌, Bool, not, ◌&&◌, cond, List, ℕ, ◌+◌, ◌*◌, ◌≤◌, ◌<◌, eqb, length}
 use Rattle.numbers.specs.Finite.{lowest, sum_in}
 use Rattle.numbers.specs.Finite as finite
 use Rattle.numbers.specs.Word.{bit}

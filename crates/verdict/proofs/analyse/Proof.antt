@@ -25,10 +25,10 @@ bytes c = (taken c).args.file.now
 abbrev columns : tie.Else-answer-ne-DONE → Columns
 columns c =
     let g = (taken c).given_into-head in
-    let xs = g.last in
-    columns_by g.result xs.1.0 xs.1.1.0 xs.1.1.1.0 xs.1.1.1.1.0 xs.1.1.1.1.1.0
+    let xs = g.new in
+    columns_by g.result xs.cost xs.period xs.first xs.second xs.way
 
-checked : (c : tie.Else-answer-ne-DONE) → Answers (given_checks (bytes c)) 0 (taken c).given_into-head.result.answer-1.place
+checked : (c : tie.Else-answer-ne-DONE) → Answers (given_checks (bytes c)) 0 (taken c).given_into-head.result.answer.place
 checked c =
     let g = (taken c).given_into-head in
     answers_zero (given_checks (bytes c)) g.result.answer c.if-answer-ne-DONE.false g.ensures.answers

@@ -49,7 +49,7 @@ ready : (d : tie.After-put_rates-light)
     d.put_rates-light.new.rate
 ready d =
     let e = unrefused d in
-    let F = (laid (asked e)).found e.if-answer-ne-DONE.left in
+    let F = (laid (asked e)).found e.if-answer-ne-DONE.false in
     record {
       rows_is = refl;
       weighed = rows_weighed F.timed d.put_rates-light.ensures;
@@ -78,19 +78,19 @@ returns-2 : tie.Need-returns-then-next-ne-DONE
 returns-2 c =
     let w = c.before.before.before in
     let e = unrefused (rated w) in
-    judged_next (laid (asked e)) e.if-answer-ne-DONE.left _ (weighed w) c.if-next-ne-DONE.true
+    judged_next (laid (asked e)) e.if-answer-ne-DONE.false _ (weighed w) c.if-next-ne-DONE.true
 
 -- past the second refusal it is admitted
 abbrev passed : tie.Else-next-ne-DONE → tie.After-weigh-weighing
 passed e = e.before.before.before
 
 lies : (e : tie.Else-next-ne-DONE) → let a = asked (unrefused (rated (passed e))) in Lies (table a) a.layout_of-laid.result
-lies e = let u = unrefused (rated (passed e)) in (laid (asked u)).found u.if-answer-ne-DONE.left
+lies e = let u = unrefused (rated (passed e)) in (laid (asked u)).found u.if-answer-ne-DONE.false
 
 small : (e : tie.Else-next-ne-DONE) → let r = (passed e).weigh-weighing.result in (r.load ≤ 1000) × (r.sets ≤ max_rows)
 small e =
     let u = unrefused (rated (passed e)) in
-    values_small (laid (asked u)) u.if-answer-ne-DONE.left _ (weighed (passed e)) e.if-next-ne-DONE.false
+    values_small (laid (asked u)) u.if-answer-ne-DONE.false _ (weighed (passed e)) e.if-next-ne-DONE.false
 
 cast-t23 : tie.Need-overflow_cast-result
 cast-t23 c =
@@ -124,7 +124,7 @@ returns-3 : tie.Need-returns
 returns-3 c =
     let e = c.before.before.before.before in
     let u = unrefused (rated (passed e)) in
-    judged_admitted (laid (asked u)) u.if-answer-ne-DONE.left _ (weighed (passed e)) e.if-next-ne-DONE.false
+    judged_admitted (laid (asked u)) u.if-answer-ne-DONE.false _ (weighed (passed e)) e.if-next-ne-DONE.false
 
 pub judge_table_spec : {M : Type 1} → statement M
 judge_table_spec =

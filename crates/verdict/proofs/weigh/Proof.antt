@@ -1,5 +1,5 @@
 -- weigh: each return answers 13 and 14, and the last has what is found of the sets.
-use mathlib.Core.Path.{◌≡◌, refl, ap, ◌∙◌}
+use mathlib.Core.Path.{refl, ap, ◌∙◌}
 use native.Mathlib.Omega.{arith}
 use borrow.Author.Rules.{rules}
 use Rattle.table.specs.declared.Answer.{Answer}

@@ -4,7 +4,6 @@ use lib.ListN.{replicate}
 use borrow.Author.Rules.{rules}
 use Rattle.rules.specs.Bounds.{max_rows}
 use Rattle.outline.specs.declared.Outline.{Outline}
-use Rattle.verdict.specs.declared.Analysis.{Analysis}
 use Rattle.verdict.proofs.Analysis.refused.Statement.{statement}
 use Rattle.verdict.proofs.Analysis.refused.Tie as tie
 

@@ -61,24 +61,26 @@ ends : (c : tie.In-loop-e invariant-loop decreases-loop)
 ends c = sums_there (leaves c) (entry c).requires.1.some _ (on_line c)
 
 mul-starting : tie.Need-offset_bounds-joining-e invariant-loop decreases-loop
-mul-starting c = omega (arith, on_line c)
+mul-starting c = omega (arith, c.requires.0.short)
 
 array-read-starting : tie.Need-bounds-joining-e invariant-loop decreases-loop
-array-read-starting c = omega (arith, on_line c, (joins c).size)
+array-read-starting c = omega (arith, c.requires.0.short, c.rates_at.ensures.0.size)
 
 cast-starting : tie.Need-overflow_cast-starting invariant-loop decreases-loop
 cast-starting c =
-    omega (arith, sums_small (joins c) (λ j m. (entry c).requires.1.small j m) _ (on_line c), (entry c).requires.1.few)
+    let on : c.loop-e.e < line_size = omega (arith, c.requires.0.short) in
+    omega (arith, sums_small c.rates_at.ensures.0 (λ j m. c.requires.1.small j m) _ on, c.requires.1.few)
 
 mul-ending : tie.Need-offset_bounds-leaving-e invariant-loop decreases-loop
-mul-ending c = omega (arith, on_line c)
+mul-ending c = omega (arith, c.requires.0.short)
 
 array-read-ending : tie.Need-bounds-leaving-e invariant-loop decreases-loop
-array-read-ending c = omega (arith, on_line c, (leaves c).size)
+array-read-ending c = omega (arith, c.requires.0.short, c.rates_at.ensures.1.size)
 
 cast-ending : tie.Need-overflow_cast-ending invariant-loop decreases-loop
 cast-ending c =
-    omega (arith, sums_small (leaves c) (λ j m. (entry c).requires.1.small j m) _ (on_line c), (entry c).requires.1.few)
+    let on : c.loop-e.e < line_size = omega (arith, c.requires.0.short) in
+    omega (arith, sums_small c.rates_at.ensures.1 (λ j m. c.requires.1.small j m) _ on, c.requires.1.few)
 
 closes-requires : tie.Need-closes-requires invariant-loop decreases-loop
 closes-requires c κs = search rules
