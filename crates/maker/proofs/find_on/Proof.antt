@@ -17,7 +17,7 @@ abbrev start : tie.After-fault-answer → tie.Start
 start c = c.before.before.before.before.before.before.before.before
 
 abbrev table : tie.Start → Table
-table c = table_of c.args.t1
+table c = table_of c.args.table
 
 -- what 29, 19 and 17 answer
 checked : (c : tie.After-fault-answer)
@@ -66,7 +66,7 @@ count-requires c κs =
     let n = none e in (
       omega (arith, s.requires.1, long_of s.requires.0 s.args.plan.now s.args.element n),
       s.requires.2,
-      rw (s.requires.1, c.ending_at-from.ensures, c.Ending-at.ensures)
+      rw (s.requires.1, c.ending_at-from.ensures, c.ending_at-into.ensures)
           (clear_of s.requires.0 s.args.plan.now s.args.element s.requires.3 n),
     )
 
@@ -75,7 +75,7 @@ returns-2 c =
     let e = c.before.before.before.before.before in
     let s = start (faulted e) in
     found_ready s.requires.0 s.args.plan.now s.args.element _ s.requires.3 (none e) (checked (faulted e)) s.requires.1 s.requires.2
-    c.Ending-at.ensures c.ending_at-from.ensures c.count.ensures.0 c.count.ensures.1
+    c.ending_at-into.ensures c.ending_at-from.ensures c.count.ensures.0 c.count.ensures.1
 
 pub find_on_spec : {M : Type 1} → statement M
 find_on_spec =

@@ -1,6 +1,5 @@
 -- `moves::ending_at` meets its contract.
 use mathlib.Core.Path.{◌≡◌, sym, ◌∙◌}
-use mathlib.Core.Logic.{⊎_elim}
 use mathlib.Core.Bool.{Bool}
 use Prim.Native.Nat.{ℕ, ◌-◌, ◌≤◌}
 use native.Mathlib.Omega.{arith}
@@ -12,6 +11,7 @@ use Rattle.numbers.proofs.Word.{word_in, word_out}
 use Rattle.maker.specs.Words.{ending_at}
 use Rattle.maker.proofs.Words.{ending_none}
 use Rattle.maker.proofs.moves.ending_at.Statement.{statement}
+use Rattle.maker.proofs.moves.ending_at.Lts.{then-end_at-element, else-end_at-element}
 use Rattle.maker.proofs.moves.ending_at.Tie as tie
 
 abbrev invariant-loop : tie.invariant-loop-i
@@ -42,10 +42,12 @@ loop-again c =
     let e = c.end_at.ensures in
     let p : ℕ → Bool = λ i. eqb (at z.args.ends.now i) z.args.element in (
       omega arith,
-      ⊎_elim
-          (λ w. w.1 ∙ word_in u.i p _ (omega (arith, z.requires)) u.invariant.1 (eqb_of _ _ (sym e ∙ w.0.true)))
-          (λ w. w.1 ∙ word_out u.i p _ u.invariant.1 (λ t. w.0.left (e ∙ eqb→eq _ _ t)))
-          c.if-end_at-element.branch,
+      elim c.if-end_at-element.branch [
+        then-end_at-element w ↦
+          w.word-is ∙ word_in u.i p _ (omega (arith, z.requires)) u.invariant.1 (eqb_of _ _ (sym e ∙ w.if-end_at-element.true))
+      | else-end_at-element w ↦
+          w.word-is ∙ word_out u.i p _ u.invariant.1 (λ t. w.if-end_at-element.false (e ∙ eqb→eq _ _ t))
+      ],
     )
 
 returns : tie.Need-returns invariant-loop decreases-loop

@@ -1,6 +1,6 @@
 -- `moves::is_bad` meets its contract.
 use mathlib.Core.Path.{◌≡◌, sym, ap, ◌∙◌}
-use mathlib.Core.Logic.{inl, ⊎_elim}
+use mathlib.Core.Logic.{inl}
 use mathlib.Core.List.{List}
 use Prim.Native.Nat.{ℕ, ◌-◌, ◌≤◌, ◌<◌}
 use native.Mathlib.Omega.{arith}
@@ -12,6 +12,7 @@ use Rattle.maker.specs.Words.{Segmented}
 use Rattle.maker.proofs.Bad.{Used, used_start, used_skip, used_add, used_stop, used_end}
 use Rattle.maker.proofs.Words.{bit_is, bit_is_not}
 use Rattle.maker.proofs.moves.is_bad.Statement.{statement}
+use Rattle.maker.proofs.moves.is_bad.Lts.{then-word-i-eq1+else-used-segments-ne0, else-word-i-eq1}
 use Rattle.maker.proofs.moves.is_bad.Tie as tie
 
 abbrev invariant-loop : tie.invariant-loop-i
@@ -64,14 +65,14 @@ loop-again c =
     let a = c.args in (
       omega arith,
       λ t e l.
-          ⊎_elim
-          (λ w.
-          let g = w.1.ensures ∙ l.row u.i (omega (arith, e, m)) in
-          rw (w.3 ∙ ap (bit_or u.used) g)
-          (used_add (u.invariant.1 t e l) (bit_is a.word u.i w.0.true) (ways l u.i (omega (arith, e, m)))
-          (ap (bit_and u.used) (sym g) ∙ w.2.left)))
-          (λ w. rw w.1 (used_skip (u.invariant.1 t e l) (bit_is_not a.word u.i w.0.left)))
-          c.if-word-i-eq1.branch,
+          elim c.if-word-i-eq1.branch [
+            then-word-i-eq1+else-used-segments-ne0 w ↦
+              let g = w.segments_at-segments.ensures ∙ l.row u.i (omega (arith, e, m)) in
+              rw (w.used-is ∙ ap (bit_or u.used) g)
+              (used_add (u.invariant.1 t e l) (bit_is a.word u.i w.if-word-i-eq1.true) (ways l u.i (omega (arith, e, m)))
+              (ap (bit_and u.used) (sym g) ∙ w.if-used-segments-ne0.false))
+          | else-word-i-eq1 w ↦ rw w.used-is (used_skip (u.invariant.1 t e l) (bit_is_not a.word u.i w.if-word-i-eq1.false))
+          ],
     )
 
 returns-3 : tie.Need-returns invariant-loop decreases-loop
