@@ -17,7 +17,7 @@ use Rattle.numbers.proofs.Finite.{lowest_is, lowest_has, lowest_under, lowest_le
 use Rattle.numbers.proofs.Word.{bit_zero, bit_word}
 use Rattle.rules.specs.Bounds.{max_rings}
 use Rattle.rules.specs.Bus.{Table}
-use Rattle.rules.specs.Line.{on_line_set, line_first, line_second, meet, SetList, Sets}
+use Rattle.rules.specs.Line.{on_line, line_first, line_second, meet, SetList, Sets}
 use Rattle.table.specs.Columns.{ByRow}
 use Rattle.table.proofs.ByRow.{past_end}
 use Rattle.ring.specs.Route.{line_element, line_end}
@@ -90,7 +90,7 @@ module _ {t : Table} (A : Admissible t) {ws : List ℕ} (S : Sets t ws) where
 module _ {t : Table} (A : Admissible t) where
   row_own : (i : ℕ) → i < t.rows → (t.way i * (t.elements + 1) < line_first t i)
       × (line_second t i ≤ t.way i * (t.elements + 1) + (t.elements + 1))
-  unfolding line_first line_second on_line_set line_element line_end
+  unfolding line_first line_second on_line line_element line_end
   row_own i l = (omega arith, omega (arith, route_high (row_route t A.sound A.clear i l)))
 
   -- those of the second ring start past the elements of the first
