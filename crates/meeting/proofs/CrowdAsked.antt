@@ -1,7 +1,7 @@
 -- What is answered of a set: 1 to 9, 18, 10 and 11, then 32, then its rows and where they meet.
 use mathlib.Core.Path.{◌≡◌, refl, sym, ap, subst, ◌∙◌}
 use mathlib.Core.Logic.{◌≢◌}
-use mathlib.Core.Bool.{Bool, not, ◌||◌}
+use mathlib.Core.Bool.{not, ◌||◌}
 use mathlib.Core.List.{List, [], ◌∷◌}
 use Prim.Native.Nat.{ℕ, ◌≤◌, ◌<◌}
 use native.Mathlib.Omega.{arith}
@@ -12,7 +12,6 @@ use Rattle.numbers.specs.Word.{bit}
 use Rattle.rules.specs.Bounds.{max_rows}
 use Rattle.rules.specs.Bus.{Table, common}
 use Rattle.rules.specs.TableFile.{file_table, file_labelled}
-use Rattle.rules.specs.Line.{Sets, set_at}
 use Rattle.rules.specs.Refusals.{Check, no_set, given_checks, line_checks, set_checks}
 use Rattle.rules.specs.Calls.{Crowded}
 use Rattle.rules.proofs.Answers.{None, applied, passed, done, stopped, joined, none_of, none_join}

@@ -7,7 +7,7 @@ use native.Mathlib.Omega.{arith}
 use Rattle.numbers.specs.Lists.{at}
 use Rattle.rules.specs.Bus.{common}
 use Rattle.rules.specs.TableFile.{file_table}
-use Rattle.rules.specs.Line.{Sets, set_at}
+use Rattle.rules.specs.Line.{set_at}
 use Rattle.rules.specs.Refusals.{Check, Answers, given_checks, line_checks, set_checks, no_set}
 use Rattle.rules.specs.Calls.{Crowded}
 use Rattle.rules.proofs.Answers.{None, Numbered, none_of, none_left, numbered_join, answers_only}

@@ -2,13 +2,12 @@
 -- line of one ring.
 use mathlib.Core.Path.{◌≡◌, refl, sym, ap, ◌∙◌}
 use mathlib.Core.Logic.{⊎_elim, ◌≢◌}
-use mathlib.Core.Bool.{Bool, not, ◌&&◌, ◌||◌}
-use mathlib.Core.List.{List}
+use mathlib.Core.Bool.{Bool, not, ◌&&◌}
 use Prim.Native.Nat.{ℕ, suc, ◌+◌, ◌-◌, ◌≤◌, ◌<◌}
 use native.Mathlib.Omega.{arith}
 use lib.Dec.{T, ltb, leb, eqb, ltb→lt, lt→ltb, le→leb, eqb→eq}
-use Rattle.numbers.specs.Finite.{any, every, highest}
-use Rattle.numbers.specs.Word.{bit, word}
+use Rattle.numbers.specs.Finite.{any, highest}
+use Rattle.numbers.specs.Word.{bit}
 use Rattle.numbers.proofs.Truth.{both, fst, snd, orl, orr, along, of_false, decide, refuted, eqb_of}
 use Rattle.numbers.proofs.Finite.{any_of, least, every_of, highest_has, highest_above}
 use Rattle.numbers.proofs.Word.{bit_word, bit_zero}
@@ -64,7 +63,7 @@ module _ (t : Table) (sound : Sound t) (some : HasCuts t) (D : ℕ → Bool) (O 
 
   starts : Element t.elements (ring_first t last.row)
   starts =
-      let row = sound.row last.row (O.rows last.row last.is-in) in
+      let row = sound.row last.row (O.rows last.row last.is_in) in
       mirror_element ring (record { low = row.first_low; high = row.first_high })
 
   abbrev at : ℕ
@@ -77,7 +76,7 @@ module _ (t : Table) (sound : Sound t) (some : HasCuts t) (D : ℕ → Bool) (O 
   one_ring : (i : ℕ) → T (D i) → t.way i ≡ ring
   unfolding overlap
   one_ring i d =
-      let w = least t.elements _ (O.pairs i last.row d last.is-in) in
+      let w = least t.elements _ (O.pairs i last.row d last.is_in) in
       eqb→eq (t.way i) ring (fst (eqb (t.way i) ring) _ w.2)
 
   -- on the line of each of them the segment begins where the last row starts
@@ -94,7 +93,7 @@ module _ (t : Table) (sound : Sound t) (some : HasCuts t) (D : ℕ → Bool) (O 
       let l = O.rows i d in
       let first = line_first t last.row in
       let met =
-      along (overlap_meet t sound some i last.row l (O.rows last.row last.is-in)) (O.pairs i last.row d last.is-in) in
+      along (overlap_meet t sound some i last.row l (O.rows last.row last.is_in)) (O.pairs i last.row d last.is_in) in
       let before = ltb→lt first (line_second t i) (snd (ltb (line_first t i) (line_second t last.row)) _ met) in
       along (sym (line_uses t sound some i at l on_board))
       (along (ap (λ (e : ℕ). leb (line_first t i) e && ltb e (line_second t i)) (sym (at_last i d)))

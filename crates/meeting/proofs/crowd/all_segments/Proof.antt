@@ -1,5 +1,4 @@
 -- `crowd::all_segments` meets its contract: a ring has no more segments than the word has bits.
-use Prim.Native.Nat.{ℕ}
 use native.Mathlib.Omega.{arith}
 use borrow.Author.Rules.{rules}
 use lib.Pow.{pow_mono}

@@ -1,14 +1,14 @@
 -- `crowd::common` meets its contract. The loop's invariant: `left` has the segments that the rows of the set before row `i` leave.
-use mathlib.Core.Path.{◌≡◌, ap}
-use mathlib.Core.Logic.{⊎_elim}
-use mathlib.Core.Bool.{Bool, not, ◌||◌}
-use Prim.Native.Nat.{ℕ, ◌-◌, ◌≤◌}
+use mathlib.Core.Path.{◌≡◌}
+use mathlib.Core.Bool.{not, ◌||◌}
+use Prim.Native.Nat.{◌-◌, ◌≤◌}
 use native.Mathlib.Omega.{arith}
 use Rattle.numbers.specs.Lists.{at}
 use Rattle.numbers.specs.Word.{bit}
 use Rattle.meeting.proofs.Left.{left, left_start, left_kept, left_same, in_set, not_in_set}
 use Rattle.meeting.proofs.crowd.common.Statement.{statement}
 use Rattle.meeting.proofs.crowd.common.Tie as tie
+use Rattle.meeting.proofs.crowd.common.Lts.{then-set-i-eq1, else-set-i-eq1}
 
 abbrev invariant-loop : tie.invariant-loop-i
 invariant-loop segments rows set elements left₀ i₀ now i =
@@ -44,10 +44,12 @@ loop-again c =
     let z = c.args in
     let word = at z.segments.now u.i in (
       omega arith,
-      ⊎_elim
-          (λ w. rw w.2 (left_kept z.elements u.i _ word u.invariant.1 (λ s. in_set (bit word s) z.set u.i w.0.true)))
-          (λ w. rw w.1 (left_same z.elements u.i _ u.invariant.1 (λ s. not_in_set (bit word s) z.set u.i w.0.left)))
-          c.if-set-i-eq1.branch,
+      elim c.if-set-i-eq1.branch [
+        | then-set-i-eq1 w ↦ rw w.left-is
+            (left_kept z.elements u.i _ word u.invariant.1 (λ s. in_set (bit word s) z.set u.i w.if-set-i-eq1.true))
+        | else-set-i-eq1 w ↦ rw w.left-is
+            (left_same z.elements u.i _ u.invariant.1 (λ s. not_in_set (bit word s) z.set u.i w.if-set-i-eq1.false))
+      ],
     )
 
 returns : tie.Need-returns invariant-loop decreases-loop

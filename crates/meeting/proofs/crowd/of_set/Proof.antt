@@ -34,7 +34,7 @@ outlined o =
     let e = passed o in
     let g = taken e in
     o.outline_of-outline.ensures (at g.given-found.result.columns.cost)
-    (crowd_sound (bytes g) (entry g).args.k g.given-found.result g.given-found.ensures e.if-answer-ne-DONE.left)
+    (crowd_sound (bytes g) (entry g).args.k g.given-found.result g.given-found.ensures e.if-answer-ne-DONE.false)
 
 given-requires : tie.Need-given-found-requires
 given-requires c κs = search rules
@@ -67,7 +67,7 @@ returns-2 c =
     let g = taken e in
     let R = c.refused-then-placed-ne-DONE.ensures in
     rw (R.0, R.1, R.2)
-    (crowd_line (bytes g) (entry g).args.k g.given-found.result g.given-found.ensures e.if-answer-ne-DONE.left o.outline_of-outline.result (outlined o)
+    (crowd_line (bytes g) (entry g).args.k g.given-found.result g.given-found.ensures e.if-answer-ne-DONE.false o.outline_of-outline.result (outlined o)
     c.if-placed-ne-DONE.true)
 
 at-requires : tie.Need-at-requires
@@ -84,7 +84,7 @@ returns-3 c =
     let g = taken e in
     let R = c.refused-then-k-outline.ensures in
     rw (R.0, R.1, R.2)
-    (crowd_past (bytes g) (entry g).args.k g.given-found.result g.given-found.ensures e.if-answer-ne-DONE.left o.outline_of-outline.result (outlined o)
+    (crowd_past (bytes g) (entry g).args.k g.given-found.result g.given-found.ensures e.if-answer-ne-DONE.false o.outline_of-outline.result (outlined o)
     l.if-placed-ne-DONE.false _ _ c.if-k-outline.true c.at.ensures)
 
 few : (m : tie.Else-k-outline) → m.outline_of-outline.result.sets ≤ 64
@@ -93,7 +93,7 @@ few m =
     let o = placed l in
     let e = passed o in
     let g = taken e in
-    crowd_few (bytes g) (entry g).args.k g.given-found.result g.given-found.ensures e.if-answer-ne-DONE.left o.outline_of-outline.result (outlined o)
+    crowd_few (bytes g) (entry g).args.k g.given-found.result g.given-found.ensures e.if-answer-ne-DONE.false o.outline_of-outline.result (outlined o)
     l.if-placed-ne-DONE.false
 
 mul-set : tie.Need-offset_bounds-words-k
@@ -106,7 +106,7 @@ lay-segments-requires : tie.Need-lay_segments-segments-requires
 lay-segments-requires c κs =
     let e = passed (placed c.before.before.before.before.before.before) in
     let g = taken e in
-    crowd_routes (bytes g) (entry g).args.k g.given-found.result g.given-found.ensures e.if-answer-ne-DONE.left
+    crowd_routes (bytes g) (entry g).args.k g.given-found.result g.given-found.ensures e.if-answer-ne-DONE.false
 
 done-requires : tie.Need-done-requires
 done-requires c κs = search rules
@@ -115,7 +115,7 @@ common-requires : tie.Need-common-requires
 common-requires c κs =
     let e = passed (placed c.before.before.before.before.before.before.before.before.before) in
     let g = taken e in
-    let R = crowd_routes (bytes g) (entry g).args.k g.given-found.result g.given-found.ensures e.if-answer-ne-DONE.left in
+    let R = crowd_routes (bytes g) (entry g).args.k g.given-found.result g.given-found.ensures e.if-answer-ne-DONE.false in
     (R.small, R.few)
 
 returns-4 : tie.Need-returns
@@ -127,7 +127,7 @@ returns-4 c =
     let o = placed l in
     let e = passed o in
     let g = taken e in
-    crowd_done (bytes g) (entry g).args.k g.given-found.result g.given-found.ensures e.if-answer-ne-DONE.left o.outline_of-outline.result (outlined o)
+    crowd_done (bytes g) (entry g).args.k g.given-found.result g.given-found.ensures e.if-answer-ne-DONE.false o.outline_of-outline.result (outlined o)
     l.if-placed-ne-DONE.false m.if-k-outline.false _ _ _ _ _ d.done.ensures refl s.lay_segments-segments.ensures c.common.ensures
 
 pub of_set_spec : {M : Type 1} → statement M
