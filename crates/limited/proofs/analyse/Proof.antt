@@ -28,7 +28,7 @@ abbrev bytes : tie.Else-answer-ne-DONE → List ℕ
 bytes c = (start c).args.file.now
 
 checked : (c : tie.Else-answer-ne-DONE)
-    → Answers (one_ring_checks (bytes c) (given_checks (bytes c))) 0 (taken c).given_one_ring-found.result.answer-1.place
+    → Answers (one_ring_checks (bytes c) (given_checks (bytes c))) 0 (taken c).given_one_ring-found.result.answer.place
 checked c =
     let g = (taken c).given_one_ring-found in
     answers_zero (one_ring_checks (bytes c) (given_checks (bytes c))) g.result.answer c.if-answer-ne-DONE.false g.ensures.answers
@@ -81,7 +81,7 @@ analysis-within-requires c κs =
     let d = c.before.before in
     let e = (taken d) in
     let a = (start d).args in
-    let low = limits_low a.file.now a.limits.ours a.limits.theirs e.are_wrong.ensures e.if-are_wrong.left in
+    let low = limits_low a.file.now a.limits.ours a.limits.theirs e.are_wrong.ensures e.if-are_wrong.false in
     (sound d, ap (λ (t : Table). t.rings) (held d) ∙ one_ring (bytes d) _ (checked d), low.0, low.1)
 
 returns-3 : tie.Need-returns
@@ -93,7 +93,7 @@ returns-3 c =
     let f = a.file.now in
     let our = a.limits.ours in
     let their = a.limits.theirs in
-    limits_past f our their e.are_wrong.ensures e.if-are_wrong.left _ (checked d)
+    limits_past f our their e.are_wrong.ensures e.if-are_wrong.false _ (checked d)
     (within_held (table d) g.result.labels (file_labelled f) our their (held d)
     (g.ensures.labelled d.if-answer-ne-DONE.false).labels c.analysis_within.ensures)
 

@@ -27,13 +27,13 @@ abbrev start : tie.After-outline_of-outline → tie.Start
 start d = d.before.before.before.before.before
 
 abbrev table : tie.After-outline_of-outline → Table
-table d = table_of (start d).args.t1
+table d = table_of (start d).args.columns
 
 outlined : (d : tie.After-outline_of-outline) → Outlined (line_checks (table d)) (table d) d.outline_of-outline.result
-outlined d = d.outline_of-outline.ensures (at (start d).args.t1.cost) (start d).requires.0
+outlined d = d.outline_of-outline.ensures (at (start d).args.columns.cost) (start d).requires.0
 
 outline-of-requires : tie.Need-outline_of-outline-requires
-outline-of-requires c κs = let s = c in (at s.args.t1.cost, s.requires.0)
+outline-of-requires c κs = let s = c in (at s.args.columns.cost, s.requires.0)
 
 refused-requires : tie.Need-refused-requires
 refused-requires c κs = search rules
@@ -75,10 +75,10 @@ limited : (s : tie.After-lay_segments-segments)
     → (let d = weighted s in
     let o = asked d in
     let a = (start o).args in
-    Limited (table o) a.t1.elements a.t1.rows o.outline_of-outline.result.time-1.hyper (rates d) s.lay_segments-segments.result)
+    Limited (table o) a.columns.elements a.columns.rows o.outline_of-outline.result.time.hyper (rates d) s.lay_segments-segments.result)
 limited s =
     let d = weighted s in
-    let T = ((outlined (asked d)).found d.if-answer-ne-DONE.left).timed in
+    let T = ((outlined (asked d)).found d.if-answer-ne-DONE.false).timed in
     record {
       sound = T.sound;
       one_ring = (start (asked d)).requires.1;

@@ -14,7 +14,7 @@ is-late-requires : tie.Need-is_late-requires
 is-late-requires c κs = search rules
 
 returns : tie.Need-returns-then-is_late
-returns c t A e = decides_yes (off_late A c.args.t1 e (sym c.is_late.ensures ∙ c.if-is_late.true))
+returns c t A e = decides_yes (off_late A c.args.self e (sym c.is_late.ensures ∙ c.if-is_late.true))
 
 spare-clear-requires : tie.Need-spare_clear-requires
 spare-clear-requires c κs = search rules
@@ -22,27 +22,27 @@ spare-clear-requires c κs = search rules
 returns-2 : tie.Need-returns-then-not-spare_clear
 returns-2 c t A e =
     let S = c in
-    decides_yes (off_spare_total A S.args.t1 e (c.spare_clear.ensures.fails (not-true _ c.if-not-spare_clear.true)))
+    decides_yes (off_spare_total A S.args.self e (c.spare_clear.ensures.fails (not-true _ c.if-not-spare_clear.true)))
 
 -- the first test, from past the second
 abbrev in-time : tie.Else-not-spare_clear → tie.Else-is_late
 in-time c = c.before.before.before
 
 late : (c : tie.Else-is_late)
-    → (let a = c.args in late_at a.t1.stage a.slot a.t3.outline.time.hyper ≡ false)
+    → (let a = c.args in late_at a.self.stage a.slot a.table.outline.time.hyper ≡ false)
 late c = sym c.is_late.ensures ∙ c.if-is_late.false
 
 keeps-step-requires : tie.Need-keeps_step-requires
 keeps-step-requires c κs =
     let E = in-time c.before.before.before in
     let S = E in
-    (state_bounded S.requires.1 S.args.t1 S.requires.2 (late E), few_sets S.requires.1)
+    (state_bounded S.requires.1 S.args.self S.requires.2 (late E), few_sets S.requires.1)
 
 returns-3 : tie.Need-returns
 returns-3 c t A e =
     let C = c.before.before.before.before in
     let E = in-time C in
-    off_decided A E.args.t1 e (late E) (C.spare_clear.ensures.holds (not-false _ C.if-not-spare_clear.false))
+    off_decided A E.args.self e (late E) (C.spare_clear.ensures.holds (not-false _ C.if-not-spare_clear.false))
     c.keeps_step.result c.keeps_step.ensures
 
 pub is_off_spec : {M : Type 1} → statement M

@@ -28,7 +28,7 @@ abbrev entry : tie.Else-answer-ne-DONE → tie.Start
 entry c = c.before.before.before
 
 -- some table that it is the analysis of
-some : (c : tie.Else-answer-ne-DONE) → (t : Table) × Accepted t (entry c).args.t2
+some : (c : tie.Else-answer-ne-DONE) → (t : Table) × Accepted t (entry c).args.table
 some c = (entry c).requires c.if-answer-ne-DONE.false
 
 slot-reached-requires : tie.Need-slot_reached-slot-requires
@@ -37,8 +37,8 @@ slot-reached-requires c κs = let w = some c.before in (w.0, timed w.1)
 abbrev passed : tie.After-slot_reached-slot → tie.Else-answer-ne-DONE
 passed c = c.before.before
 
-here : (c : tie.After-slot_reached-slot) {t : Table} → Accepted t (entry (passed c)).args.t2
-    → c.slot_reached-slot.result ≡ slot_of t (entry (passed c)).args.t1.stage
+here : (c : tie.After-slot_reached-slot) {t : Table} → Accepted t (entry (passed c)).args.table
+    → c.slot_reached-slot.result ≡ slot_of t (entry (passed c)).args.self.stage
 here c {t} A = c.slot_reached-slot.ensures t (timed A)
 
 is-off-requires : tie.Need-is_off-requires
@@ -54,7 +54,7 @@ returns-2 : tie.Need-returns-then-is_off
 returns-2 c =
     let O = c in
     let R = O.before.before.before.before in
-    let p = (entry (passed R)).args.t1 in
+    let p = (entry (passed R)).args.self in
     record {
       done = λ z t A.
           rw c.no_standings-then-is_off.ensures
@@ -65,8 +65,8 @@ returns-2 c =
 
 -- ---- and past the next test the state is not off
 
-still : (c : tie.Else-is_off) {t : Table} → Accepted t (entry (passed c.before.before)).args.t2
-    → ¬ Off t (planner_of (entry (passed c.before.before)).args.t1)
+still : (c : tie.Else-is_off) {t : Table} → Accepted t (entry (passed c.before.before)).args.table
+    → ¬ Off t (planner_of (entry (passed c.before.before)).args.self)
 still c {t} A = (c.is_off.ensures t A (here c.before.before A)).fails c.if-is_off.false
 
 done-requires : tie.Need-done-requires
@@ -77,7 +77,7 @@ standings-requires c κs =
     let N = c.before.before.before in
     let R = N.before.before in
     let A = (some (passed R)).1 in
-    let p = (entry (passed R)).args.t1 in
+    let p = (entry (passed R)).args.self in
     (still_bounded A p (here R A) (still N A), state_keeps A p (here R A) (still N A))
 
 returns-3 : tie.Need-returns
@@ -85,7 +85,7 @@ returns-3 c =
     let D = c in
     let N = D.before.before.before.before in
     let R = N.before.before in
-    let p = (entry (passed R)).args.t1 in
+    let p = (entry (passed R)).args.self in
     record {
       done = λ z t A.
           standings_answer A _ D.done.ensures p _ (state_reached A p (here R A) (still N A)) c.standings.result

@@ -215,9 +215,9 @@ returns-5 c =
           (step_answer A _ c.done.ensures p k is_due (begins E.before A) _ (ends E A) G.plan_intervals-after.result
           S.args.out.now _
           (G.plan_intervals-after.ensures t k _
-          (due_plannable A p k (here (reached N) A) (still N A) is_due (size S) _ _ (ends E A) L.if-out-end.left))
+          (due_plannable A p k (here (reached N) A) (still N A) is_due (size S) _ _ (ends E A) L.if-out-end.false))
           (step_done t (planner_of p) (length S.args.out.now) (still N A) k (ap stage_of is_due)
-          (omega (arith, long E A, L.if-out-end.left))));
+          (omega (arith, long E A, L.if-out-end.false))));
       refused = λ h. absurd (h (passed (reached N)).if-answer-ne-DONE.false);
     }
 

@@ -114,7 +114,7 @@ begun c = entry (laying c)
 
 -- t is a table that is given to be planned
 abbrev Given : tie.Start invariant-loop decreases-loop → Table → ℕ → ℕ → Type 0
-Given S t k m = Plannable t S.args.t1 k m S.args.from S.args.until S.args.totals (length S.args.plan.now)
+Given S t k m = Plannable t S.args.table k m S.args.from S.args.until S.args.totals (length S.args.plan.now)
 
 -- the one that the call was made with
 abbrev given : (c : tie.In-loop-slot invariant-loop decreases-loop) → Given (begun c) (begun c).requires.0 (begun c).requires.1 (begun c).requires.2
@@ -128,7 +128,7 @@ end-of-requires c κs =
       (
         (begun d).requires.0,
         L.number,
-        (begun d).args.t1.outline.time-1.hyper,
+        (begun d).args.table.outline.time.hyper,
         timed P.accepted,
         planning_begins (begun d).args.plan.now P L d.loop-slot-test.true,
       ),
@@ -146,7 +146,7 @@ module _ (c : tie.After-end_of-end invariant-loop decreases-loop) {t : Table} {k
 
   ends : c.end_of-end.result ≡ end t done.number
   ends =
-      c.end_of-end.ensures t done.number (begun (turned c)).args.t1.outline.time-1.hyper (timed P.accepted)
+      c.end_of-end.ensures t done.number (begun (turned c)).args.table.outline.time.hyper (timed P.accepted)
       (planning_begins (begun (turned c)).args.plan.now P done (turned c).loop-slot-test.true)
 
   due : Due t done.number (turned c).before.loop-slot.slot c.end_of-end.result (turned c).before.loop-slot.after
@@ -161,8 +161,8 @@ module _ (c : tie.After-end_of-end invariant-loop decreases-loop) {t : Table} {k
   roomy = planning_room (begun (turned c)).args.plan.now P done (turned c).loop-slot-test.true _ ends
 
   -- what it stands on
-  ready : let a = (begun (turned c)).args.t1 in let L = laying (turned c) in let F = (folding L).fold_sets-folded in
-      Ready t (record { rows = a.outline.rows; sets = F.result.sets; hyper = a.outline.time-1.hyper }) a.outline.top
+  ready : let a = (begun (turned c)).args.table in let L = laying (turned c) in let F = (folding L).fold_sets-folded in
+      Ready t (record { rows = a.outline.rows; sets = F.result.sets; hyper = a.outline.time.hyper }) a.outline.top
       a.outline.first a.outline.second a.rate F.result.upper F.last.1.1.1.1.0
       (arrays (chaining (turned c)))
   ready =
@@ -269,8 +269,8 @@ module _ (g : tie.After-give invariant-loop decreases-loop) where
       ++ drop (length here.before.loop-slot.plan - here.before.loop-slot.at) (drop here.before.loop-slot.at here.before.loop-slot.plan))
 
   -- however they are filled, the interval is done
-  next : (ys : List ℕ) → FilledSlots (begun here).args.t1.outline.rows (at (begun here).args.t1.outline.first)
-      (at (begun here).args.t1.outline.second) (at (load g)) ((turn g).end_of-end.result - here.before.loop-slot.slot) lent ys
+  next : (ys : List ℕ) → FilledSlots (begun here).args.table.outline.rows (at (begun here).args.table.outline.first)
+      (at (begun here).args.table.outline.second) (at (load g)) ((turn g).end_of-end.result - here.before.loop-slot.slot) lent ys
       → (t : Table) (k m : ℕ) → Given (begun here) t k m
       → Planning t k m (begun here).args.totals (begun here).args.plan.now (turn g).end_of-end.result
       (here.before.loop-slot.at + ((turn g).end_of-end.result - here.before.loop-slot.slot)) (totals g) (joined ys)
