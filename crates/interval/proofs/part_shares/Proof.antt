@@ -76,7 +76,7 @@ module _ (w : tie.After-whole_of-w invariant-loop decreases-loop) where
         mod-add-div' (share row) (start row).args.size.hyper,
       )
 
-  rest-is : w.before.slots_at.result * (start row).args.slots - w.whole_of-w.result * (start row).args.size.hyper
+  rest-is : w.slots_at.result * (start row).args.slots - w.whole_of-w.result * (start row).args.size.hyper
       ≡ share row % (start row).args.size.hyper
   rest-is = omega (arith, parted, share-is w.before)
 
@@ -95,31 +95,31 @@ mul-whole : tie.Need-offset_bounds-whole-i invariant-loop decreases-loop
 mul-whole c = omega (arith, few (row c))
 
 element-write-whole : tie.Need-bounds-whole-i invariant-loop decreases-loop
-element-write-whole c = omega (arith, few (row c), (row c).loop-i.invariant.0)
+element-write-whole c = omega (arith, few (row c.before), (row c.before).loop-i.invariant.0)
 
 cast-part : tie.Need-overflow_cast-part invariant-loop decreases-loop
 cast-part c =
-    let p = (start (row c)).requires in
-    omega (arith, rest-is c, p.2, mod-lt (share (row c)) p.1)
+    let p = (start (row c.before)).requires in
+    omega (arith, rest-is c.before, p.2, mod-lt (share (row c.before)) p.1)
 
 mul-part : tie.Need-offset_bounds-part-i invariant-loop decreases-loop
-mul-part c = omega (arith, few (row c))
+mul-part c = omega (arith, few (row c.before))
 
 element-write-part : tie.Need-bounds-part-i invariant-loop decreases-loop
-element-write-part c = omega (arith, few (row c), (row c).loop-i.invariant.1)
+element-write-part c = omega (arith, few (row c.before.before), (row c.before.before).loop-i.invariant.1)
 
 mark-requires : tie.Need-mark-parted-requires invariant-loop decreases-loop
-mark-requires c κs = few (row c)
+mark-requires c κs = few (row c.before.before)
 
 add-i : tie.Need-overflow_add-i invariant-loop decreases-loop
-add-i c = omega (arith, few (row c.before))
+add-i c = omega (arith, few (row c.before.before.before))
 
 loop-less : tie.Need-loop-i-smaller invariant-loop decreases-loop
-loop-less c = omega (arith, (row c.before).loop-i-test.true)
+loop-less c = omega (arith, (row c.before.before.before).loop-i-test.true)
 
 loop-again : tie.Need-loop-i-preserved invariant-loop decreases-loop
 loop-again c =
-    let w = c in
+    let w = c.before.before.before in
     let t = row w in
     let u = t.loop-i in
     let a = (start t).args in

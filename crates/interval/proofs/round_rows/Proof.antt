@@ -60,14 +60,14 @@ module _ (r : tie.After-on_ring-rows invariant-loop decreases-loop) where
 
   -- their parts are all of the ring's
   own : (i : ℕ) → i < entry.args.size.rows
-      → among r.on_ring-rows.result part i ≡ on_ring r.before.before.loop-d.d entry.args.upper part i
+      → among r.on_ring-rows.result part i ≡ on_ring r.loop-d.d entry.args.upper part i
   own i l =
       ap (λ (b : Bool). only b (part i)) (r.on_ring-rows.ensures i ∙ ap (λ (b : Bool). b && on) (entry.requires.2 i)
       ∙ ap (λ (b : Bool). (b && ltb 0 (part i)) && on) (lt-ltb i entry.args.size.rows l))
       ∙ go (part i) (dec_lt 0 (part i))
     where
       on : Bool
-      on = eqb (digit entry.args.upper i) r.before.before.loop-d.d
+      on = eqb (digit entry.args.upper i) r.loop-d.d
 
       go : (x : ℕ) → Dec (0 < x) → only (ltb 0 x && on) x ≡ only on x
       go x (yes p) = rw (lt-ltb 0 x p) refl
@@ -84,8 +84,8 @@ loop-less c = omega arith
 
 loop-again : tie.Need-loop-d-preserved invariant-loop decreases-loop
 loop-again c =
-    let r = c in
-    let n = r.before.before in
+    let r = c.before in
+    let n = r.before in
     let l = n.loop-d in (
       omega (arith, n.loop-d-test.true),
       chosen_next _ _ _ _ _ _ _ (entry r).requires.1.some l.d l.rounded c.choose-rounded.result (ring-here n) l.invariant.1

@@ -1,7 +1,6 @@
 -- `take_rows` takes one row after the other: `Tried` says what its loop keeps.
 use mathlib.Core.Path.{◌≡◌, sym}
 use mathlib.Core.Bool.{not}
-use mathlib.Core.Logic.{⊎_elim}
 use Prim.Native.Nat.{ℕ, ◌≤◌, ◌<◌}
 use native.Mathlib.Omega.{arith}
 use lib.ListN.{length}
@@ -16,6 +15,7 @@ use Rattle.interval.proofs.Filling.{row_span}
 use Rattle.interval.proofs.Taking.{taken_full, taken_up, Tried, tried_start, tried_row, tried_new, tried_to, tried_next, tried_end}
 use Rattle.interval.proofs.choice.take_rows.Statement.{statement}
 use Rattle.interval.proofs.choice.take_rows.Tie as tie
+use Rattle.interval.proofs.choice.take_rows.Lts.{then-has_room, else-has_room}
 
 abbrev invariant-loop : tie.invariant-loop-done
 invariant-loop tail head rows h left₀ top₀ done₀ left top done =
@@ -95,27 +95,27 @@ loop-again c =
     let i = p.pick-i.result in
     let e = p.pick-i.ensures in
     let a = (start p).args in
-    ⊎_elim
-    (λ w. rw (w.3, w.4) (
-      w.2.ensures.0,
-      λ n K f S H P U s.
-          let q = u.invariant.1 n K f S H P U s in
-          let r = tried_row _ _ _ _ _ _ S P _ U q i e.1 e.2 in
-          tried_next _ _ _ _ _ _ S P _ U q i e.1 e.2 _ _ _ (λ j. bit_one_more u.done i j e.0)
-          (taken_up _ _ _ _ _ _ S P i u.top _ r.0 (tried_to _ _ _ _ _ _ S P _ U q i e.1 e.2) _ _ _
-          (row_span a.tail.now a.head.now S i r.0 (H i r.0)).3 r.1 (rw w.0.true at c.has_room.ensures)
-          (λ j. bit_one_more u.top i j e.0) w.2.ensures.1),
-    ))
-    (λ w. rw (w.1, w.2) (
-      u.invariant.0,
-      λ n K f S H P U s.
-          let q = u.invariant.1 n K f S H P U s in
-          let r = tried_row _ _ _ _ _ _ S P _ U q i e.1 e.2 in
-          tried_next _ _ _ _ _ _ S P _ U q i e.1 e.2 _ _ _ (λ j. bit_one_more u.done i j e.0)
-          (taken_full _ _ _ _ _ _ S P i u.top _ r.0 (tried_to _ _ _ _ _ _ S P _ U q i e.1 e.2) _
-          (row_span a.tail.now a.head.now S i r.0 (H i r.0)).3 (rw w.0.left at c.has_room.ensures)),
-    ))
-    c.if-has_room.branch
+    elim c.if-has_room.branch [
+      | then-has_room w ↦ rw (w.left-is, w.top-is) (
+        w.lower.ensures.0,
+        λ n K f S H P U s.
+            let q = u.invariant.1 n K f S H P U s in
+            let r = tried_row _ _ _ _ _ _ S P _ U q i e.1 e.2 in
+            tried_next _ _ _ _ _ _ S P _ U q i e.1 e.2 _ _ _ (λ j. bit_one_more u.done i j e.0)
+            (taken_up _ _ _ _ _ _ S P i u.top _ r.0 (tried_to _ _ _ _ _ _ S P _ U q i e.1 e.2) _ _ _
+            (row_span a.tail.now a.head.now S i r.0 (H i r.0)).3 r.1 (rw w.if-has_room.true at c.has_room.ensures)
+            (λ j. bit_one_more u.top i j e.0) w.lower.ensures.1),
+      )
+      | else-has_room w ↦ rw (w.left-is, w.top-is) (
+        u.invariant.0,
+        λ n K f S H P U s.
+            let q = u.invariant.1 n K f S H P U s in
+            let r = tried_row _ _ _ _ _ _ S P _ U q i e.1 e.2 in
+            tried_next _ _ _ _ _ _ S P _ U q i e.1 e.2 _ _ _ (λ j. bit_one_more u.done i j e.0)
+            (taken_full _ _ _ _ _ _ S P i u.top _ r.0 (tried_to _ _ _ _ _ _ S P _ U q i e.1 e.2) _
+            (row_span a.tail.now a.head.now S i r.0 (H i r.0)).3 (rw w.if-has_room.false at c.has_room.ensures)),
+      )
+    ]
 
 returns : tie.Need-returns invariant-loop decreases-loop
 returns c =
