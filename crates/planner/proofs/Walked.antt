@@ -127,7 +127,7 @@ module _ {t : Table} {a : Analysis} {k m s u : ℕ} {had : List ℕ} (was : List
 -- ---- one interval is a step, and those from the first on are a run
 
 module _ {t : Table} where
-  course_start : {k m : ℕ} {had now : ℕ → ℕ} {ws : List ℕ} → Course t k had m now ws → k ≤ m
+  course_start : {k : ℕ} {had : ℕ → ℕ} {m : ℕ} {now : ℕ → ℕ} {ws : List ℕ} → Course t k had m now ws → k ≤ m
   course_start Course.start = omega arith
   course_start (Course.on c d) = let z = course_start c in omega arith
 
