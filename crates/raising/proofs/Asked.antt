@@ -2,13 +2,11 @@
 use mathlib.Core.Path.{◌≡◌, refl, sym, ap, ap₂, subst, ◌∙◌}
 use mathlib.Core.Logic.{◌≢◌}
 use mathlib.Core.List.{List}
-use Prim.Native.Nat.{ℕ, ◌≤◌, ◌<◌, max}
+use Prim.Native.Nat.{ℕ, ◌≤◌, max}
 use native.Mathlib.Decide.{ℕ_discrete}
-use native.Mathlib.Omega.{arith}
-use lib.ListN.{replicate}
 use Rattle.numbers.specs.Lists.{at}
 use Rattle.numbers.specs.Rounding.{up}
-use Rattle.rules.specs.Bounds.{max_rows, max_slots}
+use Rattle.rules.specs.Bounds.{max_slots}
 use Rattle.rules.specs.Bus.{Table}
 use Rattle.rules.specs.TableFile.{file_table, file_labelled}
 use Rattle.rules.specs.Loads.{shortest}
@@ -24,7 +22,6 @@ use Rattle.decoding.specs.declared.Decoded.{Decoded}
 use Rattle.decoding.proofs.Decoding.{decodes_only}
 use Rattle.pasted.proofs.AsGiven.{given_passed}
 use Rattle.pasted.proofs.OneRing.{one_ring_numbered, one_ring_none}
-use Rattle.time.specs.Time.{Timed}
 use Rattle.outline.specs.declared.Layout.{Layout}
 use Rattle.outline.specs.Layout.{LaidOut}
 use Rattle.outline.proofs.Outlined.{line_numbered}

@@ -1,22 +1,22 @@
 -- Raised costs: a light row's is its period / L rounded up.
 use mathlib.Core.Path.{◌≡◌, refl, sym, ap, ◌∙◌}
 use mathlib.Core.Logic.{⊎_elim}
-use mathlib.Core.Bool.{Bool, true, false, not, ◌&&◌, cond}
-use Prim.Native.Nat.{ℕ, ◌+◌, ◌*◌, ◌≤◌, ◌<◌, max}
+use mathlib.Core.Bool.{Bool, not, ◌&&◌, cond}
+use Prim.Native.Nat.{ℕ, ◌*◌, ◌≤◌, ◌<◌, max}
 use native.Mathlib.Nat.{mul-le-mul_left, mul-le-mul_right}
 use native.Mathlib.Omega.{arith}
 use lib.Dec.{T, ltb, eqb, ltb→lt, lt→ltb}
 use Rattle.numbers.specs.Finite.{lowest}
 use Rattle.numbers.specs.Rounding.{up}
 use Rattle.numbers.proofs.Truth.{both, fst, snd, decide, refuted, refutes, is_true, is_false, along, eqb_of, le_or_lt}
-use Rattle.numbers.proofs.Finite.{lowest_le, lowest_has, lowest_below, lowest_under}
+use Rattle.numbers.proofs.Finite.{lowest_has, lowest_under}
 use Rattle.numbers.proofs.Rounding.{up_over, up_least}
 use Rattle.rules.specs.Bus.{Table}
 use Rattle.rules.specs.Loads.{hyperperiod, shortest, equal_periods, light}
 use Rattle.rules.specs.Raising.{priced, least_cost, raised_cost, raised}
 use Rattle.table.specs.Sound.{Sound}
 use Rattle.lags.proofs.Intervals.{cost_unseen, shortest_positive, equal_period, equal_shortest}
-use Rattle.raising.specs.Raises.{Raises, RaiseRaises}
+use Rattle.raising.specs.Raises.{RaiseRaises}
 
 pub up_within : (a b : ℕ) → 0 < b → up a b ≤ a
 up_within a b h = let m : a * 1 ≤ a * b = mul-le-mul_left a h in up_least a b h a (omega (arith, m))

@@ -1,13 +1,12 @@
 -- The data of a raised row: in each period the first of its slots, as many as its cost was.
-use mathlib.Core.Path.{◌≡◌, refl, sym, ap, ap₂, ◌∙◌}
+use mathlib.Core.Path.{◌≡◌, ap, ◌∙◌}
 use mathlib.Core.Bool.{Bool, ◌&&◌}
 use mathlib.Core.List.{List}
-use Prim.Native.Nat.{ℕ, ◌+◌, ◌-◌, ◌*◌, ◌≤◌, ◌<◌, min}
+use Prim.Native.Nat.{ℕ, ◌+◌, ◌-◌, ◌*◌}
 use native.Mathlib.Omega.{arith}
 use lib.Dec.{ltb}
 use Rattle.numbers.specs.Finite.{count}
 use Rattle.numbers.proofs.Finite.{count_eq, count_take}
-use Rattle.rules.specs.Bus.{Table}
 use Rattle.rules.specs.Raising.{raised, raised_cost}
 use Rattle.promises.specs.Demands.{endless, moved}
 use Rattle.promises.proofs.Demands.{plan_carries}

@@ -3,17 +3,16 @@
 --   Of k cs            every check of cs has the number k
 use mathlib.Core.Path.{◌≡◌, refl, sym, ap, subst, ◌∙◌, fun_ext}
 use mathlib.Core.Logic.{◌⊎◌, inl, inr, ⊎_elim}
-use mathlib.Core.Bool.{Bool, not, ◌&&◌}
+use mathlib.Core.Bool.{not}
 use mathlib.Core.List.{List, [], ◌∷◌, ◌++◌}
 use Prim.Native.Nat.{ℕ, zero, suc, ◌+◌, ◌*◌, ◌≤◌, ◌<◌}
 use native.Mathlib.Omega.{arith}
-use lib.Dec.{T, ltb, ltb→lt}
-use lib.ListN.{length}
+use lib.Dec.{ltb, ltb→lt}
 use Rattle.numbers.specs.Lists.{each}
 use Rattle.numbers.specs.Codec.{read_low}
-use Rattle.numbers.proofs.Truth.{snd, along, le_or_lt}
+use Rattle.numbers.proofs.Truth.{snd, le_or_lt}
 use Rattle.rules.specs.Bus.{Table, Labelled, through, pasted}
-use Rattle.rules.specs.TableFile.{header_size, last_size, row_size, version, file_rings, file_table, file_labelled, numbers, bytes}
+use Rattle.rules.specs.TableFile.{header_size, last_size, row_size, version, file_rings, file_table, file_labelled, numbers}
 use Rattle.rules.specs.Loads.{hyperperiod, shortest, equal_periods, light}
 use Rattle.rules.specs.Refusals.{
   Check,

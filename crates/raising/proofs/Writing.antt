@@ -1,22 +1,20 @@
 -- The raised table, written: its numbers pass the writer's checks, and its file is as long as the file that was given.
-use mathlib.Core.Path.{◌≡◌, refl, sym, ap, ap₂, subst, ◌∙◌}
+use mathlib.Core.Path.{◌≡◌, refl, sym, ap, subst, ◌∙◌}
 use mathlib.Core.Logic.{◌≢◌, ⊎_elim, inl}
-use mathlib.Core.List.{List, [], ◌∷◌, ◌++◌}
+use mathlib.Core.List.{List, [], ◌∷◌}
 use Prim.Native.Nat.{ℕ, ◌+◌, ◌*◌, ◌≤◌, ◌<◌}
-use native.Mathlib.Nat.{mul_comm}
 use native.Mathlib.Omega.{arith}
 use lib.ListN.{length, take}
-use Rattle.numbers.specs.Lists.{at}
 use Rattle.numbers.proofs.Lists.{zeros_at}
 use Rattle.rules.specs.Bounds.{max_rows}
 use Rattle.rules.specs.Bus.{Table, Labelled, clockwise}
-use Rattle.rules.specs.TableFile.{table_mark, rings_of, header_size, row_size, row_numbers, version, file_rings, file_table, file_labelled}
-use Rattle.rules.specs.TableFile.{memory_labelled_with, numbers, bytes}
+use Rattle.rules.specs.TableFile.{table_mark, rings_of, header_size, row_size, row_numbers, version, file_rings, file_labelled}
+use Rattle.rules.specs.TableFile.{memory_labelled_with, numbers}
 use Rattle.rules.specs.Refusals.{Check, Answers, unknown_mark, short_output, file_checks, header_checks, given_checks, line_checks}
 use Rattle.rules.specs.Refusals.{pasted_checks, version_checks, writer_checks}
 use Rattle.rules.specs.Calls.{lent, Written}
 use Rattle.rules.specs.Raising.{raised, raised_labelled, raised_file, before_13, raise_checks, Raised}
-use Rattle.rules.proofs.Answers.{None, Numbered, joined, unjoined, none_of, none_left, numbered_join}
+use Rattle.rules.proofs.Answers.{None, Numbered, joined, unjoined, none_of, none_left}
 use Rattle.rules.proofs.Calls.{lent_take, call_refused, call_only}
 use Rattle.table.specs.Sound.{Sound}
 use Rattle.table.specs.Columns.{column_labelled, table_of, no_labels}

@@ -25,7 +25,7 @@ none e =
     let g = found e in
     raising_none (bytes g) g.raised_table-found.result g.raised_table-found.ensures e.if-answer-ne-DONE.false
 
-rows : (e : tie.Else-answer-ne-DONE) → (found e).raised_table-found.result.given.columns-1.rows ≤ max_rows
+rows : (e : tie.Else-answer-ne-DONE) → (found e).raised_table-found.result.given.columns.rows ≤ max_rows
 rows e =
     let g = found e in
     omega (
@@ -60,7 +60,7 @@ mul-numbers c = omega (arith, rows c.before.before.before.before.before.before.b
 -- the numbers of all rows fit the array
 fit : (c : tie.After-version_of)
     → row_numbers * (found c.before.before.before.before.before.before.before.before.before.before
-    ).raised_table-found.result.given.columns-1.rows
+    ).raised_table-found.result.given.columns.rows
     ≤ length c.put_all_numbers.new.out
 fit c = omega (
   arith,
@@ -89,9 +89,9 @@ returns-2 c =
     let R = g.raised_table-found.ensures in
     let z = e.if-answer-ne-DONE.false in
     let a = none e in
-    let xs : take (row_numbers * x.given.columns-1.rows) v.put_all_numbers.new.out
+    let xs : take (row_numbers * x.given.columns.rows) v.put_all_numbers.new.out
     ≡ numbers (raised_labelled (file_labelled (bytes g))) =
-    ap (take (row_numbers * x.given.columns-1.rows)) v.put_all_numbers.ensures ∙ numbers_are (bytes g) a x R z _ in
+    ap (take (row_numbers * x.given.columns.rows)) v.put_all_numbers.ensures ∙ numbers_are (bytes g) a x R z _ in
     raise_written (bytes g) a v.version_of.ensures (elements_are (bytes g) a x R z) (rows_are (bytes g) a x R z) xs
     c.write_plain.ensures
 

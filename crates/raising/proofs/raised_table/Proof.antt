@@ -26,7 +26,7 @@ laid o =
     let e = passed o in
     let g = taken e in
     o.layout_of-laid.ensures (at g.given_one_ring-found.result.columns.cost)
-    (raising_sound (bytes g) g.given_one_ring-found.result g.given_one_ring-found.ensures e.if-answer-ne-DONE.left)
+    (raising_sound (bytes g) g.given_one_ring-found.result g.given_one_ring-found.ensures e.if-answer-ne-DONE.false)
 
 given-one-ring-requires : tie.Need-given_one_ring-found-requires
 given-one-ring-requires c κs = search rules
@@ -56,7 +56,7 @@ returns-2 c =
     let e = passed o in
     let g = taken e in
     rw c.refused-then-placed-ne-DONE.ensures
-    (raising_line (bytes g) g.given_one_ring-found.result g.given_one_ring-found.ensures e.if-answer-ne-DONE.left
+    (raising_line (bytes g) g.given_one_ring-found.result g.given_one_ring-found.ensures e.if-answer-ne-DONE.false
     o.layout_of-laid.result (laid o) c.if-placed-ne-DONE.true)
 
 raised-costs-requires : tie.Need-raised_costs-cost-requires
@@ -65,9 +65,9 @@ raised-costs-requires c κs =
     let o = placed l in
     let e = passed o in
     let g = taken e in
-    let I = raising_interval (bytes g) g.given_one_ring-found.result g.given_one_ring-found.ensures e.if-answer-ne-DONE.left
+    let I = raising_interval (bytes g) g.given_one_ring-found.result g.given_one_ring-found.ensures e.if-answer-ne-DONE.false
     o.layout_of-laid.result (laid o) l.if-placed-ne-DONE.false in
-    (raising_times (bytes g) g.given_one_ring-found.result g.given_one_ring-found.ensures e.if-answer-ne-DONE.left, I.0, I.1)
+    (raising_times (bytes g) g.given_one_ring-found.result g.given_one_ring-found.ensures e.if-answer-ne-DONE.false, I.0, I.1)
 
 returns-3 : tie.Need-returns
 returns-3 c =
@@ -75,7 +75,7 @@ returns-3 c =
     let o = placed l in
     let e = passed o in
     let g = taken e in
-    raising_done (bytes g) g.given_one_ring-found.result g.given_one_ring-found.ensures e.if-answer-ne-DONE.left
+    raising_done (bytes g) g.given_one_ring-found.result g.given_one_ring-found.ensures e.if-answer-ne-DONE.false
     o.layout_of-laid.result (laid o) l.if-placed-ne-DONE.false _
     c.raised_costs-cost.ensures
 

@@ -4,7 +4,6 @@ use borrow.Author.Rules.{rules}
 use lib.ListN.{replicate}
 use Rattle.rules.specs.Bounds.{max_rows}
 use Rattle.decoding.specs.declared.Decoded.{Decoded}
-use Rattle.raising.specs.declared.Raising.{Raising}
 use Rattle.raising.proofs.refused.Statement.{statement}
 use Rattle.raising.proofs.refused.Tie as tie
 
