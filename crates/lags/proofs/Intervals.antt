@@ -14,7 +14,7 @@ use native.Mathlib.Nat.{dvd_refl, dvd_trans, dvd-zero, dvd-mul_left, dvd-mul_lef
 use native.Mathlib.Numerals.{add-one}
 use native.Mathlib.Omega.{arith}
 use lib.Dec.{T, eqb, eqb→eq}
-use Rattle.numbers.specs.Finite.{any, sum, count}
+use Rattle.numbers.specs.Finite.{sum, count}
 use Rattle.numbers.specs.Divisors.{divides, Leads, Past}
 use Rattle.numbers.specs.Pairs.{IsGcd, LeastGcd}
 use Rattle.numbers.proofs.Truth.{both, fst, snd, eqb_of, is_true, le_or_lt}

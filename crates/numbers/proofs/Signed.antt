@@ -7,7 +7,7 @@ use native.Mathlib.Nat.{add-zero}
 use native.Mathlib.Decide.{dec_le}
 use native.Mathlib.Omega.{arith}
 use borrow.Author.Tests.{ltb-true, ltb-false, le-ltb}
-use lib.Dec.{ltb, leb, lt→ltb, ltb→lt, le→leb, leb→le}
+use lib.Dec.{ltb, lt→ltb, ltb→lt, le→leb, leb→le}
 use lib.IntN.{ℤ, pos, negsuc, neg_ℤ, sub_ℕ, ◌+ℤ◌, ◌-ℤ◌, +ℤ_assoc, +ℤ_comm, +ℤ_idr, neg_ℤ-+ℤ, pos-+ℤ-pos}
 use lib.Signed.{mag, ◌≤ℤ◌, ◌<ℤ◌}
 use Rattle.numbers.specs.Finite.{only, sum, sum_in}

@@ -9,7 +9,7 @@
 --   OneOrTwo r         r is a number of rings that has a mark
 --   Heads h M n        h is a header of a file with M elements and n rows
 use mathlib.Core.Path.{◌≡◌, refl, sym, ap, ap₂, ◌∙◌, subst}
-use mathlib.Core.Logic.{◌⊎◌, inl, inr, ⊎_elim, ◌≢◌}
+use mathlib.Core.Logic.{◌⊎◌, inl, inr, ⊎_elim}
 use mathlib.Core.Bool.{Bool, true, false, cond}
 use mathlib.Core.List.{List, [], ◌∷◌, ◌++◌}
 use Prim.Native.Nat.{ℕ, ◌+◌, ◌*◌, ◌≤◌, ◌<◌}
@@ -27,44 +27,13 @@ use Rattle.numbers.proofs.Codec.{places, row_place, rows_whole, low_high, low_of
 use Rattle.numbers.proofs.Truth.{equals}
 use Rattle.rules.specs.Bus.{Labelled}
 use Rattle.rules.specs.Bounds.{max_rings}
-use Rattle.rules.specs.TableFile.{
-  table_mark,
-  board_mark,
-  version_1,
-  header_size,
-  label_size,
-  last_size,
-  way_in,
-  label_in,
-  last_of,
-  last_number_of,
-  rings_of,
-  mark_of,
-  file_rings,
-  row_with,
-  row_size,
-  row_numbers,
-  write16,
-  mark,
-  version,
-  labelled_with,
-  file_table,
-  file_labelled,
-  memory_labelled_with,
-  memory_row,
-  numbers,
-  file_header,
-  file_row,
-  row_bytes,
-  bytes,
-}
-use Rattle.rules.proofs.Rings.{rings_few}
+use Rattle.rules.specs.TableFile.{version_1, header_size, label_size, last_size, way_in, label_in, last_of, last_number_of, rings_of, mark_of, file_rings, row_with, row_size, row_numbers, write16, mark, version, labelled_with, file_table, file_labelled, memory_labelled_with, memory_row, numbers, file_header, file_row, row_bytes, bytes}
 use Rattle.rules.specs.Refusals.{unknown_mark, wrong_version, lost_label, header_checks, file_checks, reader_checks}
 use Rattle.rules.specs.Refusals.{label_checks, version_checks, writer_checks}
 use Rattle.rules.specs.Calls.{lent, Read, Written}
 use Rattle.rules.proofs.Answers.{None, Numbered, none_join, none_left, numbered_join, single_none, none_single}
 use Rattle.table.specs.Sound.{Sound}
-use Rattle.table.proofs.Faults.{Marked, marked, marked_right, mark_whole, mark_again, Known, known_right, mark_at}
+use Rattle.table.proofs.Faults.{Marked, marked, marked_right, mark_whole, mark_again, Known, known_right}
 use Rattle.table.proofs.Faults.{header_split, passed_none, none_passed, file_numbered}
 use Rattle.table.proofs.Faults.{memory_sound, memory_none, version_numbered, version_none, version_known}
 use Rattle.table.proofs.RowSizes.{label_none, last_way, last_label, row_length}

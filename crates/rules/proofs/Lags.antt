@@ -4,7 +4,7 @@ use mathlib.Core.Path.{◌≡◌, ap, ◌∙◌}
 use mathlib.Core.Logic.{◌↔◌}
 use mathlib.Core.Bool.{Bool}
 use Prim.Native.Nat.{ℕ, ◌+◌, ◌*◌, ◌<◌}
-use lib.IntN.{ℤ, pos, ◌-ℤ◌}
+use lib.IntN.{pos, ◌-ℤ◌}
 use Rattle.numbers.specs.Finite.{sum_in}
 use Rattle.numbers.specs.Rounding.{Rounded}
 use Rattle.numbers.specs.Signed.{sum_inℤ, Roundedℤ}

@@ -5,7 +5,7 @@ use Prim.Native.Nat.{ℕ}
 use lib.ListN.{length, length-map}
 use Rattle.numbers.specs.Lists.{at}
 use Rattle.rules.specs.Bus.{Table, Labelled, clockwise}
-use Rattle.rules.specs.Parties.{Party, rows_of, of_rows, own, is_over_limit, Agree, OwnRowsOnly}
+use Rattle.rules.specs.Parties.{Party, rows_of, of_rows, own, is_over_limit, OwnRowsOnly}
 
 -- the table whose rows are these
 table_from : (M : ℕ) (costs periods firsts seconds : List ℕ) → Table

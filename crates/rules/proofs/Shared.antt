@@ -1,15 +1,15 @@
 -- #102: the word of the segments that two rows share shows each of them, and is 0 exactly if they don't overlap.
-use mathlib.Core.Path.{◌≡◌, sym, ap, ap₂, ◌∙◌}
+use mathlib.Core.Path.{◌≡◌, sym, ap, ◌∙◌}
 use mathlib.Core.Logic.{◌↔◌}
 use mathlib.Core.Bool.{Bool, false, ◌&&◌}
-use Prim.Native.Nat.{ℕ, suc, ◌<◌}
-use lib.Dec.{T, ltb, ltb→lt, lt→ltb}
+use Prim.Native.Nat.{ℕ, suc}
+use lib.Dec.{ltb, ltb→lt, lt→ltb}
 use Rattle.numbers.specs.Finite.{any}
 use Rattle.numbers.specs.Word.{bit, word}
 use Rattle.numbers.proofs.Truth.{both, fst, snd, along, is_false, of_false}
 use Rattle.numbers.proofs.Finite.{any_of, any_none}
 use Rattle.numbers.proofs.Word.{bit_word, bit_zero, bit_ext}
-use Rattle.rules.specs.Bus.{Table, shares, overlap, shared}
+use Rattle.rules.specs.Bus.{shares, overlap, shared}
 use Rattle.rules.specs.Shared.{ShowsSegments, ZeroIfApart}
 
 -- a word is 0 exactly if no number is in its set

@@ -3,7 +3,6 @@
 --
 --   meet_is, meet_of   the line's rule as facts
 --   one_set_an_end     the statement of specs/Ties
-use mathlib.Core.Path.{◌≡◌}
 use mathlib.Core.Bool.{Bool}
 use Prim.Native.Nat.{ℕ, ◌<◌}
 use native.Mathlib.Omega.{arith}

@@ -11,7 +11,7 @@
 --
 -- `decimal n` is the one text that is plain and has the value n (crate `decimal`, specs/Plain).
 use Rattle.std.specs.Prelude.{List, [], ◌∷◌, ◌++◌, cond, ℕ, zero, suc, ◌+◌, ◌/◌, ◌%◌, ltb, length}
-use Prim.Native.Char.{Char, code}
+use Prim.Native.Char.{code}
 use Prim.Native.String.{String, [] as empty, ◌∷◌ as ◌then◌}
 use Rattle.numbers.specs.Lists.{at, each}
 

@@ -1,5 +1,5 @@
 -- table_file: the header, then the rows.
-use mathlib.Core.Path.{◌≡◌, ap, ◌∙◌}
+use mathlib.Core.Path.{ap, ◌∙◌}
 use Prim.Native.Nat.{ℕ, ◌+◌, ◌/◌, min}
 use lib.ListN.{length}
 use Rattle.rules.specs.Bounds.{max_rows}

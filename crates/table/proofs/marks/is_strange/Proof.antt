@@ -1,5 +1,5 @@
 -- `table::marks::is_strange` meets its contract.
-use Rattle.numbers.proofs.Truth.{decides_yes, decides_no, denied, granted}
+use Rattle.numbers.proofs.Truth.{decides_yes, decides_no}
 use borrow.Author.Rules.{rules}
 use Rattle.table.proofs.marks.is_strange.Statement.{statement}
 use Rattle.table.proofs.marks.is_strange.Tie as tie
