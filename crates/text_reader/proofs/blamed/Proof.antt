@@ -15,23 +15,19 @@ returns-3 c = rw c.if-number-eq-WRONG_WAY.true
 
 returns-4 : tie.Need-returns-then-first-lt1
 returns-4 c =
-    let y = c in
-    let z = y in
     rw (
-      ne_eqb _ _ z.if-number-eq-WRONG_PERIOD.false,
-      ne_eqb _ _ y.if-number-eq-WRONG_COST.false,
+      ne_eqb _ _ c.if-number-eq-WRONG_PERIOD.false,
+      ne_eqb _ _ c.if-number-eq-WRONG_COST.false,
       ne_eqb _ _ c.if-number-eq-WRONG_WAY.false,
-      lt-leb 1 z.args.first (omega arith),
+      lt-leb 1 c.args.first (omega arith),
     )
 
 returns-5 : tie.Need-returns-then-first-elements
 returns-5 c =
-    let y = c in
-    let z = y in
-    let a = z.args in
+    let a = c.args in
     rw (
-      ne_eqb _ _ z.if-number-eq-WRONG_PERIOD.false,
-      ne_eqb _ _ y.if-number-eq-WRONG_COST.false,
+      ne_eqb _ _ c.if-number-eq-WRONG_PERIOD.false,
+      ne_eqb _ _ c.if-number-eq-WRONG_COST.false,
       ne_eqb _ _ c.if-number-eq-WRONG_WAY.false,
       le-leb 1 a.first (omega arith),
       lt-leb a.first a.elements (omega arith),
@@ -39,12 +35,10 @@ returns-5 c =
 
 returns-6 : tie.Need-returns
 returns-6 c =
-    let y = c in
-    let z = y in
-    let a = z.args in
+    let a = c.args in
     rw (
-      ne_eqb _ _ z.if-number-eq-WRONG_PERIOD.false,
-      ne_eqb _ _ y.if-number-eq-WRONG_COST.false,
+      ne_eqb _ _ c.if-number-eq-WRONG_PERIOD.false,
+      ne_eqb _ _ c.if-number-eq-WRONG_COST.false,
       ne_eqb _ _ c.if-number-eq-WRONG_WAY.false,
       le-leb 1 a.first (omega arith),
       le-leb a.first a.elements (omega arith),

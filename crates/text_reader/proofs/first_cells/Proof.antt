@@ -22,12 +22,10 @@ cell-at-requires c κs = c.requires
 
 returns : tie.Need-returns-then-cell-ne0 invariant-loop decreases-loop
 returns c =
-    let l = c in
-    let u = l in
     record {
-      answers = celled_stop u.loop-k.invariant (omega arith) l.cell_at-cell.ensures c.if-cell-ne0.true;
+      answers = celled_stop c.loop-k.invariant (omega arith) c.cell_at-cell.ensures c.if-cell-ne0.true;
       value = λ z. absurd (c.if-cell-ne0.true z);
-      size = u.loop-k.invariant.size;
+      size = c.loop-k.invariant.size;
     }
 
 mul-value : tie.Need-offset_bounds-value-k invariant-loop decreases-loop
@@ -44,8 +42,7 @@ loop-less c = omega arith
 
 loop-again : tie.Need-loop-k-preserved invariant-loop decreases-loop
 loop-again c =
-    let l = c in
-    celled_next l.loop-k.invariant (omega arith) l.cell_at-cell.ensures c.if-cell-ne0.false
+    celled_next c.loop-k.invariant (omega arith) c.cell_at-cell.ensures c.if-cell-ne0.false
 
 returns-2 : tie.Need-returns invariant-loop decreases-loop
 returns-2 c =

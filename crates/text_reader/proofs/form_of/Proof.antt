@@ -45,9 +45,8 @@ returns-2 : tie.Need-returns-then-last-ne0
 returns-2 c =
     let e = c.refuse_row-then-last-ne0.ensures in
     let h = c.if-last-ne0.true in
-    let a = c in
     record {
-      answers = rw (e.0, e.1) (form_last _ _ (cells a.before.before.before.before) _ _ h a.cell_at-last.ensures.answers);
+      answers = rw (e.0, e.1) (form_last _ _ (cells c.before.before.before.before) _ _ h c.cell_at-last.ensures.answers);
       row = λ z. absurd (h (sym e.0 ∙ z));
     }
 
@@ -64,13 +63,10 @@ returns-3 : tie.Need-returns-then-shape-ne0
 returns-3 c =
     let e = c.refuse_row-then-shape-ne0.ensures in
     let h = c.if-shape-ne0.true in
-    let s = c in
-    let n = s in
-    let a = n in
     record {
       answers =
           rw (e.0, e.1)
-          (form_ends _ _ (cells a.before.before.before.before.before.before.before.before) _ _ (lasts n.before.before.before.before.before) (rw n.needed.ensures at s.shape_fault-shape.ensures));
+          (form_ends _ _ (cells c.before.before.before.before.before.before.before.before) _ _ (lasts c.before.before.before.before.before) (rw c.needed.ensures at c.shape_fault-shape.ensures));
       row = λ z. absurd (h (sym e.0 ∙ z));
     }
 

@@ -38,12 +38,11 @@ refuse-heading-requires c κs = search rules
 returns : tie.Need-returns-then-is_no_heading
 returns c =
     let e = c.refuse_heading.ensures in
-    let p = c in
-    let w = p in
+    let w = c in
     record {
       answers =
-          heading_none _ _ _ e.0 (e.1 ∙ p.place_of.ensures)
-          ((w.is_no_heading.ensures w.args.from).holds p.if-is_no_heading.true);
+          heading_none _ _ _ e.0 (e.1 ∙ c.place_of.ensures)
+          ((w.is_no_heading.ensures w.args.from).holds c.if-is_no_heading.true);
       elements = λ z. absurd (let y : ⊥ = omega (arith, e.0, z) in y);
       rings = λ z. absurd (let y : ⊥ = omega (arith, e.0, z) in y);
     }
@@ -58,9 +57,8 @@ returns-2 : tie.Need-returns-then-cell-ne0
 returns-2 c =
     let e = c.refuse_heading-then-cell-ne0.ensures in
     let h = c.if-cell-ne0.true in
-    let a = c in
     record {
-      answers = rw (e.0, e.1) (heading_cell _ (worded a.before.before.before.before) _ _ h a.cell_at-cell.ensures.answers);
+      answers = rw (e.0, e.1) (heading_cell _ (worded c.before.before.before.before) _ _ h c.cell_at-cell.ensures.answers);
       elements = λ z. absurd (h (sym e.0 ∙ z));
       rings = λ z. absurd (h (sym e.0 ∙ z));
     }
@@ -75,10 +73,8 @@ returns-3 : tie.Need-returns-then-shape-ne0
 returns-3 c =
     let e = c.refuse_heading-then-shape-ne0.ensures in
     let h = c.if-shape-ne0.true in
-    let s = c in
-    let a = s in
     record {
-      answers = rw (e.0, e.1) (heading_shape _ (worded a.before.before.before.before.before.before.before) (cell s.before.before.before.before) _ _ h s.shape_fault-shape.ensures);
+      answers = rw (e.0, e.1) (heading_shape _ (worded c.before.before.before.before.before.before.before) (cell c.before.before.before.before) _ _ h c.shape_fault-shape.ensures);
       elements = λ z. absurd (h (sym e.0 ∙ z));
       rings = λ z. absurd (h (sym e.0 ∙ z));
     }
@@ -95,15 +91,14 @@ refuse-heading-requires-4 c κs = search rules
 returns-4 : tie.Need-returns-then-is_wrong_size
 returns-4 c =
     let e = c.refuse_heading-then-is_wrong_size.ensures in
-    let p = c in
-    let w = p in
+    let w = c in
     let s = w in
     let a = s in
     record {
       answers =
           heading_wrong _ (worded a.before.before.before.before.before.before.before.before.before.before) (cell s.before.before.before.before.before.before.before) (shape w.before.before.before.before) _
-          (a.cell_at-cell.ensures.value s.if-cell-ne0.false) _ _ e.0 (e.1 ∙ p.place_of-then-is_wrong_size.ensures)
-          (w.is_wrong_size.ensures.holds p.if-is_wrong_size.true);
+          (a.cell_at-cell.ensures.value s.if-cell-ne0.false) _ _ e.0 (e.1 ∙ c.place_of-then-is_wrong_size.ensures)
+          (w.is_wrong_size.ensures.holds c.if-is_wrong_size.true);
       elements = λ z. absurd (let y : ⊥ = omega (arith, e.0, z) in y);
       rings = λ z. absurd (let y : ⊥ = omega (arith, e.0, z) in y);
     }

@@ -38,21 +38,18 @@ loop-less c = omega arith
 
 loop-again : tie.Need-loop-k-preserved invariant-loop decreases-loop
 loop-again c =
-    let u = c in
-    let z = u in
-    let numbers = z.args.numbers.now in
-    let k = u.loop-k.k in
+    let numbers = c.args.numbers.now in
+    let k = c.loop-k.k in
     let l : k < length numbers = omega arith in
-    (omega arith, rw (take_next numbers k l) (filled_put (at numbers k) u.loop-k.invariant.1 (omega (arith, z.requires))))
+    (omega arith, rw (take_next numbers k l) (filled_put (at numbers k) c.loop-k.invariant.1 (omega (arith, c.requires))))
 
 same_length : tie.Need-shape_of-out invariant-loop decreases-loop
 same_length c = c.loop-k.invariant.1.same
 
 returns : tie.Need-returns invariant-loop decreases-loop
 returns c =
-    let u = c in
-    let numbers = u.args.numbers.now in
-    rw (take_all u.loop-k.k numbers (omega arith)) at (filled_lent u.loop-k.invariant.1)
+    let numbers = c.args.numbers.now in
+    rw (take_all c.loop-k.k numbers (omega arith)) at (filled_lent c.loop-k.invariant.1)
 
 pub put_front_spec : {M : Type 1} → statement M
 put_front_spec =

@@ -26,8 +26,7 @@ read-lines-requires c κs = search rules
 
 returns-2 : tie.Need-returns-then-found-ne0
 returns-2 c =
-    let l = c in
-    read_refused _ _ (omega arith) l.read_lines-found.ensures c.if-found-ne0.true
+    read_refused _ _ (omega arith) c.read_lines-found.ensures c.if-found-ne0.true
 
 mul-size : tie.Need-overflow_mul-size
 mul-size c = omega (arith, c.read_lines-found.ensures.few c.if-found-ne0.false)
@@ -37,9 +36,7 @@ refuse-text-requires-2 c κs = search rules
 
 returns-3 : tie.Need-returns-then-out-size
 returns-3 c =
-    let e = c in
-    let l = e in
-    read_short _ _ (omega arith) l.read_lines-found.ensures e.if-found-ne0.false _ (omega arith) c.refuse_text-then-out-size.ensures
+    read_short _ _ (omega arith) c.read_lines-found.ensures c.if-found-ne0.false _ (omega arith) c.refuse_text-then-out-size.ensures
 
 -- the rows that were read have room
 few : (z : tie.Else-found-ne0) → z.read_lines-found.result.table.rows ≤ max_rows

@@ -23,15 +23,13 @@ part-heading-of-end c = omega (arith, c.next_line-first.ensures.high)
 
 heading-of-requires : tie.Need-heading_of-heading-requires
 heading-of-requires c κs =
-    let n = c in
-    let z = n in
-    let l = n.next_line-first.result in
+    let l = c.next_line-first.result in
     omega (
       arith,
-      n.next_line-first.ensures.ordered,
-      n.next_line-first.ensures.high,
-      z.requires.0,
-      length-take (l.end - l.start) (drop l.start z.args.text.now),
+      c.next_line-first.ensures.ordered,
+      c.next_line-first.ensures.high,
+      c.requires.0,
+      length-take (l.end - l.start) (drop l.start c.args.text.now),
     )
 
 refuse-text-requires : tie.Need-refuse_text-requires
@@ -39,23 +37,18 @@ refuse-text-requires c κs = search rules
 
 returns : tie.Need-returns-then-heading-ne0
 returns c =
-    let h = c in
-    let n = h in
-    lines_heading _ _ _ _ _ _ c.if-heading-ne0.true (here n.next_line-first.ensures h.heading_of-heading.ensures) c.refuse_text.ensures refl
+    lines_heading _ _ _ _ _ _ c.if-heading-ne0.true (here c.next_line-first.ensures c.heading_of-heading.ensures) c.refuse_text.ensures refl
 
 cast-elements : tie.Need-overflow_cast-elements
 cast-elements c = search rules
 
 read-rows-requires : tie.Need-read_rows-found-requires
 read-rows-requires c κs =
-    let e = c in
-    let h = e in
-    let n = h in
-    let z = n in (
+    let z = c in (
       z.requires.0,
-      rest n.next_line-first.ensures h.heading_of-heading.ensures e.if-heading-ne0.false,
-      rings_are n.next_line-first.ensures h.heading_of-heading.ensures e.if-heading-ne0.false,
-      elements_are n.next_line-first.ensures h.heading_of-heading.ensures e.if-heading-ne0.false,
+      rest c.next_line-first.ensures c.heading_of-heading.ensures c.if-heading-ne0.false,
+      rings_are c.next_line-first.ensures c.heading_of-heading.ensures c.if-heading-ne0.false,
+      elements_are c.next_line-first.ensures c.heading_of-heading.ensures c.if-heading-ne0.false,
       z.requires.1,
     )
 
@@ -67,11 +60,7 @@ same_length c = search rules
 
 returns-2 : tie.Need-returns-then-found-ne0
 returns-2 c =
-    let r = c in
-    let e = r in
-    let h = e in
-    let n = h in
-    lines_rows _ _ _ (heading_passes n.next_line-first.ensures h.heading_of-heading.ensures e.if-heading-ne0.false) r.read_rows-found.ensures _
+    lines_rows _ _ _ (heading_passes c.next_line-first.ensures c.heading_of-heading.ensures c.if-heading-ne0.false) c.read_rows-found.ensures _
     c.if-found-ne0.true c.refuse_text-then-found-ne0.ensures
 
 refuse-text-requires-3 : tie.Need-refuse_text-requires-then-found-eq0
@@ -82,13 +71,8 @@ same-length-2 c = search rules
 
 returns-3 : tie.Need-returns-then-found-eq0
 returns-3 c =
-    let f = c in
-    let r = f in
-    let e = r in
-    let h = e in
-    let n = h in
-    lines_empty _ _ _ (heading_passes n.next_line-first.ensures h.heading_of-heading.ensures e.if-heading-ne0.false) r.read_rows-found.ensures
-    f.if-found-ne0.false _ c.if-found-eq0.true c.refuse_text-then-found-eq0.ensures
+    lines_empty _ _ _ (heading_passes c.next_line-first.ensures c.heading_of-heading.ensures c.if-heading-ne0.false) c.read_rows-found.ensures
+    c.if-found-ne0.false _ c.if-found-eq0.true c.refuse_text-then-found-eq0.ensures
 
 array-read-t21 : tie.Need-bounds-0
 array-read-t21 c = search rules
@@ -107,15 +91,9 @@ same-length-3 c = search rules
 
 returns-4 : tie.Need-returns
 returns-4 c =
-    let m = c in
-    let f = m in
-    let r = f in
-    let e = r in
-    let h = e in
-    let n = h in
-    lines_done _ _ _ (heading_passes n.next_line-first.ensures h.heading_of-heading.ensures e.if-heading-ne0.false) r.read_rows-found.ensures
-    f.if-found-ne0.false _ _ _ _ m.if-found-eq0.false (rings_are n.next_line-first.ensures h.heading_of-heading.ensures e.if-heading-ne0.false)
-    (elements_are n.next_line-first.ensures h.heading_of-heading.ensures e.if-heading-ne0.false) m.mark_byte.ensures c.version_for.ensures
+    lines_done _ _ _ (heading_passes c.next_line-first.ensures c.heading_of-heading.ensures c.if-heading-ne0.false) c.read_rows-found.ensures
+    c.if-found-ne0.false _ _ _ _ c.if-found-eq0.false (rings_are c.next_line-first.ensures c.heading_of-heading.ensures c.if-heading-ne0.false)
+    (elements_are c.next_line-first.ensures c.heading_of-heading.ensures c.if-heading-ne0.false) c.mark_byte.ensures c.version_for.ensures
 
 pub read_lines_spec : {M : Type 1} → statement M
 read_lines_spec =

@@ -19,8 +19,7 @@ next-line-requires c κs = c.requires.1.inside
 
 loop-holds : tie.Need-loop-line-init invariant-loop decreases-loop
 loop-holds c =
-    let z = c in
-    reading_start _ z.requires.1 c.next_line-line.ensures
+    reading_start _ c.requires.1 c.next_line-line.ensures
 
 sub-row-at : tie.Need-slice_bounds-row_at-count invariant-loop decreases-loop
 sub-row-at c = omega (arith, c.loop-line.invariant.next.ordered)
@@ -33,48 +32,37 @@ part-row-at-end c = omega (arith, c.loop-line.invariant.next.high)
 
 row-at-requires : tie.Need-row_at-found-requires invariant-loop decreases-loop
 row-at-requires c κs =
-    let u = c in
-    let z = u in
-    let n = u.loop-line.invariant.next in
-    let l = u.loop-line.line in
-    omega (arith, n.ordered, n.high, z.requires.0, length-take (l.end - l.start) (drop l.start z.args.text.now))
+    let n = c.loop-line.invariant.next in
+    let l = c.loop-line.line in
+    omega (arith, n.ordered, n.high, c.requires.0, length-take (l.end - l.start) (drop l.start c.args.text.now))
 
 same_length : tie.Need-shape_of-numbers-then-found-ne0 invariant-loop decreases-loop
 same_length c = c.loop-line.invariant.filled.same
 
 returns : tie.Need-returns-then-found-ne0 invariant-loop decreases-loop
 returns c =
-    let r = c in
-    let t = r in
-    let u = t in
-    let z = u in
+    let z = c in
     reading_refused _ _ _ _ _ c.if-found-ne0.true
-    (reading_stop u.loop-line.invariant t.loop-line-test.true (rw (z.requires.2, z.requires.3) at r.row_at-found.ensures) c.if-found-ne0.true)
-    u.loop-line.invariant.filled.same
+    (reading_stop c.loop-line.invariant c.loop-line-test.true (rw (z.requires.2, z.requires.3) at c.row_at-found.ensures) c.if-found-ne0.true)
+    c.loop-line.invariant.filled.same
 
 mul-put-numbers : tie.Need-overflow_mul-i invariant-loop decreases-loop
 mul-put-numbers c = omega (arith, c.loop-line.invariant.few)
 
 put-numbers-requires : tie.Need-put_numbers-requires invariant-loop decreases-loop
 put-numbers-requires c κs =
-    let e = c in
-    let r = e in
-    let u = r in
-    let z = u in
-    omega (arith, r.row_at-found.ensures.few e.if-found-ne0.false, u.loop-line.invariant.filled.same, z.requires.4)
+    omega (arith, c.row_at-found.ensures.few c.if-found-ne0.false, c.loop-line.invariant.filled.same, c.requires.4)
 
 sub-has-field : tie.Need-slice_bounds-has_field-count invariant-loop decreases-loop
 sub-has-field c = omega (arith, c.loop-line.invariant.next.ordered)
 
 part-has-field-start : tie.Need-slice_bounds-has_field-start invariant-loop decreases-loop
 part-has-field-start c =
-    let u = c in
-    omega (arith, u.loop-line.invariant.next.ordered)
+    omega (arith, c.loop-line.invariant.next.ordered)
 
 part-has-field-end : tie.Need-slice_bounds-has_field-end invariant-loop decreases-loop
 part-has-field-end c =
-    let u = c in
-    omega (arith, u.loop-line.invariant.next.high)
+    omega (arith, c.loop-line.invariant.next.high)
 
 has-field-requires : tie.Need-has_field-requires invariant-loop decreases-loop
 has-field-requires c κs = search rules
@@ -84,19 +72,15 @@ either-requires c κs = search rules
 
 add-i : tie.Need-overflow_add-i invariant-loop decreases-loop
 add-i c =
-    let u = c in
-    omega (arith, u.loop-line.invariant.few)
+    omega (arith, c.loop-line.invariant.few)
 
 next-line-requires-2 : tie.Need-next_line-line-requires-in-loop-line invariant-loop decreases-loop
 next-line-requires-2 c κs =
-    let u = c in
-    u.loop-line.invariant.next.past
+    c.loop-line.invariant.next.past
 
 loop-less : tie.Need-loop-line-smaller invariant-loop decreases-loop
 loop-less c =
-    let r = c in
-    let e = c in
-    omega (arith, r.row_at-found.ensures.few e.if-found-ne0.false)
+    omega (arith, c.row_at-found.ensures.few c.if-found-ne0.false)
 
 loop-again : tie.Need-loop-line-preserved invariant-loop decreases-loop
 loop-again c =

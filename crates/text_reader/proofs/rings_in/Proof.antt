@@ -22,16 +22,14 @@ shared-slice-read-if2 c =
 returns-2 : tie.Need-returns-then-line-start-eq98
 unfolding rings_in
 returns-2 c =
-    let e = c in
-    let f = e.field-word.ensures in
-    λ from. rw (first_byte (f from) (omega (arith, (f 0).ordered, e.if-start-word.false)), eq-eqb _ _ c.if-line-start-eq98.true)
+    let f = c.field-word.ensures in
+    λ from. rw (first_byte (f from) (omega (arith, (f 0).ordered, c.if-start-word.false)), eq-eqb _ _ c.if-line-start-eq98.true)
 
 returns-3 : tie.Need-returns
 unfolding rings_in
 returns-3 c =
-    let e = c in
-    let f = e.field-word.ensures in
-    λ from. rw (first_byte (f from) (omega (arith, (f 0).ordered, e.if-start-word.false)), ne_eqb _ _ c.if-line-start-eq98.false)
+    let f = c.field-word.ensures in
+    λ from. rw (first_byte (f from) (omega (arith, (f 0).ordered, c.if-start-word.false)), ne_eqb _ _ c.if-line-start-eq98.false)
 
 pub rings_in_spec : {M : Type 1} → statement M
 rings_in_spec = tie.close (tie.spec field-requires returns shared-slice-read-if2 returns-2 returns-3)

@@ -16,9 +16,8 @@ refuse-row-requires c κs = search rules
 returns : tie.Need-returns-then-i-ge-ROWS
 returns c =
     let e = c.refuse_row.ensures in
-    let p = c in
     record {
-      answers = row_many _ _ _ _ _ _ p.if-i-ge-ROWS.true e.0 (e.1 ∙ p.place_of.ensures);
+      answers = row_many _ _ _ _ _ _ c.if-i-ge-ROWS.true e.0 (e.1 ∙ c.place_of.ensures);
       row = λ z. absurd (let y : ⊥ = omega (arith, e.0, z) in y);
       few = λ z. absurd (let y : ⊥ = omega (arith, e.0, z) in y);
     }
@@ -28,10 +27,9 @@ form-of-requires c κs = search rules
 
 returns-2 : tie.Need-returns-then-form-ne0
 returns-2 c =
-    let f = c in
     record {
-      answers = row_form _ _ _ _ (omega arith) _ _ c.if-form-ne0.true f.form_of-form.ensures.answers;
-      row = f.form_of-form.ensures.row;
+      answers = row_form _ _ _ _ (omega arith) _ _ c.if-form-ne0.true c.form_of-form.ensures.answers;
+      row = c.form_of-form.ensures.row;
       few = λ z. omega arith;
     }
 
@@ -47,27 +45,23 @@ returns-3 : tie.Need-returns-then-fault-ne0
 returns-3 c =
     let e = c.refuse_row-then-fault-ne0.ensures in
     let h = c.if-fault-ne0.true in
-    let v = c in
-    let f = v in
     record {
       answers =
           rw (e.0, e.1)
           (row_values _ _ _ _ (omega arith) _ _
-          (none_of _ _ (form_numbered _ _) (rw v.if-form-ne0.false at f.form_of-form.ensures.answers))
-          v.value_fault-fault.ensures);
+          (none_of _ _ (form_numbered _ _) (rw c.if-form-ne0.false at c.form_of-form.ensures.answers))
+          c.value_fault-fault.ensures);
       row = λ z. absurd (h (sym e.0 ∙ z));
       few = λ z. omega arith;
     }
 
 returns-4 : tie.Need-returns
 returns-4 c =
-    let v = c in
-    let f = v in
     record {
       answers =
-          row_done _ _ _ _ _ _ _ _ (omega arith) v.if-form-ne0.false f.form_of-form.ensures.answers c.if-fault-ne0.false
-          v.value_fault-fault.ensures;
-      row = f.form_of-form.ensures.row;
+          row_done _ _ _ _ _ _ _ _ (omega arith) c.if-form-ne0.false c.form_of-form.ensures.answers c.if-fault-ne0.false
+          c.value_fault-fault.ensures;
+      row = c.form_of-form.ensures.row;
       few = λ z. omega arith;
     }
 

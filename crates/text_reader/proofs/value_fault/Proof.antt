@@ -13,10 +13,7 @@ row-fault-requires c κs = search rules
 
 returns : tie.Need-returns-then-number-eq-DONE
 returns c =
-    let r = c in
-    let n = r in
-    let z = n in
-    answered _ (values_right _ _ _ _ z.requires.1 (rw (c.if-number-eq-DONE.true, n.in_ring.ensures) at r.row_fault-number.ensures))
+    answered _ (values_right _ _ _ _ c.requires.1 (rw (c.if-number-eq-DONE.true, c.in_ring.ensures) at c.row_fault-number.ensures))
 
 blamed-requires : tie.Need-blamed-requires
 blamed-requires c κs = search rules
@@ -26,12 +23,8 @@ place-of-requires c κs = c.requires.0
 
 returns-2 : tie.Need-returns
 returns-2 c =
-    let b = c in
-    let r = b in
-    let n = r in
-    let z = n in
-    rw (c.place_of.ensures, b.blamed.ensures)
-    (values_wrong _ _ _ _ z.requires.1 _ b.if-number-eq-DONE.false (rw n.in_ring.ensures at r.row_fault-number.ensures))
+    rw (c.place_of.ensures, c.blamed.ensures)
+    (values_wrong _ _ _ _ c.requires.1 _ c.if-number-eq-DONE.false (rw c.in_ring.ensures at c.row_fault-number.ensures))
 
 pub value_fault_spec : {M : Type 1} → statement M
 value_fault_spec =

@@ -9,13 +9,11 @@ returns c = rw (eq-eqb c.args.rings max_rings c.if-rings-eq-RINGS.true)
 
 returns-2 : tie.Need-returns-then-labelled
 returns-2 c =
-    let z = c in
-    rw (ne_eqb z.args.rings max_rings z.if-rings-eq-RINGS.false, c.if-labelled.true)
+    rw (ne_eqb c.args.rings max_rings c.if-rings-eq-RINGS.false, c.if-labelled.true)
 
 returns-3 : tie.Need-returns
 returns-3 c =
-    let z = c in
-    rw (ne_eqb z.args.rings max_rings z.if-rings-eq-RINGS.false, c.if-labelled.false)
+    rw (ne_eqb c.args.rings max_rings c.if-rings-eq-RINGS.false, c.if-labelled.false)
 
 pub version_for_spec : {M : Type 1} → statement M
 version_for_spec = tie.close (tie.spec returns returns-2 returns-3)

@@ -23,8 +23,7 @@ returns : tie.Need-returns-then-rings-eq-RINGS
 unfolding head_line
 returns c =
     let p = c.put_line.ensures in
-    let z = c in
-    rw (eq-eqb z.args.rings max_rings z.if-rings-eq-RINGS.true) (p.0, omega (arith, p.1))
+    rw (eq-eqb c.args.rings max_rings c.if-rings-eq-RINGS.true) (p.0, omega (arith, p.1))
 
 put-line-requires-2 : tie.Need-put_line-requires-2
 put-line-requires-2 c κs = search rules
@@ -36,8 +35,7 @@ returns-2 : tie.Need-returns
 unfolding head_line
 returns-2 c =
     let p = c.put_line-2.ensures in
-    let z = c in
-    rw (ne_eqb z.args.rings max_rings z.if-rings-eq-RINGS.false) (p.0, omega (arith, p.1))
+    rw (ne_eqb c.args.rings max_rings c.if-rings-eq-RINGS.false) (p.0, omega (arith, p.1))
 
 pub put_heading_spec : {M : Type 1} → statement M
 put_heading_spec =

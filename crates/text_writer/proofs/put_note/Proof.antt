@@ -19,8 +19,7 @@ returns : tie.Need-returns-then-rings-eq-RINGS
 unfolding note each
 returns c =
     let p = c.put_bytes.ensures in
-    let z = c in
-    rw (eq-eqb z.args.rings max_rings z.if-rings-eq-RINGS.true) (p, omega (arith, p.after))
+    rw (eq-eqb c.args.rings max_rings c.if-rings-eq-RINGS.true) (p, omega (arith, p.after))
 
 put-bytes-requires-2 : tie.Need-put_bytes-requires-then-version-eq-VERSION_2
 put-bytes-requires-2 c κs = search rules
@@ -32,10 +31,8 @@ returns-2 : tie.Need-returns-then-version-eq-VERSION_2
 unfolding note each
 returns-2 c =
     let p = c.put_bytes-then-version-eq-VERSION_2.ensures in
-    let y = c in
-    let z = y in
-    let a = z.args in
-    rw (ne_eqb a.rings max_rings z.if-rings-eq-RINGS.false, eq-eqb a.version version_2 y.if-version-eq-VERSION_2.true) (p, omega (arith, p.after))
+    let a = c.args in
+    rw (ne_eqb a.rings max_rings c.if-rings-eq-RINGS.false, eq-eqb a.version version_2 c.if-version-eq-VERSION_2.true) (p, omega (arith, p.after))
 
 put-bytes-requires-3 : tie.Need-put_bytes-requires-2
 put-bytes-requires-3 c κs = search rules
@@ -47,10 +44,8 @@ returns-3 : tie.Need-returns
 unfolding note each
 returns-3 c =
     let p = c.put_bytes-2.ensures in
-    let y = c in
-    let z = y in
-    let a = z.args in
-    rw (ne_eqb a.rings max_rings z.if-rings-eq-RINGS.false, ne_eqb a.version version_2 y.if-version-eq-VERSION_2.false) (p, omega (arith, p.after))
+    let a = c.args in
+    rw (ne_eqb a.rings max_rings c.if-rings-eq-RINGS.false, ne_eqb a.version version_2 c.if-version-eq-VERSION_2.false) (p, omega (arith, p.after))
 
 pub put_note_spec : {M : Type 1} → statement M
 put_note_spec =

@@ -47,13 +47,11 @@ small z = record { cost = omega arith; period = omega arith; first = omega arith
 
 returns : tie.Need-returns-then-row_bytes-eq-ROW_BYTES
 returns c =
-    let b = c in
-    let d = b in
-    let z = d.before.before.before.before.before.before.before.before.before.before.before.before.before.before.before.before.before.before.before in
+    let z = c.before.before.before.before.before.before.before.before.before.before.before.before.before.before.before.before.before.before.before in
     let a = z.args in
     let e : last_size a.rings a.version ≡ 0 =
-    omega (arith, b.row_bytes.ensures.0, c.if-row_bytes-eq-ROW_BYTES.true) in
-    puts_row a.rings a.version a.row (small z) (last_absent a.rings a.version a.row.label e) d.put_decimal-next.ensures.0
+    omega (arith, c.row_bytes.ensures.0, c.if-row_bytes-eq-ROW_BYTES.true) in
+    puts_row a.rings a.version a.row (small z) (last_absent a.rings a.version a.row.label e) c.put_decimal-next.ensures.0
     c.put_line.ensures.0
 
 put-line-requires-2 : tie.Need-put_line-requires-2
@@ -64,13 +62,11 @@ same-length-2 c = search rules
 
 returns-2 : tie.Need-returns
 returns-2 c =
-    let b = c in
-    let d = b in
-    let z = d.before.before.before.before.before.before.before.before.before.before.before.before.before.before.before.before.before.before.before in
+    let z = c.before.before.before.before.before.before.before.before.before.before.before.before.before.before.before.before.before.before.before in
     let a = z.args in
     let h : last_size a.rings a.version ≢ 0 =
-    λ e. let y : ⊥ = omega (arith, b.row_bytes.ensures.0, c.if-row_bytes-eq-ROW_BYTES.false, e) in y in
-    puts_row a.rings a.version a.row (small z) (last_there a.rings a.version a.row.label h) d.put_decimal-next.ensures.0
+    λ e. let y : ⊥ = omega (arith, c.row_bytes.ensures.0, c.if-row_bytes-eq-ROW_BYTES.false, e) in y in
+    puts_row a.rings a.version a.row (small z) (last_there a.rings a.version a.row.label h) c.put_decimal-next.ensures.0
     c.put_line-2.ensures.0
 
 pub put_row_spec : {M : Type 1} → statement M

@@ -39,8 +39,7 @@ loop-less c = omega arith
 
 loop-again : tie.Need-loop-i-preserved invariant-loop decreases-loop
 loop-again c =
-    let p = c in
-    let y = p in
+    let y = c in
     let u = y in
     let a = u.args in
     let i = u.loop-i.i in (
@@ -48,7 +47,7 @@ loop-again c =
       lines_next (λ k. row_line a.version (memory_labelled_with a.rings 0 a.rows a.numbers.now) k ∷ []) i u.loop-i.invariant.1 _
           (ap (λ (l : Line). l ∷ [])
           (number_line_lem a.rings a.version a.rows a.numbers.now i y.row_of.result (y.row_of.ensures 0 a.rows)))
-          p.put_row-next.ensures,
+          c.put_row-next.ensures,
     )
 
 same_length : tie.Need-shape_of-out invariant-loop decreases-loop

@@ -23,13 +23,10 @@ same_length c = search rules
 returns : tie.Need-returns
 unfolding table_text
 returns c =
-    let p = c in
-    let n = p in
-    let h = n in
-    let a = h.args in
+    let a = c.args in
     puts_three (head_line a.rings a.elements) (note a.rings a.version)
     (each a.rows (λ i. row_line a.version (memory_labelled_with a.rings 0 a.rows a.numbers.now) i ∷ [])) a.rows
-    h.put_heading-headed.ensures n.put_note-noted.ensures p.put_rows.ensures
+    c.put_heading-headed.ensures c.put_note-noted.ensures c.put_rows.ensures
 
 pub put_text_spec : {M : Type 1} → statement M
 put_text_spec =

@@ -44,11 +44,9 @@ same_length c = search rules
 
 returns-2 : tie.Need-returns
 returns-2 c =
-    let w = c in
-    let r = w in
-    let z = r in
+    let z = c in
     mark_known _ _ _ _ _ _ _ _ _ _ (z.is_no_mark.ensures.fails z.if-is_no_mark.false)
-    (rw r.rings_of.ensures at w.write_with.ensures)
+    (rw c.rings_of.ensures at c.write_with.ensures)
 
 pub write_spec : {M : Type 1} → statement M
 write_spec =

@@ -34,10 +34,9 @@ refuse-write-requires c κs = search rules
 
 returns : tie.Need-returns-then-answer-ne-DONE
 returns c =
-    let v = c in
     let e = c.refuse_write.ensures in
     rw (ap (λ (w : Answer). w.number) e.0, ap (λ (w : Answer). w.place) e.0, e.1)
-    (write_refused _ _ _ _ _ _ _ _ v.check_version-answer.ensures c.if-answer-ne-DONE.true)
+    (write_refused _ _ _ _ _ _ _ _ c.check_version-answer.ensures c.if-answer-ne-DONE.true)
 
 text-size-requires : tie.Need-text_size-size-requires
 text-size-requires c κs = rows c
@@ -50,11 +49,10 @@ refuse-write-requires-2 c κs = search rules
 
 returns-2 : tie.Need-returns-then-out-size
 returns-2 c =
-    let t = c in
     let e = c.refuse_write-then-out-size.ensures in
     let w = c.at.ensures in
     rw (ap (λ (w : Answer). w.number) e.0, ap (λ (w : Answer). w.place) e.0, w.0, w.1, e.1)
-    (write_short _ _ _ _ _ _ (none t.before.before.before.before) (omega (arith, t.text_size-size.ensures, c.if-out-size.true)))
+    (write_short _ _ _ _ _ _ (none c.before.before.before.before) (omega (arith, c.text_size-size.ensures, c.if-out-size.true)))
 
 put-text-requires : tie.Need-put_text-requires
 put-text-requires c κs = rows c.before.before.before
@@ -64,13 +62,9 @@ same_length c = search rules
 
 returns-3 : tie.Need-returns
 returns-3 c =
-    let p = c in
-    let o = p in
-    let t = o in
-    let z = t in
-    write_done _ _ _ _ _ _ _ _ _ _ z.check_version-answer.ensures z.if-answer-ne-DONE.false
-    (λ l. let q : ⊥ = omega (arith, t.text_size-size.ensures, o.if-out-size.false) in q)
-    (put_front p.put_text.ensures (omega (arith, t.text_size-size.ensures, o.if-out-size.false))) t.text_size-size.ensures
+    write_done _ _ _ _ _ _ _ _ _ _ c.check_version-answer.ensures c.if-answer-ne-DONE.false
+    (λ l. let q : ⊥ = omega (arith, c.text_size-size.ensures, c.if-out-size.false) in q)
+    (put_front c.put_text.ensures (omega (arith, c.text_size-size.ensures, c.if-out-size.false))) c.text_size-size.ensures
 
 pub write_with_spec : {M : Type 1} → statement M
 write_with_spec =

@@ -28,17 +28,15 @@ refuse-requires c κs = search rules
 
 returns : tie.Need-returns-then-not-is_digit invariant-loop decreases-loop
 returns c =
-    let d = c in
     let e = c.refuse.ensures in
-    cell_word _ d.loop-i.invariant _ (omega arith) (denied d.is_digit.ensures c.if-not-is_digit.true) e.0 e.1
+    cell_word _ c.loop-i.invariant _ (omega arith) (denied c.is_digit.ensures c.if-not-is_digit.true) e.0 e.1
 
 shared-slice-read-grow : tie.Need-bounds-digits-i-in-loop-i invariant-loop decreases-loop
 shared-slice-read-grow c = omega arith
 
 grow-requires : tie.Need-grow-x-requires invariant-loop decreases-loop
 grow-requires c κs =
-    let d = c in
-    (omega (arith, d.loop-i.invariant.sum), granted d.is_digit.ensures c.if-not-is_digit.false)
+    (omega (arith, c.loop-i.invariant.sum), granted c.is_digit.ensures c.if-not-is_digit.false)
 
 add-i : tie.Need-overflow_add-i invariant-loop decreases-loop
 add-i c = omega arith
@@ -48,8 +46,7 @@ loop-less c = omega arith
 
 loop-again : tie.Need-loop-i-preserved invariant-loop decreases-loop
 loop-again c =
-    let d = c in
-    summed_next d.loop-i.invariant _ (omega arith) (granted d.is_digit.ensures c.if-not-is_digit.false)
+    summed_next c.loop-i.invariant _ (omega arith) (granted c.is_digit.ensures c.if-not-is_digit.false)
     c.grow-x.ensures
 
 refuse-requires-2 : tie.Need-refuse-requires-then-x-gt65535 invariant-loop decreases-loop

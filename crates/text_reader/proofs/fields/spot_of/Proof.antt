@@ -29,11 +29,10 @@ shared-slice-read-step c = omega (arith, c.least-end.ensures)
 
 step-requires : tie.Need-step-at-requires invariant-loop decreases-loop
 step-requires c κs =
-    let u = c in
-    let text = u.args.text.now in
-    let low = spot_low text u.loop-i.i in
-    let e = u.loop-i.invariant.1 in
-    let l = u.least-end.ensures in
+    let text = c.args.text.now in
+    let low = spot_low text c.loop-i.i in
+    let e = c.loop-i.invariant.1 in
+    let l = c.least-end.ensures in
     (omega (arith, ap (λ (s : Spot). s.line) e, low.0, l), omega (arith, ap (λ (s : Spot). s.column) e, low.1, l))
 
 add-i : tie.Need-overflow_add-i invariant-loop decreases-loop
@@ -44,15 +43,13 @@ loop-less c = omega arith
 
 loop-again : tie.Need-loop-i-preserved invariant-loop decreases-loop
 loop-again c =
-    let u = c in
-    let text = u.args.text.now in
-    let i = u.loop-i.i in
-    (omega arith, c.step-at.ensures ∙ ap (λ (s : Spot). stepped s (byte text i)) u.loop-i.invariant.1 ∙ spot_next text i)
+    let text = c.args.text.now in
+    let i = c.loop-i.i in
+    (omega arith, c.step-at.ensures ∙ ap (λ (s : Spot). stepped s (byte text i)) c.loop-i.invariant.1 ∙ spot_next text i)
 
 returns : tie.Need-returns invariant-loop decreases-loop
 returns c =
-    let u = c in
-    is_spot _ _ u.loop-i.i _ (omega (arith, u.least-end.ensures)) u.loop-i.invariant.1
+    is_spot _ _ c.loop-i.i _ (omega (arith, c.least-end.ensures)) c.loop-i.invariant.1
 
 pub spot_of_spec : {M : Type 1} → statement M
 spot_of_spec =
