@@ -2,10 +2,10 @@
 --
 --   Between a b xs     the entries xs have ascending ranks from a on, all below b
 use mathlib.Core.Path.{◌≡◌, sym, ap₂, ◌∙◌}
-use mathlib.Core.Logic.{⊎_elim, inr, ◌⊎◌}
+use mathlib.Core.Logic.{⊎_elim, inr}
 use mathlib.Core.Bool.{◌&&◌}
 use mathlib.Core.List.{List, ◌++◌}
-use Prim.Native.Nat.{ℕ, ◌+◌, ◌-◌, ◌≤◌, ◌<◌}
+use Prim.Native.Nat.{ℕ, ◌≤◌, ◌<◌}
 use native.Mathlib.Omega.{arith}
 use lib.Bits.{bit_and}
 use lib.Dec.{T, eqb, eqb→eq, ltb, ltb→lt}

@@ -56,10 +56,10 @@ nothing-requires-2 c κs = search rules
 
 returns-2 : tie.Need-returns-in_default
 returns-2 c =
-    let j = c.before.before.before.before.before in
+    let j = c.before.before.before.before in
     let a = (start j).args in
     judged_refused (bytes j) a.plan.now a.element j.judge-verdict.result _ (own j) j.judge-verdict.ensures
-    c.enum_told-1.given.1
+    c.in_default.is
     _ _ c.number.ensures c.place.ensures c.nothing-in_default.result c.nothing-in_default.ensures.answer
 
 decode-requires : tie.Need-decode-found-requires
@@ -67,26 +67,26 @@ decode-requires c κs = search rules
 
 -- the verdict admits
 admitted : (c : tie.After-decode-found)
-    → let j = c.before.before.before.before in
+    → let j = c.before.before in
     None (one_ring_ask (bytes j)).checks
 admitted c =
-    let j = c.before.before.before.before in
-    judged_none (bytes j) j.judge-verdict.result _ _ _ _ _ _ (own j) j.judge-verdict.ensures c.verdict-1.given.1
+    let j = c.before.before in
+    judged_none (bytes j) j.judge-verdict.result _ _ _ _ _ _ (own j) j.judge-verdict.ensures c.in-Admitted.is
 
 cast-find-on : tie.Need-overflow_cast-hyper
 cast-find-on c = search rules
 
 find-on-requires : tie.Need-find_on-requires
 find-on-requires c κs =
-    let j = c.before.before.before.before.before in
+    let j = c.before.before.before in
     judged_table (bytes j) j.judge-verdict.result _ _ _ _ _ _ (own j) j.judge-verdict.ensures
-    c.verdict-1.given.1 c.decode-found.result
+    c.in-Admitted.is c.decode-found.result
     c.decode-found.ensures
 
 returns-3 : tie.Need-returns
 returns-3 c =
     let d = c.before.before in
-    let j = d.before.before.before.before in
+    let j = d.before.before in
     let a = (start j).args in
     admitted_finds (bytes j) a.plan.now a.element (admitted d) d.decode-found.result d.decode-found.ensures c.find_on.result
     c.find_on.ensures

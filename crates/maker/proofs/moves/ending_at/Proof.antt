@@ -43,10 +43,10 @@ loop-again c =
     let p : ℕ → Bool = λ i. eqb (at z.args.ends.now i) z.args.element in (
       omega arith,
       elim c.if-end_at-element.branch [
-        then-end_at-element w ↦
-          w.word-is ∙ word_in u.i p _ (omega (arith, z.requires)) u.invariant.1 (eqb_of _ _ (sym e ∙ w.if-end_at-element.true))
-      | else-end_at-element w ↦
-          w.word-is ∙ word_out u.i p _ u.invariant.1 (λ t. w.if-end_at-element.false (e ∙ eqb→eq _ _ t))
+        | then-end_at-element w ↦
+            w.word-is ∙ word_in u.i p _ (omega (arith, z.requires)) u.invariant.1 (eqb_of _ _ (sym e ∙ w.if-end_at-element.true))
+        | else-end_at-element w ↦
+            w.word-is ∙ word_out u.i p _ u.invariant.1 (λ t. w.if-end_at-element.false (e ∙ eqb→eq _ _ t))
       ],
     )
 

@@ -66,12 +66,12 @@ loop-again c =
       omega arith,
       λ t e l.
           elim c.if-word-i-eq1.branch [
-            then-word-i-eq1+else-used-segments-ne0 w ↦
-              let g = w.segments_at-segments.ensures ∙ l.row u.i (omega (arith, e, m)) in
-              rw (w.used-is ∙ ap (bit_or u.used) g)
-              (used_add (u.invariant.1 t e l) (bit_is a.word u.i w.if-word-i-eq1.true) (ways l u.i (omega (arith, e, m)))
-              (ap (bit_and u.used) (sym g) ∙ w.if-used-segments-ne0.false))
-          | else-word-i-eq1 w ↦ rw w.used-is (used_skip (u.invariant.1 t e l) (bit_is_not a.word u.i w.if-word-i-eq1.false))
+            | then-word-i-eq1+else-used-segments-ne0 w ↦
+                let g = w.segments_at-segments.ensures ∙ l.row u.i (omega (arith, e, m)) in
+                rw (w.used-is ∙ ap (bit_or u.used) g)
+                (used_add (u.invariant.1 t e l) (bit_is a.word u.i w.if-word-i-eq1.true) (ways l u.i (omega (arith, e, m)))
+                (ap (bit_and u.used) (sym g) ∙ w.if-used-segments-ne0.false))
+            | else-word-i-eq1 w ↦ rw w.used-is (used_skip (u.invariant.1 t e l) (bit_is_not a.word u.i w.if-word-i-eq1.false))
           ],
     )
 

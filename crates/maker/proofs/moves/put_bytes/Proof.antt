@@ -4,7 +4,6 @@ use Prim.Native.Nat.{◌+◌, ◌*◌, ◌-◌, ◌≤◌}
 use native.Mathlib.Omega.{arith}
 use lib.ListN.{take}
 use borrow.Author.Rules.{rules}
-use Rattle.numbers.specs.Lists.{at}
 use Rattle.numbers.proofs.Lists.{filled_front}
 use Rattle.rules.specs.ElementList.{list_header, entry_size, in_file}
 use Rattle.rules.proofs.Calls.{filled_lent}

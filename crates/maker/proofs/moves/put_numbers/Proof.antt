@@ -4,7 +4,6 @@ use mathlib.Core.List.{[]}
 use Prim.Native.Nat.{◌*◌, ◌-◌, ◌≤◌}
 use native.Mathlib.Omega.{arith}
 use borrow.Author.Rules.{rules}
-use Rattle.numbers.specs.Lists.{at}
 use Rattle.numbers.proofs.Lists.{filled_start}
 use Rattle.rules.specs.ElementList.{entry_numbers, in_memory}
 use Rattle.rules.proofs.Calls.{filled_lent}
