@@ -1,12 +1,12 @@
 -- An admitted table as the code holds it, and where a planner's stage stands in its time.
 use mathlib.Core.Path.{◌≡◌, refl, sym, ◌∙◌}
 use mathlib.Core.Logic.{⊎_elim}
-use Prim.Native.Nat.{ℕ, ◌+◌, ◌≤◌, ◌<◌}
+use Prim.Native.Nat.{ℕ, ◌+◌, ◌<◌}
 use native.Mathlib.Nat.{eq-or-lt_of_le, le_refl}
 use native.Mathlib.Omega.{arith}
 use borrow.Author.Tests.{eq-eqb, ne_eqb}
 use Rattle.rules.specs.Bus.{Table}
-use Rattle.rules.specs.Loads.{hyperperiod, start, end, intervals}
+use Rattle.rules.specs.Loads.{hyperperiod, end, intervals}
 use Rattle.rules.specs.Planner.{due, next, reached}
 use Rattle.lags.proofs.Intervals.{start_in, start_strict, start_last, end_next}
 use Rattle.lags.proofs.States.{next_due, next_finished}

@@ -9,7 +9,7 @@ use Rattle.numbers.proofs.Lists.{zeros_at}
 use Rattle.rules.specs.Bounds.{max_rows}
 use Rattle.rules.specs.Bus.{Table}
 use Rattle.rules.specs.Loads.{end, intervals}
-use Rattle.rules.specs.Planner.{due, Off}
+use Rattle.rules.specs.Planner.{Off}
 use Rattle.lags.proofs.Intervals.{start_first, start_last, end_next, end_far}
 use Rattle.lags.proofs.Lags.{steady_eq, steady_fresh}
 use Rattle.lags.proofs.States.{not_off}

@@ -2,7 +2,6 @@
 use mathlib.Core.Path.{◌≡◌, sym, ◌∙◌}
 use mathlib.Core.Bool.{false}
 use borrow.Author.Rules.{rules}
-use borrow.Author.Tests.{not-true, not-false}
 use Rattle.numbers.proofs.Truth.{decides_yes}
 use Rattle.planner.specs.State.{late_at}
 use Rattle.planner.proofs.CourseNumbers.{few_sets}
@@ -22,7 +21,7 @@ spare-clear-requires c κs = search rules
 returns-2 : tie.Need-returns-then-not-spare_clear
 returns-2 c t A e =
     let S = c in
-    decides_yes (off_spare_total A S.args.self e (c.spare_clear.ensures.fails (not-true _ c.if-not-spare_clear.true)))
+    decides_yes (off_spare_total A S.args.self e (c.spare_clear.ensures.fails c.if-not-spare_clear.true))
 
 -- the first test, from past the second
 abbrev in-time : tie.Else-not-spare_clear → tie.Else-is_late
@@ -42,7 +41,7 @@ returns-3 : tie.Need-returns
 returns-3 c t A e =
     let C = c.before.before.before.before in
     let E = in-time C in
-    off_decided A E.args.self e (late E) (C.spare_clear.ensures.holds (not-false _ C.if-not-spare_clear.false))
+    off_decided A E.args.self e (late E) (C.spare_clear.ensures.holds C.if-not-spare_clear.false)
     c.keeps_step.result c.keeps_step.ensures
 
 pub is_off_spec : {M : Type 1} → statement M

@@ -9,7 +9,7 @@ use Rattle.rules.specs.Bus.{Table}
 use Rattle.rules.specs.Loads.{start, end}
 use Rattle.rules.specs.Planner.{Off}
 use Rattle.lags.proofs.Intervals.{intervals_le}
-use Rattle.time-1.specs.Time.{Begins}
+use Rattle.time.specs.Time.{Begins}
 use Rattle.verdict.specs.Analysed.{Accepted}
 use Rattle.planner.specs.State.{stage_of, planner_of, slot_of}
 use Rattle.planner.proofs.CourseNumbers.{timed}
@@ -100,30 +100,30 @@ unmoved-requires-3 c κs = search rules
 returns-3 : tie.Need-returns-in_default
 returns-3 c =
     let T = c in
-    let N = T.before.before.before.before in
+    let N = T.before.before.before in
     let S = begun N in
     let p = S.args.self in
     record {
       done = λ z t A.
           rw c.unmoved-in_default.ensures
           (step_own t c.at-in_default.ensures (omega arith) p S.args.out.now (size S)
-          (step_finished t (planner_of p) (length S.args.out.now) (still N A) (ap stage_of T.enum_told-1.given.1)));
+          (step_finished t (planner_of p) (length S.args.out.now) (still N A) (ap stage_of T.in_default.is)));
       refused = λ h. absurd (h (passed (reached N)).if-answer-ne-DONE.false);
     }
 
 -- ---- past that an interval is due
 
 abbrev not_off : tie.In-Due → tie.Else-is_off
-not_off c = c.before.before.before
+not_off c = c.before
 
 abbrev number : tie.In-Due → ℕ
-number c = c.stage-1.given.0.0
+number c = c.in-Due.k
 
 begins : (c : tie.In-Due) {t : Table} → Accepted t (begun (not_off c)).args.table
     → Begins t (number c) (reached (not_off c)).slot_reached-slot.result
 begins c A =
     let N = not_off c in
-    due_begins A (begun N).args.self (number c) (here (reached N) A) (still N A) c.stage-1.given.1
+    due_begins A (begun N).args.self (number c) (here (reached N) A) (still N A) c.in-Due.is
 
 next-end-requires : tie.Need-next_end-end-requires
 next-end-requires c κs = let w = some (passed (reached (not_off c))) in (w.0, number c, timed w.1, begins c w.1)
@@ -140,7 +140,7 @@ sub-if3 : tie.Need-overflow_sub-end
 sub-if3 c =
     let N = not_off c.before in
     let A = (some (passed (reached N))).1 in
-    due_length A (begun N).args.self (number c.before) (here (reached N) A) (still N A) c.stage-1.given.1 _
+    due_length A (begun N).args.self (number c.before) (here (reached N) A) (still N A) c.in-Due.is _
     (ends c A)
 
 at-requires-3 : tie.Need-at-requires-then-out-end
@@ -160,7 +160,7 @@ returns-4 c =
           rw c.unmoved-then-out-end.ensures
           (step_own t c.at-then-out-end.ensures (omega arith) p S.args.out.now (size S)
           (step_short t (planner_of p) (length S.args.out.now) (still N A) (number E.before)
-          (ap stage_of E.stage-1.given.1) (omega (arith, long E A, c.if-out-end.true))));
+          (ap stage_of E.in-Due.is) (omega (arith, long E A, c.if-out-end.true))));
       refused = λ h. absurd (h (passed (reached N)).if-answer-ne-DONE.false);
     }
 
@@ -180,7 +180,7 @@ plan-intervals-requires c κs =
       w.0,
       k,
       _,
-      due_plannable A S.args.self k (here (reached N) A) (still N A) E.stage-1.given.1 (size S) _ _ (ends E A)
+      due_plannable A S.args.self k (here (reached N) A) (still N A) E.in-Due.is (size S) _ _ (ends E A)
           (roomy c).if-out-end.false,
     )
 
@@ -208,7 +208,7 @@ returns-5 c =
     let S = begun N in
     let p = S.args.self in
     let k = number E.before in
-    let is_due = E.stage-1.given.1 in
+    let is_due = E.in-Due.is in
     record {
       done = λ z t A.
           rw c.stage_after.ensures

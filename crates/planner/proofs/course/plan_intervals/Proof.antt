@@ -1,11 +1,9 @@
 -- `course::plan_intervals` meets its contract: `Planning` says what its loop keeps, and the pieces of an interval make it
 -- (`advanced_of`).
-use mathlib.Core.Path.{◌≡◌, refl, sym, ◌∙◌}
+use mathlib.Core.Path.{◌≡◌, refl}
 use mathlib.Core.List.{List, ◌++◌}
-use mathlib.Core.Logic.{⊎_elim}
-use Prim.Native.Nat.{ℕ, ◌+◌, ◌-◌, ◌*◌, ◌/◌, ◌%◌, ◌≤◌, ◌<◌}
+use Prim.Native.Nat.{ℕ, ◌+◌, ◌-◌, ◌≤◌, ◌<◌}
 use native.Mathlib.Omega.{arith}
-use borrow.Author.Rules.{rules}
 use lib.ListN.{length, take, drop, length-take, length-drop}
 use Rattle.numbers.specs.Lists.{at}
 use Rattle.rules.specs.Bounds.{max_rows, max_slots}
@@ -21,6 +19,7 @@ use Rattle.planner.proofs.Walked.{Planning, planning_start, planning_begins, pla
 use Rattle.planner.proofs.Walked.{planning_next, planning_end}
 use Rattle.planner.proofs.course.plan_intervals.Statement.{statement}
 use Rattle.planner.proofs.course.plan_intervals.Tie as tie
+use Rattle.planner.proofs.course.plan_intervals.Lts.{then-plain, else-plain}
 
 abbrev invariant-loop : tie.invariant-loop-slot
 invariant-loop plain from until plan₀ table rows top time folded tail head out into heads next size even inverse load₀ part₀ after₀ slot₀
@@ -78,12 +77,12 @@ arrays c =
     let l = (linking c).lay.new in
     let k = c.chain.new in
     record {
-      tail = l.1.1.1.0;
-      head = l.1.1.1.1.0;
-      out = l.1.1.1.1.1.0;
-      into = l.1.1.1.1.1.1.0;
-      heads = k.1.1.0;
-      next = k.1.1.1.0;
+      tail = l.tail;
+      head = l.head;
+      out = l.out;
+      into = l.into;
+      heads = k.head;
+      next = k.next;
     }
 
 inverse-of-requires : tie.Need-inverse_of-inverse-requires invariant-loop decreases-loop
@@ -163,7 +162,7 @@ module _ (c : tie.After-end_of-end invariant-loop decreases-loop) {t : Table} {k
   -- what it stands on
   ready : let a = (begun (turned c)).args.table in let L = laying (turned c) in let F = (folding L).fold_sets-folded in
       Ready t (record { rows = a.outline.rows; sets = F.result.sets; hyper = a.outline.time.hyper }) a.outline.top
-      a.outline.first a.outline.second a.rate F.result.upper F.last.1.1.1.1.0
+      a.outline.first a.outline.second a.rate F.result.upper F.new.words
       (arrays (chaining (turned c)))
   ready =
       let h = chaining (turned c) in
@@ -197,7 +196,7 @@ abbrev Parted : Type 0
 Parted = tie.After-part_shares-parted invariant-loop decreases-loop
 
 abbrev parting : Parted → tie.After-end_of-end invariant-loop decreases-loop
-parting p = p.before.before.before.before.before
+parting p = p.before.before.before.before
 
 abbrev rounding : tie.After-round_rows-rounded invariant-loop decreases-loop → Parted
 rounding r = r.before.before.before.before.before.before
@@ -224,7 +223,7 @@ totals g = g.give.new.totals
 
 round-rows-requires : tie.Need-round_rows-rounded-requires invariant-loop decreases-loop
 round-rows-requires c κs =
-    let p = c in
+    let p = c.before.before.before.before.before in
     let I = parting p in
     let R = ready I (given (turned I)) in
     let S = p.part_shares-parted.ensures in
@@ -281,16 +280,16 @@ module _ (g : tie.After-give invariant-loop decreases-loop) where
       (at (load g)) (at (totals g)) (giving g).round_rows-rounded.ensures g.give.ensures.2 (λ i. refl) g.give.ensures.1 F)
 
 mul-fill-plain : tie.Need-offset_bounds-plan-at invariant-loop decreases-loop
-mul-fill-plain c = omega (arith, at_low c.before.before.before.before.before.before.before)
+mul-fill-plain c = omega (arith, at_low c.before.before.before.before.before.before)
 
 sub-fill-plain : tie.Need-slice_bounds-fill_plain-count invariant-loop decreases-loop
-sub-fill-plain c = omega (arith, at_in c.before.before.before.before.before.before.before)
+sub-fill-plain c = omega (arith, at_in c.before.before.before.before.before.before)
 
 part-fill-plain-start : tie.Need-slice_bounds-fill_plain-start invariant-loop decreases-loop
-part-fill-plain-start c = omega (arith, at_in c.before.before.before.before.before.before.before)
+part-fill-plain-start c = omega (arith, at_in c.before.before.before.before.before.before)
 
 part-fill-plain-end : tie.Need-slice_bounds-fill_plain-end invariant-loop decreases-loop
-part-fill-plain-end c = omega (arith, at_in c.before.before.before.before.before.before.before)
+part-fill-plain-end c = omega (arith, at_in c.before.before.before.before.before.before)
 
 fill-plain-requires : tie.Need-fill_plain-requires invariant-loop decreases-loop
 fill-plain-requires c κs =
@@ -298,16 +297,16 @@ fill-plain-requires c κs =
     ((_, rows_chained (ready (turn g) (given (here g)))), room g)
 
 mul-fill : tie.Need-offset_bounds-plan-at-else-plain invariant-loop decreases-loop
-mul-fill c = omega (arith, at_low c.before.before.before.before.before.before)
+mul-fill c = omega (arith, at_low c.before.before.before.before.before)
 
 sub-fill : tie.Need-slice_bounds-fill-count invariant-loop decreases-loop
-sub-fill c = omega (arith, at_in c.before.before.before.before.before.before)
+sub-fill c = omega (arith, at_in c.before.before.before.before.before)
 
 part-fill-start : tie.Need-slice_bounds-fill-start invariant-loop decreases-loop
-part-fill-start c = omega (arith, at_in c.before.before.before.before.before.before)
+part-fill-start c = omega (arith, at_in c.before.before.before.before.before)
 
 part-fill-end : tie.Need-slice_bounds-fill-end invariant-loop decreases-loop
-part-fill-end c = omega (arith, at_in c.before.before.before.before.before.before)
+part-fill-end c = omega (arith, at_in c.before.before.before.before.before)
 
 fill-requires : tie.Need-fill-requires invariant-loop decreases-loop
 fill-requires c κs =
@@ -328,10 +327,10 @@ loop-again c =
     let O = rows_chained (ready (turn g) (given (here g))) in
     let l = g.give.ensures.0 in
     let S = (rounding (giving g)).part_shares-parted.ensures in
-    ⊎_elim
-    (λ w. rw w.11 (l, S.1, next g w.8.last.1.1.1.1.1.1.1.0 (w.8.ensures _ O)))
-    (λ w. rw w.10 (l, S.1, next g w.7.last.1.1.1.1.1.1.0 (w.7.ensures _ _ O)))
-    c.if-plain.branch
+    elim c.if-plain.branch [
+      | then-plain w ↦ rw w.plan-is (l, S.1, next g w.fill_plain.new.words (w.fill_plain.ensures _ O))
+      | else-plain w ↦ rw w.plan-is (l, S.1, next g w.fill.new.words (w.fill.ensures _ _ O))
+    ]
 
 -- ---- the end
 

@@ -2,7 +2,6 @@
 use Prim.Native.Nat.{◌-◌, ◌*◌, ◌≤◌}
 use native.Mathlib.Omega.{arith}
 use borrow.Author.Count.{below_more}
-use borrow.Author.Tests.{not-true, not-false}
 use Rattle.numbers.specs.Decides.{Decides}
 use Rattle.numbers.specs.Lists.{at}
 use Rattle.numbers.specs.Rounding.{Rounded}
@@ -47,7 +46,7 @@ row_keeps c = rw c.slots_at.ensures at c.row_keeps_step.ensures
 returns : tie.Need-returns-then-not-row_keeps_step invariant-loop decreases-loop
 returns c =
     let z = c in
-    decides_no (λ k. (row_keeps c.before).fails (not-true _ c.if-not-row_keeps_step.true) (k z.loop-i.i (omega arith)))
+    decides_no (λ k. (row_keeps c.before).fails c.if-not-row_keeps_step.true (k z.loop-i.i (omega arith)))
 
 add-i : tie.Need-overflow_add-i invariant-loop decreases-loop
 add-i c = omega arith
@@ -58,7 +57,7 @@ loop-less c = omega arith
 loop-again : tie.Need-loop-i-preserved invariant-loop decreases-loop
 loop-again c =
     let z = c in
-    (omega arith, below_more _ _ z.loop-i.invariant.1 ((row_keeps c.before).holds (not-false _ c.if-not-row_keeps_step.false)))
+    (omega arith, below_more _ _ z.loop-i.invariant.1 ((row_keeps c.before).holds c.if-not-row_keeps_step.false))
 
 returns-2 : tie.Need-returns invariant-loop decreases-loop
 returns-2 c = decides_yes (λ i l. c.loop-i.invariant.1 i (omega arith))

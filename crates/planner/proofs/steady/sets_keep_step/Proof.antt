@@ -4,7 +4,6 @@ use Prim.Native.Nat.{◌-◌, ◌*◌, ◌≤◌}
 use native.Mathlib.Nat.{mul-le-mul}
 use native.Mathlib.Omega.{arith}
 use borrow.Author.Count.{below_more}
-use borrow.Author.Tests.{not-true, not-false}
 use Rattle.numbers.specs.Finite.{sum_in}
 use Rattle.numbers.specs.Lists.{at}
 use Rattle.numbers.specs.Rounding.{Rounded}
@@ -65,7 +64,7 @@ returns : tie.Need-returns-then-not-is_rounded invariant-loop decreases-loop
 returns c =
     let s = c.before.before.before in
     let z = s in
-    decides_no (λ f. c.is_rounded.ensures.fails (not-true _ c.if-not-is_rounded.true) ((rounded s).1 (f z.loop-k.k (omega arith))))
+    decides_no (λ f. c.is_rounded.ensures.fails c.if-not-is_rounded.true ((rounded s).1 (f z.loop-k.k (omega arith))))
 
 add-k : tie.Need-overflow_add-k invariant-loop decreases-loop
 add-k c = omega arith
@@ -77,7 +76,7 @@ loop-again : tie.Need-loop-k-preserved invariant-loop decreases-loop
 loop-again c =
     let s = c.before.before.before in
     let z = s in
-    (omega arith, below_more _ _ z.loop-k.invariant.1 ((rounded s).0 (c.is_rounded.ensures.holds (not-false _ c.if-not-is_rounded.false))))
+    (omega arith, below_more _ _ z.loop-k.invariant.1 ((rounded s).0 (c.is_rounded.ensures.holds c.if-not-is_rounded.false)))
 
 returns-2 : tie.Need-returns invariant-loop decreases-loop
 returns-2 c = decides_yes (λ k l. c.loop-k.invariant.1 k (omega arith))

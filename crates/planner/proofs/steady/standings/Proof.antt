@@ -64,7 +64,7 @@ loop-again : tie.Need-loop-i-preserved invariant-loop decreases-loop
 loop-again c =
     let z = c in
     standing_next _ _ _ _ _ _ z.loop-i.invariant (omega arith) z.requires.0.few
-    (to_z-of_z w64 c.less.result (record { sfits = c.less.type-inv }) ∙ (rw c.slots_at.ensures at c.less.ensures))
+    (to_z-of_z w64 c.less.result (record { sfits = c.less.type_inv }) ∙ (rw c.slots_at.ensures at c.less.ensures))
 
 returns : tie.Need-returns invariant-loop decreases-loop
 returns c = standing_end _ _ _ _ _ c.loop-i.invariant (omega arith)

@@ -1,6 +1,5 @@
 -- `steady::sums_in` meets its contract. What is summed and what is left make up the whole sums, and fewer rows are left each time.
 use mathlib.Core.Path.{◌≡◌}
-use mathlib.Core.Logic.{⊎_elim}
 use Prim.Native.Nat.{◌+◌, ◌*◌, ◌≤◌}
 use native.Mathlib.Omega.{arith}
 use Rattle.numbers.specs.Finite.{sum_in, count}
@@ -11,6 +10,7 @@ use Rattle.rules.specs.Bounds.{max_slots}
 use Rattle.sets.proofs.Sums.{sum_past, sum_without, sum_none}
 use Rattle.planner.proofs.steady.sums_in.Statement.{statement}
 use Rattle.planner.proofs.steady.sums_in.Tie as tie
+use Rattle.planner.proofs.steady.sums_in.Lts.{then-i-rows, else-i-rows}
 
 abbrev invariant-loop : tie.invariant-loop-left
 invariant-loop rows word rate totals rates₀ all₀ left₀ rates all left =
@@ -75,16 +75,16 @@ loop-again c =
     let e = d.lowest_row-i.ensures in
     let left = z.loop-left.left in
     let i = d.lowest_row-i.result in
-    ⊎_elim
-    (λ w. (
-      omega (arith, w, z.loop-left.invariant.0, sum_without left i e.0 (at a.rate.now) a.rows w.0.true e.1),
-      omega (arith, w, z.loop-left.invariant.1, sum_without left i e.0 (at a.totals.now) a.rows w.0.true e.1),
-    ))
-    (λ w. (
-      omega (arith, w, z.loop-left.invariant.0, sum_past left i e.0 (at a.rate.now) a.rows (omega arith)),
-      omega (arith, w, z.loop-left.invariant.1, sum_past left i e.0 (at a.totals.now) a.rows (omega arith)),
-    ))
-    c.if-i-rows.branch
+    elim c.if-i-rows.branch [
+      | then-i-rows w ↦ (
+        omega (arith, w, z.loop-left.invariant.0, sum_without left i e.0 (at a.rate.now) a.rows w.if-i-rows.true e.1),
+        omega (arith, w, z.loop-left.invariant.1, sum_without left i e.0 (at a.totals.now) a.rows w.if-i-rows.true e.1),
+      )
+      | else-i-rows w ↦ (
+        omega (arith, w, z.loop-left.invariant.0, sum_past left i e.0 (at a.rate.now) a.rows (omega arith)),
+        omega (arith, w, z.loop-left.invariant.1, sum_past left i e.0 (at a.totals.now) a.rows (omega arith)),
+      )
+    ]
 
 returns : tie.Need-returns invariant-loop decreases-loop
 returns c =
