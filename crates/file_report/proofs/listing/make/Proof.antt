@@ -12,9 +12,7 @@ use Rattle.file_report.proofs.listing.make.Tie as tie
 -- a list that was made is short
 few : (c : tie.Else-made-ne-DONE) → c.make_file-made.result.entries ≤ 2 * max_slots
 few c =
-    let m = c in
-    let z = m in
-    made_entries z.args.file.now _ _ list_bytes _ _ _ _ _ _ c.if-made-ne-DONE.false m.make_file-made.ensures
+    made_entries c.args.file.now _ _ list_bytes _ _ _ _ _ _ c.if-made-ne-DONE.false c.make_file-made.ensures
 
 slice-aggregate-whole-plan : tie.Need-slice_bounds-whole_plan-end
 slice-aggregate-whole-plan c = search rules
@@ -65,20 +63,18 @@ same-length-2 c = search rules
 
 returns-2 : tie.Need-returns
 returns-2 c =
-    let z = c in
-    let m = z in
     record {
       answer = _;
       plan = _;
-      planned = m.whole_plan.ensures;
+      planned = c.whole_plan.ensures;
       number = _;
       place = _;
       hyper = _;
       entries = _;
       between = _;
-      made = m.make_file-made.ensures;
+      made = c.make_file-made.ensures;
       done = λ y. (refl, refl);
-      refused = λ y. absurd (y z.if-made-ne-DONE.false);
+      refused = λ y. absurd (y c.if-made-ne-DONE.false);
     }
 
 pub make_spec : {M : Type 1} → statement M

@@ -61,10 +61,9 @@ loop-less c = omega arith
 
 loop-again : tie.Need-loop-k-preserved invariant-loop decreases-loop
 loop-again c =
-    let z = c in
-    let numbers = z.args.numbers.now in (
+    let numbers = c.args.numbers.now in (
       omega arith,
-      lines_next (λ i. entry (memory_entry numbers i) ∷ []) z.loop-k.k z.loop-k.invariant.1 _ refl
+      lines_next (λ i. entry (memory_entry numbers i) ∷ []) c.loop-k.k c.loop-k.invariant.1 _ refl
           c.put_entry-next.ensures,
     )
 

@@ -23,12 +23,6 @@ returns c =
     let p = c.put_line.ensures in
     rw c.if-way-eq0.true (p.0, omega (arith, p.1))
 
-slice-aggregate-put-line-3 : tie.Need-slice-aggregate-put-line-3
-slice-aggregate-put-line-3 c = search rules
-
-slice-aggregate-put-line-4 : tie.Need-slice-aggregate-put-line-4
-slice-aggregate-put-line-4 c = search rules
-
 put-line-requires-2 : tie.Need-put_line-requires-2
 put-line-requires-2 c κs = search rules
 
@@ -37,22 +31,19 @@ same-length-2 c = search rules
 
 returns-2 : tie.Need-returns
 returns-2 c =
-    let z = c in
-    let way = z.args.way in
+    let way = c.args.way in
     let p = c.put_line-2.ensures in
-    rw (is_false (eqb way 0) (λ t. z.if-way-eq0.false (eqb→eq way 0 t))) (p.0, omega (arith, p.1))
+    rw (is_false (eqb way 0) (λ t. c.if-way-eq0.false (eqb→eq way 0 t))) (p.0, omega (arith, p.1))
 
 pub put_entry_spec : {M : Type 1} → statement M
 put_entry_spec =
     tie.close
     (tie.spec
     slice-aggregate-put-line
-    slice-aggregate-put-line-2
     put-line-requires
     same_length
     returns
-    slice-aggregate-put-line-3
-    slice-aggregate-put-line-4
+    slice-aggregate-put-line-2
     put-line-requires-2
     same-length-2
     returns-2)

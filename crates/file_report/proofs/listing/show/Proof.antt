@@ -36,14 +36,8 @@ returns c =
       fits = omega (arith, A.1);
     }
 
-slice-aggregate-put-number : tie.Need-slice-aggregate-put-number
-slice-aggregate-put-number c = search rules
-
 put-number-requires : tie.Need-put_number-second-requires
 put-number-requires c κs = search rules
-
-slice-aggregate-put-number-2 : tie.Need-slice-aggregate-put-number-2
-slice-aggregate-put-number-2 c = search rules
 
 put-number-requires-2 : tie.Need-put_number-third-requires
 put-number-requires-2 c κs = search rules
@@ -53,32 +47,25 @@ slice-aggregate-put-entries c = search rules
 
 put-entries-requires : tie.Need-put_entries-requires
 put-entries-requires c κs =
-    let h = c in
-    let e = h in
-    let z = e in
-    let a = z.before.before.before.before.before.before.before.before.before.before.before.before.before.before.before.before.before.before in
-    let l = read_fits _ _ _ _ _ _ _ _ (found a).read-found.ensures (omega arith) z.if-found-ne-DONE.false in
-    (omega (arith, l), omega (arith, l, a.put_answer-first.ensures.1, e.put_number-second.ensures.1, h.put_number-third.ensures.1))
+    let a = c.before.before.before.before.before.before.before.before.before.before.before.before.before.before.before.before.before.before in
+    let l = read_fits _ _ _ _ _ _ _ _ (found a).read-found.ensures (omega arith) c.if-found-ne-DONE.false in
+    (omega (arith, l), omega (arith, l, a.put_answer-first.ensures.1, c.put_number-second.ensures.1, c.put_number-third.ensures.1))
 
 same-length-2 : tie.Need-shape_of-out
 same-length-2 c = search rules
 
 returns-2 : tie.Need-returns
 returns-2 c =
-    let p = c in
-    let h = p in
-    let e = h in
-    let z = e in
-    let a = z.before.before.before.before.before.before.before.before.before.before.before.before.before.before.before.before.before.before.before.before.before in
+    let a = c.before.before.before.before.before.before.before.before.before.before.before.before.before.before.before.before.before.before.before.before.before in
     let r = (found a).read-found.ensures in
-    let l = read_fits _ _ _ _ _ _ _ _ r (omega arith) z.if-found-ne-DONE.false in
+    let l = read_fits _ _ _ _ _ _ _ _ r (omega arith) c.if-found-ne-DONE.false in
     let A = a.put_answer-first.ensures in
-    let E = e.put_number-second.ensures in
-    let H = h.put_number-third.ensures in
-    let P = p.put_entries.ensures in
+    let E = c.put_number-second.ensures in
+    let H = c.put_number-third.ensures in
+    let P = c.put_entries.ensures in
     record {
       lines = _;
-      printed = read_shown _ _ _ _ _ _ _ _ r (omega arith) z.if-found-ne-DONE.false;
+      printed = read_shown _ _ _ _ _ _ _ _ r (omega arith) c.if-found-ne-DONE.false;
       puts = rw (text_first, text_first, text_first) (puts_more A.0 (puts_more E.0 (puts_more H.0 P.0)));
       fits = omega (arith, l, A.1, E.1, H.1, P.1);
     }
@@ -92,9 +79,7 @@ show_spec =
     put-answer-requires
     same_length
     returns
-    slice-aggregate-put-number
     put-number-requires
-    slice-aggregate-put-number-2
     put-number-requires-2
     slice-aggregate-put-entries
     put-entries-requires

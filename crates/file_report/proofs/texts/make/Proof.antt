@@ -42,13 +42,11 @@ same_length c = search rules
 returns : tie.Need-returns-then-found-ne-DONE
 returns c =
     let A = c.put_fault.ensures in
-    let p = c in
-    let t = p in
     record {
       bytes = _;
       allowed =
-          text_refused _ _ _ _ _ _ _ _ _ t.read-found.ensures (omega arith) _ _ t.if-found-ne-DONE.true
-          p.spot_of_lem.ensures.line p.spot_of_lem.ensures.column;
+          text_refused _ _ _ _ _ _ _ _ _ c.read-found.ensures (omega arith) _ _ c.if-found-ne-DONE.true
+          c.spot_of.ensures.line c.spot_of.ensures.column;
       puts = A.0;
       fits = A.1;
     }
@@ -76,8 +74,7 @@ slice-aggregate-rings-of c = search rules
 
 rings-of-requires : tie.Need-rings_of-requires
 rings-of-requires c κs =
-    let e = c in
-    text_marked _ _ _ _ _ _ _ _ _ e.read-found.ensures (omega arith) e.if-found-ne-DONE.false
+    text_marked _ _ _ _ _ _ _ _ _ c.read-found.ensures (omega arith) c.if-found-ne-DONE.false
 
 row-bytes-requires : tie.Need-row_bytes-requires
 row-bytes-requires c κs = search rules
@@ -103,16 +100,12 @@ same-length-2 c = search rules
 returns-2 : tie.Need-returns
 returns-2 c =
     let b = c.before.before.before.before.before in
-    let o = b in
-    let w = o in
-    let e = w in
-    let r = e in
-    let size : ℕ = header_size + b.row_bytes.result * r.read-found.result.table.rows in
+    let size : ℕ = header_size + b.row_bytes.result * b.read-found.result.table.rows in
     front size _
-    (text_made _ _ _ _ _ _ _ _ _ r.read-found.ensures (omega arith) e.if-found-ne-DONE.false size _ _ _ _
-    (ap (λ (k : ℕ). header_size + k * r.read-found.result.table.rows)
-    (b.row_bytes.ensures.0 ∙ ap (λ (g : ℕ). row_size g r.read-found.result.version) o.rings_of.ensures))
-    (omega (arith, sized b)) w.write.ensures)
+    (text_made _ _ _ _ _ _ _ _ _ b.read-found.ensures (omega arith) b.if-found-ne-DONE.false size _ _ _ _
+    (ap (λ (k : ℕ). header_size + k * b.read-found.result.table.rows)
+    (b.row_bytes.ensures.0 ∙ ap (λ (g : ℕ). row_size g b.read-found.result.version) b.rings_of.ensures))
+    (omega (arith, sized b)) b.write.ensures)
     (omega (arith, sized b)) c.put_bytes.ensures
 
 pub make_spec : {M : Type 1} → statement M

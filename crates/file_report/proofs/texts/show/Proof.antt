@@ -30,10 +30,9 @@ same_length c = search rules
 returns : tie.Need-returns-then-found-ne-DONE
 returns c =
     let A = c.put_refusal.ensures in
-    let t = c in
     record {
       bytes = _;
-      allowed = file_refused _ _ _ _ _ _ _ _ _ t.read-found.ensures (omega arith) t.if-found-ne-DONE.true;
+      allowed = file_refused _ _ _ _ _ _ _ _ _ c.read-found.ensures (omega arith) c.if-found-ne-DONE.true;
       puts = A.0;
       fits = A.1;
     }
@@ -59,10 +58,8 @@ write-requires c κs = search rules
 -- so has the text
 sized : (z : tie.After-write-written) → z.write-written.result.size ≤ longest_text
 sized z =
-    let e = z in
-    let r = e in
-    let f = r.shared_slice_known-1 in
-    (file_made _ _ _ _ _ _ _ _ _ r.read-found.ensures (omega arith) e.if-found-ne-DONE.false _ _ _ _ _ (λ i. omega (arith, f.given i)) (omega arith)
+    let f = z.shared_slice_known-1 in
+    (file_made _ _ _ _ _ _ _ _ _ z.read-found.ensures (omega arith) z.if-found-ne-DONE.false _ _ _ _ _ (λ i. omega (arith, f.given i)) (omega arith)
     z.write-written.ensures).0
 
 array-share-prefix-text : tie.Need-slice_bounds-text-end
@@ -80,11 +77,9 @@ same-length-2 c = search rules
 returns-2 : tie.Need-returns
 returns-2 c =
     let w = c.before.before.before.before.before.before in
-    let e = w in
-    let r = e in
-    let f = r.shared_slice_known-1 in
+    let f = w.shared_slice_known-1 in
     front _ _
-    (file_made _ _ _ _ _ _ _ _ _ r.read-found.ensures (omega arith) e.if-found-ne-DONE.false _ _ _ _ _ (λ i. omega (arith, f.given i)) (omega arith)
+    (file_made _ _ _ _ _ _ _ _ _ w.read-found.ensures (omega arith) w.if-found-ne-DONE.false _ _ _ _ _ (λ i. omega (arith, f.given i)) (omega arith)
     w.write-written.ensures).1
     (sized w) c.put_bytes.ensures
 
