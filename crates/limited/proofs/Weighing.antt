@@ -1,14 +1,14 @@
 -- What a party's rows weigh on a segment, row after row, and what is answered of it.
-use mathlib.Core.Path.{◌≡◌, refl, sym, ap, ◌∙◌}
+use mathlib.Core.Path.{◌≡◌, refl, ap, ◌∙◌}
 use mathlib.Core.Bool.{Bool, true, false, ◌&&◌}
 use mathlib.Core.List.{List}
-use Prim.Native.Nat.{ℕ, ◌+◌, ◌*◌, ◌≤◌, ◌<◌}
+use Prim.Native.Nat.{ℕ, ◌+◌, ◌*◌, ◌≤◌}
 use native.Mathlib.Omega.{arith}
-use Rattle.numbers.specs.Finite.{sum_in, sum, only}
+use Rattle.numbers.specs.Finite.{sum, only}
 use Rattle.numbers.specs.Lists.{at}
 use Rattle.numbers.specs.Word.{bit}
 use Rattle.numbers.proofs.Finite.{sum_next, sum_in_most, only_true, only_false}
-use Rattle.rules.specs.Bounds.{max_rows, max_slots}
+use Rattle.rules.specs.Bounds.{max_slots}
 use Rattle.rules.specs.Parties.{owns}
 use Rattle.limited.specs.Limits.{party, RatesFit, weight_on}
 

@@ -1,20 +1,19 @@
 -- 21 and 22 of a table whose h and rates are found: what is answered of a party, from the lowest segment that the code finds.
 use mathlib.Core.Path.{◌≡◌, refl, sym, ap, ap₂, ◌∙◌}
 use mathlib.Core.Logic.{◌≢◌, ⊎_elim}
-use mathlib.Core.Bool.{Bool, true, false, ◌&&◌}
+use mathlib.Core.Bool.{Bool, ◌&&◌}
 use mathlib.Core.List.{List, ◌++◌}
 use Prim.Native.Nat.{ℕ, suc, ◌+◌, ◌*◌, ◌≤◌, ◌<◌}
 use native.Mathlib.Decide.{ℕ_discrete}
 use native.Mathlib.Numerals.{add-one}
 use native.Mathlib.Omega.{arith}
-use lib.Dec.{T, ltb, lt→ltb}
+use lib.Dec.{ltb, lt→ltb}
 use Rattle.numbers.specs.Finite.{lowest, sum_in}
 use Rattle.numbers.specs.Lists.{at}
 use Rattle.numbers.specs.Word.{bit}
 use Rattle.numbers.proofs.Truth.{along, is_true, le_or_lt}
 use Rattle.numbers.proofs.Finite.{sum_in_eq, lowest_has, lowest_below}
 use Rattle.numbers.proofs.Word.{bit_word}
-use Rattle.rules.specs.Bounds.{max_slots}
 use Rattle.rules.specs.Bus.{Table, Labelled, uses}
 use Rattle.rules.specs.Loads as loads
 use Rattle.rules.specs.Parties.{ours, theirs, owns, own, is_over_limit}

@@ -1,7 +1,6 @@
 -- load_on: row after row that counts is added; no sum is above what all rows can have.
 use mathlib.Core.Path.{◌≡◌, sym, ap, ap₂, ◌∙◌}
-use mathlib.Core.Logic.{⊎_elim}
-use Prim.Native.Nat.{ℕ, ◌+◌, ◌-◌, ◌*◌, ◌≤◌}
+use Prim.Native.Nat.{ℕ, ◌+◌, ◌-◌, ◌≤◌}
 use native.Mathlib.Omega.{arith}
 use mathlib.Core.Bool.{◌&&◌}
 use Rattle.numbers.specs.Lists.{at}
@@ -11,6 +10,7 @@ use Rattle.limited.specs.Limits.{party, weight_on}
 use Rattle.limited.proofs.Weighing.{weight_none, weight_more, weight_same, weight_small}
 use Rattle.limited.proofs.limits.load_on.Statement.{statement}
 use Rattle.limited.proofs.limits.load_on.Tie as tie
+use Rattle.limited.proofs.limits.load_on.Lts.{then-counts, else-counts}
 
 abbrev invariant-loop : tie.invariant-loop-i
 invariant-loop rows rate segments label theirs s sum₀ i₀ sum i = (i ≤ rows) × (sum ≡ weight_on i rate segments label theirs s)
@@ -65,12 +65,12 @@ loop-again c =
     let counted : c.counts.result ≡ (owns (party a.theirs) (at a.label.now i) && w) =
     c.counts.ensures ∙ ap (λ (l : ℕ). owns (party a.theirs) l && w) c.slots_at.ensures in (
       omega arith,
-      ⊎_elim
-          (λ t. t.2 ∙ ap₂ (λ (x y : ℕ). x + y) u.loop-i.invariant.1 t.1.ensures
-          ∙ sym (weight_more a.rate.now a.segments.now a.label.now a.theirs a.s i (sym counted ∙ t.0.true)))
-          (λ t. t.1 ∙ u.loop-i.invariant.1
-          ∙ sym (weight_same a.rate.now a.segments.now a.label.now a.theirs a.s i (sym counted ∙ t.0.left)))
-          c.if-counts.branch,
+      elim c.if-counts.branch [
+        | then-counts t ↦ t.sum-is ∙ ap₂ (λ (x y : ℕ). x + y) u.loop-i.invariant.1 t.slots_at-sum.ensures
+            ∙ sym (weight_more a.rate.now a.segments.now a.label.now a.theirs a.s i (sym counted ∙ t.if-counts.true))
+        | else-counts t ↦ t.sum-is ∙ u.loop-i.invariant.1
+            ∙ sym (weight_same a.rate.now a.segments.now a.label.now a.theirs a.s i (sym counted ∙ t.if-counts.false))
+      ],
     )
 
 returns : tie.Need-returns invariant-loop decreases-loop
