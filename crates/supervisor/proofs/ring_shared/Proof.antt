@@ -1,10 +1,10 @@
 -- `supervisor::ring_shared` meets its contract: number and place are small enough for one number, and only where nothing is refused is the
 -- word written.
 use mathlib.Core.Path.{◌∙◌}
-use mathlib.Core.Logic.{⊎_elim}
 use borrow.Author.Rules.{rules}
 use Rattle.rules.proofs.Small.{shared_small}
 use Rattle.supervisor.proofs.ring_shared.Statement.{statement}
+use Rattle.supervisor.proofs.ring_shared.Lts.{then-found-eq-DONE, else-found-eq-DONE}
 use Rattle.supervisor.proofs.ring_shared.Tie as tie
 
 meet-requires : tie.Need-meet-found-requires
@@ -21,8 +21,14 @@ returns c =
       place = _;
       called = record {
         answers = m.answers;
-        done = λ z. ⊎_elim (λ w. w.1 ∙ m.done z) (λ w. absurd (w.0.left z)) c.if-found-eq-DONE.branch;
-        refused = λ h. ⊎_elim (λ w. absurd (h w.0.true)) (λ w. w.1) c.if-found-eq-DONE.branch;
+        done = λ z. elim c.if-found-eq-DONE.branch [
+          | then-found-eq-DONE w ↦ w.word-is ∙ m.done z
+          | else-found-eq-DONE w ↦ absurd (w.if-found-eq-DONE.false z)
+        ];
+        refused = λ h. elim c.if-found-eq-DONE.branch [
+          | then-found-eq-DONE w ↦ absurd (h w.if-found-eq-DONE.true)
+          | else-found-eq-DONE w ↦ w.word-is
+        ];
       };
       as_one = c.joined.ensures;
     }

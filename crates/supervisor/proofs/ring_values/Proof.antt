@@ -35,7 +35,7 @@ returns c =
     record {
       number = _;
       place = _;
-      called = values_refused z.file.now z.out.now j.result _ j.ensures c.enum_told-1.given.1;
+      called = values_refused z.file.now z.out.now j.result _ j.ensures c.in_default.is;
       as_one = c.joined.ensures ∙ ap₂ c_answer c.number.ensures c.place.ensures;
     }
 
@@ -50,7 +50,7 @@ returns-2 c =
       number = 17;
       place = 0;
       called =
-          values_short z.file.now z.out.now j.result _ _ _ _ _ _ j.ensures c.answer-1.given.1
+          values_short z.file.now z.out.now j.result _ _ _ _ _ _ j.ensures c.in-Admitted.is
           c.if-out-lt-VALUES.true;
       as_one = c.joined-then-out-lt-VALUES.ensures;
     }
@@ -75,7 +75,7 @@ returns-3 c =
       place = 0;
       called =
           values_done z.file.now z.out.now j.result _ _ _ _ _ _ j.ensures
-          e.answer-1.given.1 _ e.if-out-lt-VALUES.false
+          e.in-Admitted.is _ e.if-out-lt-VALUES.false
           w.ensures;
       as_one = c.joined-2.ensures;
     }
