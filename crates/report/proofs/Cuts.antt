@@ -1,5 +1,5 @@
 -- The lines of the cuts: one of a table with one ring, two of a table with two.
-use mathlib.Core.Path.{◌≡◌, refl, sym, ap, ap₂, ◌∙◌}
+use mathlib.Core.Path.{◌≡◌, sym, ap, ap₂, ◌∙◌}
 use mathlib.Core.Logic.{◌≢◌, ⊎_elim}
 use mathlib.Core.List.{List, [], ◌∷◌}
 use Prim.Native.Nat.{ℕ, ◌≤◌, ◌<◌}
@@ -9,9 +9,9 @@ use Rattle.numbers.specs.Lists.{each}
 use Rattle.numbers.proofs.Truth.{le_or_lt}
 use Rattle.rules.specs.Bus.{Table, clockwise, counterclockwise}
 use Rattle.rules.specs.Line.{HasCuts, board_cut}
-use Rattle.rules.specs.Text.{Line, text}
+use Rattle.rules.specs.Text.{Line}
 use Rattle.rules.specs.Program.{cut, cut_lines}
-use Rattle.decimal.specs.Puts.{Puts, PutsLine, PutsLines}
+use Rattle.decimal.specs.Puts.{PutsLine, PutsLines}
 use Rattle.decimal.proofs.Puts.{puts_more}
 use Rattle.decimal.proofs.Text.{text_first, text_one}
 use Rattle.table.specs.Sound.{Sound}

@@ -7,7 +7,6 @@ use lib.ListN.{length}
 use lib.Seq.{sets}
 use Rattle.rules.specs.Bounds.{max_slots}
 use Rattle.rules.specs.TableFile.{file_table}
-use Rattle.rules.specs.Line as line
 use Rattle.rules.specs.Planner.{WholePlan}
 use Rattle.rules.specs.Refusals.{verdict_checks}
 use Rattle.rules.specs.Text.{Line, text}

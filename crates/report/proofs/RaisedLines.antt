@@ -1,23 +1,22 @@
 -- The lines that `render` writes are those that the program prints, and only one answer fits.
-use mathlib.Core.Path.{◌≡◌, refl, sym, ap, ap₂, subst, ◌∙◌}
+use mathlib.Core.Path.{◌≡◌, sym, ap, ap₂, subst, ◌∙◌}
 use mathlib.Core.Logic.{◌≢◌, ⊎_elim}
 use mathlib.Core.Bool.{Bool, cond}
 use mathlib.Core.List.{List, [], ◌∷◌, ◌++◌}
-use Prim.Native.Nat.{ℕ, ◌+◌, ◌*◌, ◌≤◌, ◌<◌}
+use Prim.Native.Nat.{ℕ, ◌+◌, ◌≤◌, ◌<◌}
 use native.Mathlib.Nat.{mul-le-mul_left}
 use native.Mathlib.Decide.{ℕ_discrete}
 use native.Mathlib.Omega.{arith}
 use lib.Dec.{T, ltb, ltb→lt, lt→ltb}
 use lib.ListN.{length, take}
 use lib.Seq.{sets}
-use Rattle.numbers.specs.Lists.{at, each}
-use Rattle.numbers.proofs.Truth.{same, is_true, is_false, decide}
+use Rattle.numbers.specs.Lists.{at}
+use Rattle.numbers.proofs.Truth.{is_true, is_false, decide}
 use Rattle.numbers.proofs.Lists.{each_eq}
-use Rattle.rules.specs.Bounds.{max_rows, max_slots}
 use Rattle.rules.specs.Bus.{Table}
 use Rattle.rules.specs.TableFile.{version_2, label_size, row_size, version, file_rings, file_table}
 use Rattle.rules.specs.Loads.{light}
-use Rattle.rules.specs.Refusals.{Answers, short_output, verdict_checks}
+use Rattle.rules.specs.Refusals.{short_output, verdict_checks}
 use Rattle.rules.specs.Text.{Line, text}
 use Rattle.rules.specs.Program.{verdict}
 use Rattle.rules.specs.Raising.{

@@ -1,12 +1,8 @@
 -- put_cuts: a line for the one ring, or two.
 use borrow.Author.Rules.{rules}
-use native.Mathlib.Omega.{arith}
 use Rattle.report.proofs.Cuts.{cuts_one, cuts_two}
 use Rattle.report.proofs.put_cuts.Statement.{statement}
 use Rattle.report.proofs.put_cuts.Tie as tie
-
-slice-aggregate-put-value : tie.Need-slice-aggregate-put-value
-slice-aggregate-put-value c = search rules
 
 put-value-requires : tie.Need-put_value-next-requires
 put-value-requires c κs = search rules
@@ -17,9 +13,6 @@ same_length c = search rules
 returns : tie.Need-returns-then-other-eq0
 returns c = cuts_one _ _ c.if-other-eq0.true c.put_value-next.ensures
 
-slice-aggregate-put-value-2 : tie.Need-slice-aggregate-put-value-2
-slice-aggregate-put-value-2 c = search rules
-
 put-value-requires-2 : tie.Need-put_value-requires
 put-value-requires-2 c κs = search rules
 
@@ -28,18 +21,15 @@ same-length-2 c = search rules
 
 returns-2 : tie.Need-returns
 returns-2 c =
-    let e = c in
-    cuts_two _ _ e.if-other-eq0.false e.put_value-next.ensures c.put_value-next.ensures
+    cuts_two _ _ c.if-other-eq0.false c.put_value-next.ensures c.put_value.ensures
 
 pub put_cuts_spec : {M : Type 1} → statement M
 put_cuts_spec =
     tie.close
     (tie.spec
-    slice-aggregate-put-value
     put-value-requires
     same_length
     returns
-    slice-aggregate-put-value-2
     put-value-requires-2
     same-length-2
     returns-2)

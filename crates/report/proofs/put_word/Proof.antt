@@ -7,9 +7,6 @@ use Rattle.report.proofs.put_word.Tie as tie
 slice-aggregate-put-line : tie.Need-slice_bounds-put_line-end-then-slots
 slice-aggregate-put-line c = search rules
 
-slice-aggregate-put-line-2 : tie.Need-slice-aggregate-put-line-2
-slice-aggregate-put-line-2 c = search rules
-
 put-line-requires : tie.Need-put_line-requires
 put-line-requires c κs = search rules
 
@@ -20,9 +17,6 @@ returns : tie.Need-returns-then-slots
 returns c =
     let p = c.put_line.ensures in
     rw c.if-slots.true (p.0, omega (arith, p.1))
-
-slice-aggregate-put-value : tie.Need-slice-aggregate-put-value
-slice-aggregate-put-value c = search rules
 
 put-value-requires : tie.Need-put_value-requires
 put-value-requires c κs = search rules
@@ -38,11 +32,9 @@ put_word_spec =
     tie.close
     (tie.spec
     slice-aggregate-put-line
-    slice-aggregate-put-line-2
     put-line-requires
     same_length
     returns
-    slice-aggregate-put-value
     put-value-requires
     same-length-2
     returns-2)

@@ -39,10 +39,9 @@ loop-less c = omega arith
 
 loop-again : tie.Need-loop-k-preserved invariant-loop decreases-loop
 loop-again c =
-    let z = c in
-    let a = z.args in
+    let a = c.args in
     let put = c.put_word-next.ensures in
-    (omega arith, lines_next (λ i. word_line a.slots i (at a.words.now i) ∷ []) z.loop-k.k z.loop-k.invariant.1 _ refl put)
+    (omega arith, lines_next (λ i. word_line a.slots i (at a.words.now i) ∷ []) c.loop-k.k c.loop-k.invariant.1 _ refl put)
 
 same_length : tie.Need-shape_of-out invariant-loop decreases-loop
 same_length c = c.loop-k.invariant.1.0.same

@@ -37,14 +37,12 @@ same_length c = search rules
 
 returns : tie.Need-returns
 returns c =
-    let P = c in
-    let A = P in
-    let z = A.before.before.before.before.before in
+    let z = c.before.before.before.before.before in
     let a = (entry z).args in
-    let w = P.put_analysis in
-    subst (λ (f : List ℕ). RenderedFor (relayed_ask f a.relay) a.out.now w.new.1.0 w.result)
+    let w = c.put_analysis in
+    subst (λ (f : List ℕ). RenderedFor (relayed_ask f a.relay) a.out.now w.new.out w.result)
     (read_input a.input.now _ z.least-read.ensures)
-    (rendered_asked (relayed_ask (file z) a.relay) (relayed_numbered (file z) a.relay) A.analyse.ensures a.out.now _ _
+    (rendered_asked (relayed_ask (file z) a.relay) (relayed_numbered (file z) a.relay) c.analyse.ensures a.out.now _ _
     w.ensures)
 
 pub render_relayed_spec : {M : Type 1} → statement M

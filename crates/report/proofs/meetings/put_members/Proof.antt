@@ -1,14 +1,13 @@
 -- `meetings::put_members` meets its contract. The loop's invariant: the lines of the first k bits are put.
 use mathlib.Core.Path.{◌≡◌}
-use mathlib.Core.Logic.{⊎_elim}
 use Prim.Native.Nat.{◌+◌, ◌-◌, ◌≤◌}
 use native.Mathlib.Omega.{arith}
-use Rattle.numbers.specs.Word.{bit}
 use Rattle.decimal.specs.Puts.{PutsLines}
 use Rattle.decimal.proofs.Text.{lines_none, lines_next, lines_skip}
 use Rattle.report.specs.MeetLines.{numbered, member_lines}
 use Rattle.report.proofs.Members.{member_line, no_line}
 use Rattle.report.proofs.meetings.put_members.Statement.{statement}
+use Rattle.report.proofs.meetings.put_members.Lts.{then-word-k-eq1, else-word-k-eq1}
 use Rattle.report.proofs.meetings.put_members.Tie as tie
 
 abbrev invariant-loop : tie.invariant-loop-k
@@ -38,15 +37,17 @@ loop-less c = omega arith
 
 loop-again : tie.Need-loop-k-preserved invariant-loop decreases-loop
 loop-again c =
-    let u = c in
-    let z = u.args in
-    let k = u.loop-k.k in
+    let z = c.args in
+    let k = c.loop-k.k in
     let line = numbered z.name.now (z.first + k) in (
       omega arith,
-      ⊎_elim
-          (λ w. rw (w.5, w.6) (lines_next _ k u.loop-k.invariant.1 line (member_line line z.word k w.0.true) w.2.ensures))
-          (λ w. rw (w.1, w.2) (lines_skip _ k u.loop-k.invariant.1 (no_line line z.word k w.0.left)))
-          c.if-word-k-eq1.branch,
+      elim c.if-word-k-eq1.branch [
+        | then-word-k-eq1 w ↦
+            rw (w.out-is, w.next-is)
+            (lines_next _ k c.loop-k.invariant.1 line (member_line line z.word k w.if-word-k-eq1.true) w.put_value-next.ensures)
+        | else-word-k-eq1 w ↦
+            rw (w.out-is, w.next-is) (lines_skip _ k c.loop-k.invariant.1 (no_line line z.word k w.if-word-k-eq1.false))
+      ],
     )
 
 same_length : tie.Need-shape_of-out invariant-loop decreases-loop

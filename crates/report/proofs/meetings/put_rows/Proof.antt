@@ -9,9 +9,6 @@ use Rattle.report.proofs.Members.{put_same}
 use Rattle.report.proofs.meetings.put_rows.Statement.{statement}
 use Rattle.report.proofs.meetings.put_rows.Tie as tie
 
-slice-aggregate-put-members : tie.Need-slice-aggregate-put-members
-slice-aggregate-put-members c = search rules
-
 put-members-requires : tie.Need-put_members-requires
 put-members-requires c κs = search rules
 
@@ -24,4 +21,7 @@ returns c =
     c.put_members.ensures
 
 pub put_rows_spec : {M : Type 1} → statement M
-put_rows_spec = tie.close (tie.spec slice-aggregate-put-members put-members-requires same_length returns)
+put_rows_spec = tie.close (tie.spec
+    put-members-requires
+    same_length
+    returns)

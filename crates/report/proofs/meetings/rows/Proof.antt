@@ -22,11 +22,10 @@ same_length c = search rules
 returns : tie.Need-returns
 returns c =
     let S = c.put_segments.ensures in
-    let a = c in
-    let A = a.put_answer-next.ensures in
+    let A = c.put_answer-next.ensures in
     record {
       lines = _;
-      printed = record { number = _; place = _; word = _; met = a.meet-found.ensures; lines = refl };
+      printed = record { number = _; place = _; word = _; met = c.meet-found.ensures; lines = refl };
       puts = rw text_first (puts_more A.0 S.0);
       fits = omega (arith, A.1, S.1);
     }

@@ -25,13 +25,11 @@ same_length c = search rules
 returns : tie.Need-returns
 returns c =
     let S = c.put_segments.ensures in
-    let r = c in
-    let R = r.put_rows-listed.ensures in
-    let a = r in
-    let A = a.put_answer-next.ensures in
+    let R = c.put_rows-listed.ensures in
+    let A = c.put_answer-next.ensures in
     record {
       lines = _;
-      printed = record { number = _; place = _; rows = _; segments = _; crowded = a.of_set-found.ensures; lines = refl };
+      printed = record { number = _; place = _; rows = _; segments = _; crowded = c.of_set-found.ensures; lines = refl };
       puts = rw (text_first, text_join) (puts_more A.0 (puts_more R.0 S.0));
       fits = omega (arith, A.1, R.1, S.1);
     }

@@ -1,6 +1,5 @@
 -- `raised::put_raises` meets its contract. The loop's invariant: the lines of the first i rows are put.
-use mathlib.Core.Path.{◌≡◌, ap, ap₂, ◌∙◌}
-use mathlib.Core.Logic.{⊎_elim}
+use mathlib.Core.Path.{◌≡◌}
 use Prim.Native.Nat.{◌-◌, ◌≤◌}
 use native.Mathlib.Omega.{arith}
 use Rattle.numbers.specs.Lists.{at}
@@ -9,6 +8,7 @@ use Rattle.decimal.proofs.Text.{lines_none}
 use Rattle.report.specs.RaisedLines.{raised_lines}
 use Rattle.report.proofs.RaisedLines.{lines_grown, lines_kept}
 use Rattle.report.proofs.raised.put_raises.Statement.{statement}
+use Rattle.report.proofs.raised.put_raises.Lts.{then-was-is, else-was-is}
 use Rattle.report.proofs.raised.put_raises.Tie as tie
 
 abbrev invariant-loop : tie.invariant-loop-i
@@ -28,12 +28,11 @@ slots-at-requires-2 c κs = omega arith
 
 put-raise-requires : tie.Need-put_raise-next-requires invariant-loop decreases-loop
 put-raise-requires c κs =
-    let u = c in
-    let p = u.requires in (
+    let p = c.requires in (
       omega (arith, p.few),
-      omega (arith, c.slots_at-was.ensures, p.was u.loop-i.i (omega arith)),
-      omega (arith, c.slots_at-is.ensures, p.is u.loop-i.i (omega arith)),
-      omega (arith, p.few, u.loop-i.invariant.1.1),
+      omega (arith, c.slots_at-was.ensures, p.was c.loop-i.i (omega arith)),
+      omega (arith, c.slots_at-is.ensures, p.is c.loop-i.i (omega arith)),
+      omega (arith, p.few, c.loop-i.invariant.1.1),
     )
 
 add-i : tie.Need-overflow_add-i invariant-loop decreases-loop
@@ -44,20 +43,20 @@ loop-less c = omega arith
 
 loop-again : tie.Need-loop-i-preserved invariant-loop decreases-loop
 loop-again c =
-    let s = c in
-    let u = s in
-    let z = u.args in
+    let z = c.args in
     let old = at z.old.now in
     let new = at z.new.now in
-    let P = u.loop-i.invariant.1 in (
+    let P = c.loop-i.invariant.1 in (
       omega arith,
-      ⊎_elim
-          (λ w.
-          rw (w.5, w.6)
-          (lines_grown old new u.loop-i.i P _ _ s.slots_at-was.ensures s.slots_at-is.ensures w.0.true w.2.ensures))
-          (λ w.
-          rw (w.1, w.2) (lines_kept old new u.loop-i.i P _ _ s.slots_at-was.ensures s.slots_at-is.ensures w.0.left))
-          c.if-was-is.branch,
+      elim c.if-was-is.branch [
+        | then-was-is w ↦
+            rw (w.out-is, w.next-is)
+            (lines_grown old new c.loop-i.i P _ _ c.slots_at-was.ensures c.slots_at-is.ensures w.if-was-is.true
+            w.put_raise-next.ensures)
+        | else-was-is w ↦
+            rw (w.out-is, w.next-is)
+            (lines_kept old new c.loop-i.i P _ _ c.slots_at-was.ensures c.slots_at-is.ensures w.if-was-is.false)
+      ],
     )
 
 same_length : tie.Need-shape_of-out invariant-loop decreases-loop

@@ -1,5 +1,5 @@
 -- `raised::render` meets its contract: the refusal's line, or those of the raised rows and of the verdict on the raised file.
-use mathlib.Core.Path.{◌≡◌, refl, sym, subst}
+use mathlib.Core.Path.{refl, sym, subst}
 use mathlib.Core.List.{List}
 use Prim.Native.Nat.{ℕ, ◌≤◌}
 use native.Mathlib.Omega.{arith}
@@ -8,8 +8,8 @@ use lib.ListN.{length}
 use lib.Seq.{length-take-le}
 use Rattle.verdict.specs.Verdict.{IsVerdict}
 use Rattle.report.proofs.RaisedLines.{rendered_refused, report_costs, report_long, report_file, rendered_raised}
-use Rattle.report.proofs.raised-1.render.Statement.{statement}
-use Rattle.report.proofs.raised-1.render.Tie as tie
+use Rattle.report.proofs.raised.render.Statement.{statement}
+use Rattle.report.proofs.raised.render.Tie as tie
 
 abbrev found : tie.Else-answer-ne-DONE → tie.After-raised_table-found
 found e = e.before.before.before
@@ -31,9 +31,8 @@ same_length c = search rules
 
 returns : tie.Need-returns-then-answer-ne-DONE
 returns c =
-    let t = c in
-    let g = t.before.before.before.before.before.before.before in
-    rendered_refused (bytes g) g.raised_table-found.result g.raised_table-found.ensures t.if-answer-ne-DONE.true c.put_result.ensures
+    let g = c.before.before.before.before.before.before.before in
+    rendered_refused (bytes g) g.raised_table-found.result g.raised_table-found.ensures c.if-answer-ne-DONE.true c.put_result.ensures
 
 slice-aggregate-raise : tie.Need-slice_bounds-raise-end
 slice-aggregate-raise c = search rules
@@ -64,31 +63,25 @@ place-requires c κs = search rules
 
 put-result-requires-2 : tie.Need-put_result-requires-2
 put-result-requires-2 c κs =
-    let p = c in
-    let e = p.before.before.before.before.before.before.before.before.before.before.before.before.before.before.before in
+    let e = c.before.before.before.before.before.before.before.before.before.before.before.before.before.before.before in
     let g = found e in
     let C = report_costs (bytes g) g.raised_table-found.result g.raised_table-found.ensures e.if-answer-ne-DONE.false in
-    omega (arith, p.put_raises-next.ensures.1, C.few)
+    omega (arith, c.put_raises-next.ensures.1, C.few)
 
 same-length-2 : tie.Need-shape_of-out
 same-length-2 c = search rules
 
 returns-2 : tie.Need-returns
 returns-2 c =
-    let p = c in
-    let e = p.before.before.before.before.before.before.before.before.before.before.before.before.before.before.before.before.before.before in
+    let e = c.before.before.before.before.before.before.before.before.before.before.before.before.before.before.before.before.before.before in
     let g = found e in
     let x = g.raised_table-found.result in
     let R = g.raised_table-found.ensures in
     let z = e.if-answer-ne-DONE.false in
-    let q = c in
-    let n = q in
-    let j = p in
-    let r = p in
-    let file = report_file (bytes g) x R z refl r.raise.ensures in
-    rendered_raised (bytes g) x R z j.judge-result.result
-    (subst (λ (xs : List ℕ). IsVerdict xs j.judge-result.result) file j.judge-result.ensures) p.put_raises-next.ensures
-    n.number.ensures q.place.ensures c.put_result-2.ensures
+    let file = report_file (bytes g) x R z refl c.raise.ensures in
+    rendered_raised (bytes g) x R z c.judge-result.result
+    (subst (λ (xs : List ℕ). IsVerdict xs c.judge-result.result) file c.judge-result.ensures) c.put_raises-next.ensures
+    c.number.ensures c.place.ensures c.put_result-2.ensures
 
 pub render_spec : {M : Type 1} → statement M
 render_spec =
