@@ -1,11 +1,10 @@
 -- The three demands, proved of every answer that the calls' contracts allow.
 use mathlib.Core.Path.{◌≡◌, sym, ap, ◌∙◌, subst}
 use mathlib.Core.Logic.{⊎_elim}
-use mathlib.Core.List.{List}
 use Prim.Native.Nat.{ℕ, ◌+◌, ◌-◌, ◌*◌}
 use native.Mathlib.Omega.{arith}
 use lib.ListN.{length, take}
-use Rattle.rules.specs.TableFile.{header_size, row_size, row_numbers, mark, version, rings_of, file_rings, file_table}
+use Rattle.rules.specs.TableFile.{header_size, row_size, row_numbers, version, rings_of, file_rings, file_table}
 use Rattle.rules.specs.Loads.{start, end}
 use Rattle.rules.specs.Planner as rules
 use Rattle.rules.specs.Planner.{Off}
