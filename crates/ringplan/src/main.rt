@@ -105,12 +105,17 @@ fn render(rt: &impl Env, input: &[u8], out: &mut [u8]) -> usize {
     }
 }
 
+// Nothing is written that there is no room for.
+fn print_answer(rt: &(impl Env + Print), input: &[u8], out: &mut [u8]) {
+    let size = render(rt, input, out);
+    if size <= out.len() {
+        streams::write(rt, &out[..size]);
+    }
+}
+
 fn main(rt: HostRuntime) {
     let mut input = [0u8; INPUT];
     let read = streams::read(&rt, &mut input);
     let mut out = [0u8; SIZE];
-    let size = render(&rt, &input[..read], &mut out);
-    if size <= SIZE {
-        streams::write(&rt, &out[..size]);
-    }
+    print_answer(&rt, &input[..read], &mut out);
 }
