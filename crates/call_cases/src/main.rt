@@ -27,10 +27,10 @@ const INPUT: usize = 65536;
 // room for the file of one row more than a table may have
 const SIZE: usize = Table::HEADER + (Table::ROW_BYTES + Table::WAY_BYTES) * (Table::ROWS + 1);
 
-// ---- what is printed
+// ---- what is printed; what can't be written is lost
 
 pub(crate) fn print_word(rt: &impl Print, word: &[u8]) {
-    streams::write(rt, word);
+    let _ = rt.write_all(word);
 }
 
 // A space and a number.

@@ -81,14 +81,14 @@ fn small_at(given: &[u64], k: usize) -> u16 {
     (number_at(given, k) % (LARGEST + 1)) as u16
 }
 
-// ---- the answers
+// ---- the answers; one that can't be written is lost
 
 fn print_line(rt: &impl Print, word: &[u8], numbers: &[u64])
     requires { (length word.now ≤ 12) × (length numbers.now ≤ 6) }
 {
     let mut line = [0u8; LINE];
     let size = decimal::put_line(word, numbers, &mut line, 0);
-    streams::write(rt, &line[..size]);
+    let _ = rt.write_all(&line[..size]);
 }
 
 fn print_row(rt: &impl Print, live: Live, i: usize) {

@@ -1,11 +1,11 @@
-// Standard input and output, from and to arrays. A read or a write that fails ends what it was part of, and is not told.
+// Standard input, read into an array.
 #![tactic(auto)]
 
 ghost use Rattle.std.specs.Prelude.{◌≤◌, length};
 
 use std::io::Read;
 
-// Reads until `out` is full, the input ends or a read fails; how many bytes it put at the front of `out`.
+// Reads until `out` is full, the input ends or a read fails, which counts as its end; how many bytes were put at the front of `out`.
 pub fn read(rt: &impl Input, out: &mut [u8]) -> usize
     ensures { result ≤ length out.new }
 {
@@ -19,9 +19,4 @@ pub fn read(rt: &impl Input, out: &mut [u8]) -> usize
         }
     }
     done
-}
-
-// Writes all of the bytes, or those before a write that fails.
-pub fn write(rt: &impl Print, bytes: &[u8]) {
-    let _ = rt.write_all(bytes);
 }
