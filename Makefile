@@ -1,7 +1,8 @@
 # make install PREFIX=FOLDER   the libraries for C: FOLDER/include/ringplan.h and ringlive.h, FOLDER/lib/libringplan.a and libringlive.a,
 # and a file for pkg-config.
 #
-# A library is proved and built first where it is missing or older than its source. It is code for x86-64.
+# A library is proved and built first where it is missing or older than its source. It is code for x86-64. What rt makes is in the crates'
+# folders out/.
 PREFIX ?= /usr/local
 library := target/staticlib/libsupervisor.a
 live := target/staticlib/libkept_live.a
@@ -9,8 +10,9 @@ version := $(shell sed -n 's/^.define RINGPLAN_VERSION_[A-Z]* //p' include/ringp
 
 all: $(library) $(live)
 
-target/staticlib/lib%.a: crates.txt $(shell find crates -type f)
-	rt staticlib $*
+target/staticlib/lib%.a: crates.txt $(shell find crates -name out -prune -o -type f -print)
+	cd crates/$* && rt lib
+	install -D -m 644 crates/$*/out/lib$*.a $@
 
 install: $(library) $(live)
 	install -d '$(DESTDIR)$(PREFIX)/include' '$(DESTDIR)$(PREFIX)/lib/pkgconfig'

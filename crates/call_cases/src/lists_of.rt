@@ -6,41 +6,37 @@
 // The first calls the maker with a plan of so many words; it is lent `room` numbers. The second reads a list file of so many entries, two
 // a slot, of which the one at `place` has this row and all others row 0. For each is printed: number and place, the hyperperiod and the
 // entry count, and of the first all of the lent numbers.
-use crate::KEPT;
-use crate::MOST;
-use crate::print_answer;
-use crate::print_number;
-use crate::room;
+ghost use Rattle.std.specs.Prelude.{◌+◌, ◌*◌, ◌≤◌, ◌<◌};
+ghost use Rattle.rules.specs.Bounds.{max_slots};
+
 use crate::tables::print_numbers;
+use crate::{KEPT, MOST, print_answer, print_number, room};
 use cases::number_at;
-use lists::Entry;
-use lists::Head;
+use lists::{Entry, Head};
 use table::Answer;
-ghost use Prim.Native.Nat.{_+_, _*_, _≤_, _<_};
-ghost use Rattle·rules.specs.Bounds.{max-slots};
 
 // room for one entry more than a list can have
 const LONGEST: usize = Head::BYTES + Head::ENTRY_BYTES * (Head::ENTRIES + 1);
 
 const NUMBERS: usize = Head::ENTRY_NUMBERS * (Head::ENTRIES + 1);
 
-fn print_list(answer: Answer, hyper: usize, entries: usize) {
-    print_answer(answer);
-    print_number(hyper as u64);
-    print_number(entries as u64);
+fn print_list(rt: &impl Print, answer: Answer, hyper: usize, entries: usize) {
+    print_answer(rt, answer);
+    print_number(rt, hyper as u64);
+    print_number(rt, entries as u64);
 }
 
 // ---- the reader
 
 fn row_of(k: usize, place: usize, row: u64) -> u16
-    ensures { λ r. ⌜ r < 256 ⌝ }
+    ensures { result < 256 }
 {
     if k == place { (row % 256) as u16 } else { 0 }
 }
 
 // The entries, as many as there are and there is room for.
 fn fill(entries: usize, place: usize, row: u64, out: &mut [u8])
-    requires { ⌜ entries ≤ 2 * max-slots + 1 ⌝ }
+    requires { entries ≤ 2 * max_slots + 1 }
 {
     let mut k: usize = 0;
     while k < entries {
@@ -58,7 +54,7 @@ fn fill(entries: usize, place: usize, row: u64, out: &mut [u8])
     }
 }
 
-pub(crate) fn full_case(given: &[u64]) {
+pub(crate) fn full_case(rt: &impl Print, given: &[u64]) {
     let mut file = [0u8; LONGEST];
     lists::put_head(1, (number_at(given, 0) % 65536) as u16, &mut file);
     let entries = room(given, 1, Head::ENTRIES + 1);
@@ -71,15 +67,15 @@ pub(crate) fn full_case(given: &[u64]) {
     let mut numbers = [0u16; NUMBERS];
     let size = Head::BYTES + Head::ENTRY_BYTES * entries;
     let r = lists::read(&file[..size], &mut numbers);
-    print_list(r.answer, r.head.hyper, r.head.entries);
+    print_list(rt, r.answer, r.head.hyper, r.head.entries);
 }
 
 // ---- the maker
 
-fn make(file: &[u8], plan: &[u64], element: u64, out: &mut [u16]) {
+fn make(rt: &impl Print, file: &[u8], plan: &[u64], element: u64, out: &mut [u16]) {
     let made = maker::make(file, plan, element, out);
-    print_list(made.answer, made.hyper, made.entries);
-    print_numbers(out);
+    print_list(rt, made.answer, made.hyper, made.entries);
+    print_numbers(rt, out);
 }
 
 // Three numbers and the plan's words; more than there are where the words are more.
@@ -91,11 +87,11 @@ pub(crate) fn before_table(given: &[u64]) -> usize {
     3 + words
 }
 
-pub(crate) fn make_case(file: &[u8], given: &[u64]) {
+pub(crate) fn make_case(rt: &impl Print, file: &[u8], given: &[u64]) {
     if given.len() < 3 {
         return;
     }
     let mut out = [KEPT as u16; MOST];
     let size = room(given, 1, MOST);
-    make(file, &given[3..], number_at(given, 0), &mut out[..size]);
+    make(rt, file, &given[3..], number_at(given, 0), &mut out[..size]);
 }

@@ -2,21 +2,18 @@
 // a name only is a table for the verdict. The modules say what numbers a call's case has, and what is printed for it after its heading.
 // Where rows stand as (cost,period,first,second), a name with a + in it is of a board with two rings, whose rows are
 // (cost,period,first,second,direction). A name with a * in it is of a call with a relay (#113), whose number leads the others.
+#![tactic(auto)]
+
 mod lists_of;
 mod meetings;
 mod plans;
 mod tables;
 mod verdicts;
 
-use cases::find;
-use cases::number_at;
-use cases::table_file;
-use libc::STDIN_FILENO;
-use libc::STDOUT_FILENO;
-use table::Answer;
-use table::Table;
-ghost use Prim.Native.Nat.{_≤_};
-ghost use lib.ListN.{length};
+ghost use Rattle.std.specs.Prelude.{◌≤◌, length};
+
+use cases::{find, number_at, table_file};
+use table::{Answer, Table};
 
 // as many numbers as a case has at most, and as much as a call is lent
 pub(crate) const MOST: usize = 540;
@@ -24,34 +21,36 @@ pub(crate) const MOST: usize = 540;
 // what the lent memory holds before the call
 pub(crate) const KEPT: u8 = 9;
 
+// no more of the input is read
+const INPUT: usize = 65536;
+
 // room for the file of one row more than a table may have
 const SIZE: usize = Table::HEADER + (Table::ROW_BYTES + Table::WAY_BYTES) * (Table::ROWS + 1);
 
-// ---- what is printed
+// ---- what is printed; what can't be written is lost
 
-pub(crate) fn print_word(word: &[u8]) {
-    io::write_all(STDOUT_FILENO, word);
+pub(crate) fn print_word(rt: &impl Print, word: &[u8]) {
+    let _ = rt.write_all(word);
 }
 
 // A space and a number.
-pub(crate) fn print_number(x: u64) {
-    print_word(b" ");
-    io::print_decimal(STDOUT_FILENO, x);
+pub(crate) fn print_number(rt: &impl Print, x: u64) {
+    let _ = print!(rt; " {x}");
 }
 
 // A word, and the numbers.
-pub(crate) fn print(word: &[u8], numbers: &[u64]) {
-    print_word(word);
+pub(crate) fn print(rt: &impl Print, word: &[u8], numbers: &[u64]) {
+    print_word(rt, word);
     let mut i: usize = 0;
     while i < numbers.len() {
-        print_number(numbers[i]);
+        print_number(rt, numbers[i]);
         i += 1;
     }
 }
 
-pub(crate) fn print_answer(answer: Answer) {
-    print_number(answer.number as u64);
-    print_number(answer.place as u64);
+pub(crate) fn print_answer(rt: &impl Print, answer: Answer) {
+    print_number(rt, answer.number as u64);
+    print_number(rt, answer.place as u64);
 }
 
 // ---- a case's heading and numbers
@@ -75,7 +74,7 @@ fn letter_of(heading: &[u8]) -> u8 {
 
 // How many numbers lead the others: that of the relay, or a mark's byte.
 fn leading(heading: &[u8], given: &[u64]) -> usize
-    ensures { λ r. ⌜ r ≤ length (now (given .entry)) ⌝ }
+    ensures { result ≤ length given.now }
 {
     if given.len() > 0 && (has(heading, b'*') || letter_of(heading) == b'o') {
         1
@@ -86,7 +85,7 @@ fn leading(heading: &[u8], given: &[u64]) -> usize
 
 // How much there is, or is lent, as the number at place `k` says.
 pub(crate) fn room(given: &[u64], k: usize, most: usize) -> usize
-    ensures { λ r. ⌜ r ≤ most ⌝ }
+    ensures { result ≤ most }
 {
     let size = number_at(given, k) as usize;
     if size < most { size } else { most }
@@ -105,18 +104,18 @@ fn before_table(letter: u8, given: &[u64]) -> usize {
     }
 }
 
-fn run_on(heading: &[u8], relay: &[u64], file: &[u8], given: &[u64]) {
+fn run_on(rt: &impl Print, heading: &[u8], relay: &[u64], file: &[u8], given: &[u64]) {
     match letter_of(heading) {
-        0 => verdicts::answer(verdicts::judge(relay, file)),
-        b'c' => meetings::crowd_case(file, given),
-        b'm' => meetings::meet_case(file, given),
-        b'e' => lists_of::make_case(file, given),
-        _ => plans::run(heading, relay, file, given),
+        0 => verdicts::answer(rt, verdicts::judge(relay, file)),
+        b'c' => meetings::crowd_case(rt, file, given),
+        b'm' => meetings::meet_case(rt, file, given),
+        b'e' => lists_of::make_case(rt, file, given),
+        _ => plans::run(rt, heading, relay, file, given),
     }
 }
 
 // The table's file is made here, for all calls.
-fn run_on_table(heading: &[u8], relay: &[u64], given: &[u64]) {
+fn run_on_table(rt: &impl Print, heading: &[u8], relay: &[u64], given: &[u64]) {
     let at = before_table(letter_of(heading), given);
     if at > given.len() {
         return;
@@ -124,36 +123,36 @@ fn run_on_table(heading: &[u8], relay: &[u64], given: &[u64]) {
     let mut file = [0u8; SIZE];
     let size = table_file(has(heading, b'+'), &given[at..], &mut file);
     if size <= SIZE {
-        run_on(heading, relay, &file[..size], &given[..at]);
+        run_on(rt, heading, relay, &file[..size], &given[..at]);
     }
 }
 
 // ---- a case
 
 // The calls that take no table's file have first letters of their own.
-fn call(heading: &[u8], lead: &[u64], given: &[u64]) {
+fn call(rt: &impl Print, heading: &[u8], lead: &[u64], given: &[u64]) {
     if has(heading, b'*') {
-        run_on_table(heading, lead, given);
+        run_on_table(rt, heading, lead, given);
         return;
     }
     let letter = letter_of(heading);
     match letter {
-        b'r' | b'v' | b'l' => tables::read_case(letter, given),
-        b'w' | b'f' | b'o' => tables::write_case(letter, lead, given),
-        b'h' => lists_of::full_case(given),
-        _ => run_on_table(heading, lead, given),
+        b'r' | b'v' | b'l' => tables::read_case(rt, letter, given),
+        b'w' | b'f' | b'o' => tables::write_case(rt, letter, lead, given),
+        b'h' => lists_of::full_case(rt, given),
+        _ => run_on_table(rt, heading, lead, given),
     }
 }
 
-fn run(heading: &[u8], given: &[u64]) {
-    print_word(heading);
+fn run(rt: &impl Print, heading: &[u8], given: &[u64]) {
+    print_word(rt, heading);
     let lead = leading(heading, given);
-    call(heading, &given[..lead], &given[lead..]);
-    print_word(b"\n");
+    call(rt, heading, &given[..lead], &given[lead..]);
+    print_word(rt, b"\n");
 }
 
 // A line of the input. It has a case if it has a colon, and no # before it.
-fn one(text: &[u8]) {
+fn one(rt: &impl Print, text: &[u8]) {
     let colon = find(text, 0, b':');
     if find(text, 0, b'#') <= colon {
         return;
@@ -161,24 +160,24 @@ fn one(text: &[u8]) {
     let mut given = [0u64; MOST];
     let count = cases::numbers(&text[colon..], &mut given);
     if count <= MOST {
-        run(&text[..colon], &given[..count]);
+        run(rt, &text[..colon], &given[..count]);
     }
 }
 
-fn each(text: &[u8]) {
+fn each(rt: &impl Print, text: &[u8]) {
     let mut at: usize = 0;
     while at < text.len() {
         let end = find(text, at, b'\n');
-        one(&text[at..end]);
+        one(rt, &text[at..end]);
         at = end + 1;
     }
 }
 
-fn main() {
-    print_word(b"empty");
-    verdicts::answer(verdict::judge(b""));
-    print_word(b"\n");
-    let mut text = io::large_buffer();
-    let n = io::read_full(STDIN_FILENO, &mut text);
-    each(&text[..n]);
+fn main(rt: HostRuntime) {
+    print_word(&rt, b"empty");
+    verdicts::answer(&rt, verdict::judge(b""));
+    print_word(&rt, b"\n");
+    let mut text = [0u8; INPUT];
+    let n = streams::read(&rt, &mut text);
+    each(&rt, &text[..n]);
 }

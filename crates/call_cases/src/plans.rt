@@ -5,54 +5,42 @@
 // A call is plan, step or standings, or step_finished or standings_finished of a planner that has finished; or list. It is lent `room`
 // words. For each is printed: number and place, then what the call left: the stage, the first four totals, and all of the lent words; or
 // the first four standings; of a list how many sets there are, and the words.
-use crate::KEPT;
-use crate::MOST;
-use crate::byte_at;
-use crate::print;
-use crate::print_answer;
-use crate::print_number;
-use crate::print_word;
-use cases::find;
-use cases::number_at;
-use libc::STDOUT_FILENO;
-use planner::MovedOn;
-use planner::Planner;
-use planner::Stage;
-use planner::Standings;
-use table::Answer;
-use table::Table;
+use crate::{KEPT, MOST, byte_at, print, print_answer, print_number, print_word};
+use cases::{find, number_at};
+use planner::{MovedOn, Planner, Stage, Standings};
+use table::{Answer, Table};
 
 // room, interval and four totals
 pub(crate) const BEFORE_TABLE: usize = 6;
 
 // ---- what is printed
 
-fn print_stage(stage: Stage) {
+fn print_stage(rt: &impl Print, stage: Stage) {
     match stage {
         Stage::Due(k) => {
-            print_word(b" due");
-            print_number(k);
+            print_word(rt, b" due");
+            print_number(rt, k);
         }
-        Stage::Finished => print_word(b" finished"),
+        Stage::Finished => print_word(rt, b" finished"),
     }
 }
 
-fn print_totals(totals: [u64; Table::ROWS]) {
-    print_word(b" totals");
+fn print_totals(rt: &impl Print, totals: [u64; Table::ROWS]) {
+    print_word(rt, b" totals");
     let mut i: usize = 0;
     while i < 4 {
-        print_number(totals[i]);
+        print_number(rt, totals[i]);
         i += 1;
     }
 }
 
-fn print_moved(r: MovedOn) {
-    print_answer(r.answer);
+fn print_moved(rt: &impl Print, r: MovedOn) {
+    print_answer(rt, r.answer);
     let after = r.planner;
     let stage = after.stage;
     let totals = after.totals;
-    print_stage(stage);
-    print_totals(totals);
+    print_stage(rt, stage);
+    print_totals(rt, totals);
 }
 
 // How far a standing is from 0, where h is at most 64.
@@ -65,21 +53,21 @@ fn distance(x: i64) -> u64 {
 }
 
 // So many ahead, or behind.
-fn print_standing(x: i64) {
+fn print_standing(rt: &impl Print, x: i64) {
     if x < 0 {
-        print_word(b" -");
-        io::print_decimal(STDOUT_FILENO, distance(x));
+        let behind = distance(x);
+        let _ = print!(rt; " -{behind}");
     } else {
-        print_number(distance(x));
+        print_number(rt, distance(x));
     }
 }
 
-fn print_standings(r: Standings) {
-    print_answer(r.answer);
+fn print_standings(rt: &impl Print, r: Standings) {
+    print_answer(rt, r.answer);
     let values = r.values;
     let mut i: usize = 0;
     while i < 4 {
-        print_standing(values[i]);
+        print_standing(rt, values[i]);
         i += 1;
     }
 }
@@ -107,27 +95,41 @@ fn standings(planner: Planner, relay: &[u64], file: &[u8]) -> Standings {
     relayed::standings(planner, file, number_at(relay, 0) as usize)
 }
 
-fn list(relay: &[u64], file: &[u8], words: &mut [u64]) {
+fn list(rt: &impl Print, relay: &[u64], file: &[u8], words: &mut [u64]) {
     let r = relayed::list_of_sets(file, number_at(relay, 0) as usize, words);
-    print_answer(r.answer);
-    print_word(b" sets");
-    print_number(r.sets as u64);
+    print_answer(rt, r.answer);
+    print_word(rt, b" sets");
+    print_number(rt, r.sets as u64);
 }
 
 // ---- a case
 
 // The calls that are lent words are told apart by their first letter.
-fn call(letter: u8, planner: Planner, relay: &[u64], file: &[u8], words: &mut [u64]) {
+fn call(
+    rt: &impl Print,
+    letter: u8,
+    planner: Planner,
+    relay: &[u64],
+    file: &[u8],
+    words: &mut [u64],
+) {
     match letter {
-        b'p' => print_answer(plan(relay, file, words)),
-        b'l' => list(relay, file, words),
-        _ => print_moved(step(planner, relay, file, words)),
+        b'p' => print_answer(rt, plan(relay, file, words)),
+        b'l' => list(rt, relay, file, words),
+        _ => print_moved(rt, step(planner, relay, file, words)),
     }
 }
 
-fn call_and_print(letter: u8, planner: Planner, relay: &[u64], file: &[u8], words: &mut [u64]) {
-    call(letter, planner, relay, file, words);
-    print(b" words", words);
+fn call_and_print(
+    rt: &impl Print,
+    letter: u8,
+    planner: Planner,
+    relay: &[u64],
+    file: &[u8],
+    words: &mut [u64],
+) {
+    call(rt, letter, planner, relay, file, words);
+    print(rt, b" words", words);
 }
 
 fn stage_of(heading: &[u8], k: u64) -> Stage {
@@ -149,19 +151,20 @@ fn planner_of(heading: &[u8], given: &[u64]) -> Planner {
     }
 }
 
-fn lend(letter: u8, planner: Planner, relay: &[u64], file: &[u8], room: usize) {
+fn lend(rt: &impl Print, letter: u8, planner: Planner, relay: &[u64], file: &[u8], room: usize) {
     let mut words = [KEPT as u64; MOST];
     if room <= MOST {
-        call_and_print(letter, planner, relay, file, &mut words[..room]);
+        call_and_print(rt, letter, planner, relay, file, &mut words[..room]);
     }
 }
 
-pub(crate) fn run(heading: &[u8], relay: &[u64], file: &[u8], given: &[u64]) {
+pub(crate) fn run(rt: &impl Print, heading: &[u8], relay: &[u64], file: &[u8], given: &[u64]) {
     let planner = planner_of(heading, given);
     if find(heading, 0, b'g') < find(heading, 0, b' ') {
-        print_standings(standings(planner, relay, file));
+        print_standings(rt, standings(planner, relay, file));
     } else {
         lend(
+            rt,
             byte_at(heading, 0),
             planner,
             relay,

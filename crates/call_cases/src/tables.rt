@@ -9,15 +9,12 @@
 //
 // For each is printed: number and place, what the reader returned of the mark, the version, M and the row count, or of the element, the
 // hyperperiod and the entry count, and then all of the lent memory.
-use crate::KEPT;
-use crate::MOST;
-use crate::print_answer;
-use crate::print_number;
-use crate::room;
+ghost use Rattle.std.specs.Prelude.{◌+◌, ◌≤◌};
+
+use crate::{KEPT, MOST, print_answer, print_number, room};
 use cases::number_at;
 use reader::Reading;
 use table::Answer;
-ghost use Prim.Native.Nat.{_+_, _≤_};
 
 fn wide(x: u16) -> u64 {
     x as u64
@@ -27,25 +24,25 @@ fn wide_byte(x: u8) -> u64 {
     x as u64
 }
 
-pub(crate) fn print_numbers(numbers: &[u16]) {
+pub(crate) fn print_numbers(rt: &impl Print, numbers: &[u16]) {
     let mut i: usize = 0;
     while i < numbers.len() {
-        print_number(wide(numbers[i]));
+        print_number(rt, wide(numbers[i]));
         i += 1;
     }
 }
 
-fn print_bytes(bytes: &[u8]) {
+fn print_bytes(rt: &impl Print, bytes: &[u8]) {
     let mut i: usize = 0;
     while i < bytes.len() {
-        print_number(wide_byte(bytes[i]));
+        print_number(rt, wide_byte(bytes[i]));
         i += 1;
     }
 }
 
 // How many numbers stand from place `k` on.
 fn after(given: &[u64], k: usize) -> usize
-    ensures { λ r. ⌜ r ≤ 540 ⌝ }
+    ensures { result ≤ 540 }
 {
     if given.len() < k {
         return 0;
@@ -56,33 +53,33 @@ fn after(given: &[u64], k: usize) -> usize
 
 // ---- the reader
 
-fn print_table(r: Reading) {
-    print_answer(r.answer);
+fn print_table(rt: &impl Print, r: Reading) {
+    print_answer(rt, r.answer);
     let mark = r.mark;
-    print_bytes(&mark);
-    print_number(r.version);
-    print_number(r.table.elements as u64);
-    print_number(r.table.rows as u64);
+    print_bytes(rt, &mark);
+    print_number(rt, r.version);
+    print_number(rt, r.table.elements as u64);
+    print_number(rt, r.table.rows as u64);
 }
 
-fn print_list(r: lists::Reading) {
-    print_answer(r.answer);
-    print_number(r.head.element as u64);
-    print_number(r.head.hyper as u64);
-    print_number(r.head.entries as u64);
+fn print_list(rt: &impl Print, r: lists::Reading) {
+    print_answer(rt, r.answer);
+    print_number(rt, r.head.element as u64);
+    print_number(rt, r.head.hyper as u64);
+    print_number(rt, r.head.entries as u64);
 }
 
-fn read_by(letter: u8, file: &[u8], out: &mut [u16]) {
+fn read_by(rt: &impl Print, letter: u8, file: &[u8], out: &mut [u16]) {
     match letter {
-        b'r' => print_table(reader::read(file, out)),
-        b'v' => print_table(reader::read_version_1(file, out)),
-        _ => print_list(lists::read(file, out)),
+        b'r' => print_table(rt, reader::read(file, out)),
+        b'v' => print_table(rt, reader::read_version_1(file, out)),
+        _ => print_list(rt, lists::read(file, out)),
     }
 }
 
-fn read(letter: u8, file: &[u8], out: &mut [u16]) {
-    read_by(letter, file, out);
-    print_numbers(out);
+fn read(rt: &impl Print, letter: u8, file: &[u8], out: &mut [u16]) {
+    read_by(rt, letter, file, out);
+    print_numbers(rt, out);
 }
 
 fn put_bytes(given: &[u64], out: &mut [u8]) {
@@ -93,13 +90,13 @@ fn put_bytes(given: &[u64], out: &mut [u8]) {
     }
 }
 
-pub(crate) fn read_case(letter: u8, given: &[u64]) {
+pub(crate) fn read_case(rt: &impl Print, letter: u8, given: &[u64]) {
     let mut file = [0u8; MOST];
     put_bytes(given, &mut file);
     let size = after(given, 1);
     let mut out = [KEPT as u16; MOST];
     let lent = room(given, 0, MOST);
-    read(letter, &file[..size], &mut out[..lent]);
+    read(rt, letter, &file[..size], &mut out[..lent]);
 }
 
 // ---- the writer
@@ -129,9 +126,16 @@ fn write_by(letter: u8, lead: &[u64], given: &[u64], numbers: &[u16], out: &mut 
     write_table(mark_end(lead), given, numbers, out)
 }
 
-fn write(letter: u8, lead: &[u64], given: &[u64], numbers: &[u16], out: &mut [u8]) {
-    print_answer(write_by(letter, lead, given, numbers, out));
-    print_bytes(out);
+fn write(
+    rt: &impl Print,
+    letter: u8,
+    lead: &[u64],
+    given: &[u64],
+    numbers: &[u16],
+    out: &mut [u8],
+) {
+    print_answer(rt, write_by(letter, lead, given, numbers, out));
+    print_bytes(rt, out);
 }
 
 fn put_numbers(given: &[u64], out: &mut [u16]) {
@@ -142,11 +146,11 @@ fn put_numbers(given: &[u64], out: &mut [u16]) {
     }
 }
 
-pub(crate) fn write_case(letter: u8, lead: &[u64], given: &[u64]) {
+pub(crate) fn write_case(rt: &impl Print, letter: u8, lead: &[u64], given: &[u64]) {
     let mut numbers = [0u16; MOST];
     put_numbers(given, &mut numbers);
     let size = after(given, 4);
     let mut out = [KEPT; MOST];
     let lent = room(given, 3, MOST);
-    write(letter, lead, given, &numbers[..size], &mut out[..lent]);
+    write(rt, letter, lead, given, &numbers[..size], &mut out[..lent]);
 }

@@ -1,72 +1,72 @@
 -- Laws of what the reader finds: a digit more, a number ended, and the numbers in the rest of a text.
 --
 --   Front text was i o x out k    the first i bytes are read: their numbers stand in out, k of them, and x is open if o says so
-use mathlib.Core.Path.{_≡_, refl, sym, ap, _∙_}
-use mathlib.Core.Logic.{⊎-elim}
-use mathlib.Core.List.{List, [], _∷_, _++_, append-assoc}
-use mathlib.Core.Bool.{Bool, true, false, not, _&&_}
-use Prim.Native.Nat.{ℕ, _+_, _-_, _*_, _≤_, _<_, min}
+use mathlib.Core.Path.{◌≡◌, refl, sym, ap, ◌∙◌}
+use mathlib.Core.Logic.{⊎_elim}
+use mathlib.Core.List.{List, [], ◌∷◌, ◌++◌, append_assoc}
+use mathlib.Core.Bool.{Bool, true, false, not, ◌&&◌}
+use Prim.Native.Nat.{ℕ, ◌+◌, ◌-◌, ◌*◌, ◌≤◌, ◌<◌, min}
 use native.Mathlib.Omega.{arith}
 use lib.Dec.{leb, le→leb, leb→le}
-use lib.ListN.{length, drop, drop-of-length-le}
-use Rattle·numbers.specs.Lists.{at}
-use Rattle·numbers.proofs.Lists.{drop-next}
-use Rattle·numbers.proofs.Truth.{is-true, is-false, le-or-lt}
-use Rattle·decimal.specs.Puts.{Puts}
-use Rattle·decimal.proofs.Puts.{puts-none, puts-more}
-use Rattle·cases·specs.specs.Reading.{FoundAt, largest, isDigit, grown, ended, numbersFrom, numbersIn}
+use lib.ListN.{length, drop, drop_of_length-le}
+use Rattle.numbers.specs.Lists.{at}
+use Rattle.numbers.proofs.Lists.{drop_next}
+use Rattle.numbers.proofs.Truth.{is_true, is_false, le_or_lt}
+use Rattle.decimal.specs.Puts.{Puts}
+use Rattle.decimal.proofs.Puts.{puts_none, puts_more}
+use Rattle.cases.specs.Reading.{FoundAt, largest, is_digit, grown, ended, numbers_from, numbers_in}
 
 -- ---- digits
 
 module _ (b : ℕ) where
   above : 48 ≤ b → leb 48 b ≡ true
-  above l = is-true (leb 48 b) (le→leb 48 b l)
+  above l = is_true (leb 48 b) (le→leb 48 b l)
 
   below : b < 48 → leb 48 b ≡ false
-  below l = is-false (leb 48 b) (λ h. let g = leb→le 48 b h in let z : ⊥ = omega arith in z)
+  below l = is_false (leb 48 b) (λ h. let g = leb→le 48 b h in let z : ⊥ = omega arith in z)
 
   within : b ≤ 57 → leb b 57 ≡ true
-  within l = is-true (leb b 57) (le→leb b 57 l)
+  within l = is_true (leb b 57) (le→leb b 57 l)
 
   past : 57 < b → leb b 57 ≡ false
-  past l = is-false (leb b 57) (λ h. let g = leb→le b 57 h in let z : ⊥ = omega arith in z)
+  past l = is_false (leb b 57) (λ h. let g = leb→le b 57 h in let z : ⊥ = omega arith in z)
 
-  pub digit-above : 48 ≤ b → leb b 57 ≡ isDigit b
-  unfolding isDigit
-  digit-above l = rw (above l)
+  pub digit_above : 48 ≤ b → leb b 57 ≡ is_digit b
+  unfolding is_digit
+  digit_above l = rw (above l)
 
-  pub digit-below : b < 48 → leb 48 b ≡ isDigit b
-  unfolding isDigit
-  digit-below l = rw (below l)
+  pub digit_below : b < 48 → leb 48 b ≡ is_digit b
+  unfolding is_digit
+  digit_below l = rw (below l)
 
   module _ (x : ℕ) where
-    pub grown-low : b < 48 → 0 ≡ grown x b
-    unfolding grown isDigit
-    grown-low l = rw (below l)
+    pub grown_low : b < 48 → 0 ≡ grown x b
+    unfolding grown is_digit
+    grown_low l = rw (below l)
 
-    pub grown-high : 57 < b → 0 ≡ grown x b
-    unfolding grown isDigit
-    grown-high l = let a : 48 ≤ b = omega arith in rw (above a, past l)
+    pub grown_high : 57 < b → 0 ≡ grown x b
+    unfolding grown is_digit
+    grown_high l = let a : 48 ≤ b = omega arith in rw (above a, past l)
 
-    pub grown-more : 48 ≤ b → b ≤ 57 → grown x b ≡ min (x * 10 + (b - 48)) largest
-    unfolding grown isDigit
-    grown-more l h = rw (above l, within h)
+    pub grown_more : 48 ≤ b → b ≤ 57 → grown x b ≡ min (x * 10 + (b - 48)) largest
+    unfolding grown is_digit
+    grown_more l h = rw (above l, within h)
 
 -- ---- one number
 
-pub ended-few : (e : Bool) (x : ℕ) → length (ended e x) ≤ 1
+pub ended_few : (e : Bool) (x : ℕ) → length (ended e x) ≤ 1
 unfolding ended
-ended-few true x = omega arith
-ended-few false x = omega arith
+ended_few true x = omega arith
+ended_few false x = omega arith
 
 module _ (e : Bool) (x : ℕ) {was now : List ℕ} {k next : ℕ} where
-  pub ended-not : e ≡ false → Puts [] was k now next → Puts (ended e x) was k now next
+  pub ended_not : e ≡ false → Puts [] was k now next → Puts (ended e x) was k now next
   unfolding ended
-  ended-not h P = rw h P
+  ended_not h P = rw h P
 
-  pub ended-here : e ≡ true → Puts (x ∷ []) was k now next → Puts (ended e x) was k now next
+  pub ended_here : e ≡ true → Puts (x ∷ []) was k now next → Puts (ended e x) was k now next
   unfolding ended
-  ended-here h P = rw h P
+  ended_here h P = rw h P
 
 -- ---- the numbers in the rest of a text
 
@@ -75,41 +75,41 @@ pub record Front (text was : List ℕ) (i : ℕ) (o : Bool) (x : ℕ) (out : Lis
   pub few : k ≤ i
   pub read : List ℕ
   pub puts : Puts read was 0 out k
-  pub rest : read ++ numbersFrom o x (drop i text) ≡ numbersIn text
+  pub rest : read ++ numbers_from o x (drop i text) ≡ numbers_in text
 
-pub front-start : (text was : List ℕ) → Front text was 0 false 0 was 0
-front-start text was = record { low = omega arith; few = omega arith; read = []; puts = puts-none was 0; rest = refl }
+pub front_start : (text was : List ℕ) → Front text was 0 false 0 was 0
+front_start text was = record { low = omega arith; few = omega arith; read = []; puts = puts_none was 0; rest = refl }
 
 module _ {text was out : List ℕ} {i x k : ℕ} {o : Bool} (F : Front text was i o x out k) where
-  pub front-next : {now : List ℕ} {next : ℕ} → i < length text → Puts (ended (o && not (isDigit (at text i))) x) out k now next
-      → Front text was (i + 1) (isDigit (at text i)) (grown x (at text i)) now next
-  unfolding numbersFrom
-  front-next l P = record {
+  pub front_next : {now : List ℕ} {next : ℕ} → i < length text → Puts (ended (o && not (is_digit (at text i))) x) out k now next
+      → Front text was (i + 1) (is_digit (at text i)) (grown x (at text i)) now next
+  unfolding numbers_from
+  front_next l P = record {
     low = omega arith;
-    few = omega (arith, P .after, F .few, ended-few (o && not (isDigit (at text i))) x);
-    read = F .read ++ ended (o && not (isDigit (at text i))) x;
-    puts = puts-more (F .puts) P;
-    rest = append-assoc (F .read) (ended (o && not (isDigit (at text i))) x) _ ∙ ap (λ (ys : List ℕ). F .read ++ ys) (sym step) ∙ F .rest;
+    few = omega (arith, P.after, F.few, ended_few (o && not (is_digit (at text i))) x);
+    read = F.read ++ ended (o && not (is_digit (at text i))) x;
+    puts = puts_more F.puts P;
+    rest = append_assoc F.read (ended (o && not (is_digit (at text i))) x) _ ∙ ap (λ (ys : List ℕ). F.read ++ ys) (sym step) ∙ F.rest;
   }
     where
-      step : numbersFrom o x (drop i text)
-          ≡ ended (o && not (isDigit (at text i))) x ++ numbersFrom (isDigit (at text i)) (grown x (at text i)) (drop (i + 1) text)
-      step = rw (drop-next text i l)
+      step : numbers_from o x (drop i text)
+          ≡ ended (o && not (is_digit (at text i))) x ++ numbers_from (is_digit (at text i)) (grown x (at text i)) (drop (i + 1) text)
+      step = rw (drop_next text i l)
 
-  pub front-end : {now : List ℕ} {next : ℕ} → length text ≤ i → Puts (ended o x) out k now next → Puts (numbersIn text) was 0 now next
-  unfolding numbersFrom
-  front-end l P =
-      let e : F .read ++ ended o x ≡ numbersIn text = rw (drop-of-length-le text l) at (F .rest) in
-      rw e at (puts-more (F .puts) P)
+  pub front_end : {now : List ℕ} {next : ℕ} → length text ≤ i → Puts (ended o x) out k now next → Puts (numbers_in text) was 0 now next
+  unfolding numbers_from
+  front_end l P =
+      let e : F.read ++ ended o x ≡ numbers_in text = rw (drop_of_length-le text l) at F.rest in
+      rw e at (puts_more F.puts P)
 
 -- ---- only one place fits
 
 -- a place where the byte stands is not before another first place
-not-before : {text : List ℕ} {from byte m n : ℕ} → FoundAt text from byte m → FoundAt text from byte n → n ≤ m
-not-before {text} {from} {byte} {m} {n} A B =
-    ⊎-elim (λ (l : n ≤ m). l)
-    (λ (l : m < n). absurd (B .none m (omega (arith, A .low, B .high)) l (A .there (omega (arith, B .high)))))
-    (le-or-lt n m)
+not_before : {text : List ℕ} {from byte m n : ℕ} → FoundAt text from byte m → FoundAt text from byte n → n ≤ m
+not_before {text} {from} {byte} {m} {n} A B =
+    ⊎_elim (λ (l : n ≤ m). l)
+    (λ (l : m < n). absurd (B.none m (omega (arith, A.low, B.high)) l (A.there (omega (arith, B.high)))))
+    (le_or_lt n m)
 
-pub found-only : {text : List ℕ} {from byte m n : ℕ} → FoundAt text from byte m → FoundAt text from byte n → m ≡ n
-found-only A B = omega (arith, not-before A B, not-before B A)
+pub found_only : {text : List ℕ} {from byte m n : ℕ} → FoundAt text from byte m → FoundAt text from byte n → m ≡ n
+found_only A B = omega (arith, not_before A B, not_before B A)

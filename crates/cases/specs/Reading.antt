@@ -1,21 +1,15 @@
 -- What the reader of the case programs finds in a text.
 --
 --   FoundAt text from byte r    r is the first place at `from` or after it where the byte stands; the text's end where there is none
---   isDigit b                 the byte is one of '0', .., '9'
+--   is_digit b                 the byte is one of '0', .., '9'
 --   grown x b                 the number x with one digit more, 0 where the byte is none; no more than 64 bits hold
 --   ended e x                 the number x, where e says that it has ended
---   numbersFrom o x bs        the numbers in bs, where a number that begins with x is open before it, if o says so
---   numbersIn bs              the numbers in a text: whatever is no digit stands between them
+--   numbers_from o x bs        the numbers in bs, where a number that begins with x is open before it, if o says so
+--   numbers_in bs              the numbers in a text: whatever is no digit stands between them
 --
--- Only one place fits `FoundAt` (proofs/Reading, `found-only`).
-use mathlib.Core.Path.{_≡_}
-use mathlib.Core.Logic.{_≢_}
-use mathlib.Core.List.{List, [], _∷_, _++_}
-use mathlib.Core.Bool.{Bool, false, not, _&&_, cond}
-use Prim.Native.Nat.{ℕ, _+_, _-_, _*_, _≤_, _<_, min}
-use lib.Dec.{leb}
-use lib.ListN.{length}
-use Rattle·numbers.specs.Lists.{at}
+-- Only one place fits `FoundAt` (proofs/Reading, `found_only`).
+use Rattle.std.specs.Prelude.{◌≡◌, ◌≢◌, List, [], ◌∷◌, ◌++◌, Bool, false, not, ◌&&◌, cond, ℕ, ◌+◌, ◌-◌, ◌*◌, ◌≤◌, ◌<◌, min, leb, length}
+use Rattle.numbers.specs.Lists.{at}
 
 pub record FoundAt (text : List ℕ) (from byte r : ℕ) : Type 0 where
   pub low : min from (length text) ≤ r
@@ -26,18 +20,18 @@ pub record FoundAt (text : List ℕ) (from byte r : ℕ) : Type 0 where
 abbrev pub largest : ℕ
 largest = 0xffff_ffff_ffff_ffff
 
-unfoldable pub isDigit : ℕ → Bool
-isDigit b = leb 48 b && leb b 57
+unfoldable pub is_digit : ℕ → Bool
+is_digit b = leb 48 b && leb b 57
 
 unfoldable pub grown : ℕ → ℕ → ℕ
-grown x b = cond (isDigit b) (min (x * 10 + (b - 48)) largest) 0
+grown x b = cond (is_digit b) (min (x * 10 + (b - 48)) largest) 0
 
 unfoldable pub ended : Bool → ℕ → List ℕ
 ended e x = cond e (x ∷ []) []
 
-unfoldable pub numbersFrom : Bool → ℕ → List ℕ → List ℕ
-numbersFrom o x [] = ended o x
-numbersFrom o x (b ∷ bs) = ended (o && not (isDigit b)) x ++ numbersFrom (isDigit b) (grown x b) bs
+unfoldable pub numbers_from : Bool → ℕ → List ℕ → List ℕ
+numbers_from o x [] = ended o x
+numbers_from o x (b ∷ bs) = ended (o && not (is_digit b)) x ++ numbers_from (is_digit b) (grown x b) bs
 
-abbrev pub numbersIn : List ℕ → List ℕ
-numbersIn bs = numbersFrom false 0 bs
+abbrev pub numbers_in : List ℕ → List ℕ
+numbers_in bs = numbers_from false 0 bs

@@ -1,17 +1,17 @@
 // Reads the cases of the case programs: a line each, with a heading, a colon, and numbers.
+#![tactic(auto)]
+
+ghost use Rattle.std.specs.Prelude.{◌≡◌, not, ◌&&◌, cond, [], ◌∷◌, ◌+◌, ◌*◌, ◌/◌, ◌%◌, ◌≤◌, ◌<◌, min};
+ghost use Rattle.numbers.specs.Lists.{at as item, each};
+ghost use Rattle.decimal.specs.Puts.{limit, Puts};
+ghost use Rattle.cases.specs.Tables.{low, high, row_numbers, row_bytes, way_bytes, row_at, file_bytes};
+ghost use Rattle.cases.specs.Reading.{FoundAt, largest, is_digit, grown, ended, numbers_in};
+
 use decimal::put_bytes;
 use table::Table;
-ghost use mathlib.Core.Path.{_≡_};
-ghost use mathlib.Core.Bool.{not, _&&_, cond};
-ghost use mathlib.Core.List.{[], _∷_};
-ghost use Prim.Native.Nat.{_+_, _*_, _/_, _%_, _≤_, _<_, min};
-ghost use Rattle·numbers.specs.Lists.{at as item, each};
-ghost use Rattle·decimal.specs.Puts.{limit, Puts};
-ghost use Rattle·cases·specs.specs.Tables.{low, high, rowNumbers, rowBytes, wayBytes, rowAt, fileBytes};
-ghost use Rattle·cases·specs.specs.Reading.{FoundAt, largest, isDigit, grown, ended, numbersIn};
 
 fn least(a: usize, b: usize) -> usize
-    ensures { λ r. ⌜ r ≡ min a b ⌝ }
+    ensures { result ≡ min a b }
 {
     if a < b { a } else { b }
 }
@@ -20,7 +20,7 @@ fn least(a: usize, b: usize) -> usize
 
 // The first place of `byte` in `text`, at `from` or after it; the end of the text where there is none.
 pub fn find(text: &[u8], from: usize, byte: u8) -> usize
-    ensures { λ r. ⌜ FoundAt (now (text .entry)) from byte r ⌝ }
+    ensures { FoundAt text.now from byte result }
 {
     let mut i = least(from, text.len());
     while i < text.len() {
@@ -33,14 +33,14 @@ pub fn find(text: &[u8], from: usize, byte: u8) -> usize
 }
 
 fn is_digit(byte: u8) -> bool
-    ensures { λ r. ⌜ r ≡ isDigit byte ⌝ }
+    ensures { result ≡ is_digit byte }
 {
     byte >= b'0' && byte <= b'9'
 }
 
 // A number with one digit more.
 fn grow(x: u64, byte: u8) -> u64
-    ensures { λ r. ⌜ r ≡ grown x byte ⌝ }
+    ensures { result ≡ grown x byte }
 {
     if byte < b'0' {
         return 0;
@@ -57,15 +57,15 @@ fn grow(x: u64, byte: u8) -> u64
 
 // An open number ends where no digit follows.
 fn ends(open: bool, digit: bool) -> bool
-    ensures { λ r. ⌜ r ≡ («open» && not digit) ⌝ }
+    ensures { result ≡ («open» && not digit) }
 {
     open && !digit
 }
 
 // A number is written to place `k`, where there is room; the place after it.
 fn put(x: u64, out: &mut [u64], k: usize) -> usize
-    requires { ⌜ k < largest ⌝ }
-    ensures { λ r. ⌜ Puts (x ∷ []) (now (out .entry)) k (now (out .exit)) r ⌝ }
+    requires { k < largest }
+    ensures { Puts (x ∷ []) out.old k out.new result }
 {
     if k >= out.len() {
         return k + 1;
@@ -76,8 +76,8 @@ fn put(x: u64, out: &mut [u64], k: usize) -> usize
 
 // The same, of a number that has ended.
 fn put_ended(has: bool, x: u64, out: &mut [u64], k: usize) -> usize
-    requires { ⌜ k < largest ⌝ }
-    ensures { λ r. ⌜ Puts (ended has x) (now (out .entry)) k (now (out .exit)) r ⌝ }
+    requires { k < largest }
+    ensures { Puts (ended has x) out.old k out.new result }
 {
     if has {
         return put(x, out, k);
@@ -87,7 +87,7 @@ fn put_ended(has: bool, x: u64, out: &mut [u64], k: usize) -> usize
 
 // The numbers that stand in `text`, written to `out` as far as there is room; how many they are.
 pub fn numbers(text: &[u8], out: &mut [u64]) -> usize
-    ensures { λ r. ⌜ Puts (numbersIn (now (text .entry))) (now (out .entry)) 0 (now (out .exit)) r ⌝ }
+    ensures { Puts (numbers_in text.now) out.old 0 out.new result }
 {
     let mut k: usize = 0;
     let mut x: u64 = 0;
@@ -107,27 +107,27 @@ pub fn numbers(text: &[u8], out: &mut [u64]) -> usize
 // ---- tables
 
 fn low_byte(x: u64) -> u8
-    ensures { λ r. ⌜ r ≡ low x ⌝ }
+    ensures { result ≡ low x }
 {
     (x % 256) as u8
 }
 
 fn high_byte(x: u64) -> u8
-    ensures { λ r. ⌜ r ≡ high x ⌝ }
+    ensures { result ≡ high x }
 {
     (x / 256 % 256) as u8
 }
 
 // The number at place `k`, 0 past the end.
 pub fn number_at(xs: &[u64], k: usize) -> u64
-    ensures { λ r. ⌜ r ≡ item (now (xs .entry)) k ⌝ }
+    ensures { result ≡ item xs.now k }
 {
     if k < xs.len() { xs[k] } else { 0 }
 }
 
 fn put_row(xs: &[u64], k: usize, out: &mut [u8], next: usize) -> usize
-    requires { ⌜ (k + 4 ≤ limit) × (next + 6 ≤ limit) ⌝ }
-    ensures { λ r. ⌜ Puts (rowBytes (now (xs .entry)) k) (now (out .entry)) next (now (out .exit)) r ⌝ }
+    requires { (k + 4 ≤ limit) × (next + 6 ≤ limit) }
+    ensures { Puts (row_bytes xs.now k) out.old next out.new result }
 {
     let cost = number_at(xs, k);
     let period = number_at(xs, k + 1);
@@ -148,8 +148,8 @@ fn put_row(xs: &[u64], k: usize, out: &mut [u8], next: usize) -> usize
 }
 
 fn put_way(board: bool, x: u64, out: &mut [u8], next: usize) -> usize
-    requires { ⌜ next + 1 ≤ limit ⌝ }
-    ensures { λ r. ⌜ Puts (wayBytes board x) (now (out .entry)) next (now (out .exit)) r ⌝ }
+    requires { next + 1 ≤ limit }
+    ensures { Puts (way_bytes board x) out.old next out.new result }
 {
     if board {
         return put_bytes(&[low_byte(x)], out, next);
@@ -159,15 +159,15 @@ fn put_way(board: bool, x: u64, out: &mut [u8], next: usize) -> usize
 
 // How many numbers a row is.
 fn row_numbers(board: bool) -> usize
-    ensures { λ r. ⌜ (r ≡ rowNumbers board) × (4 ≤ r) × (r ≤ 5) ⌝ }
+    ensures { (result ≡ row_numbers board) × (4 ≤ result) × (result ≤ 5) }
 {
     if board { 5 } else { 4 }
 }
 
 fn put_rows(board: bool, xs: &[u64], rows: usize, out: &mut [u8], at: usize) -> usize
-    requires { ⌜ (5 * rows + 5 ≤ limit) × (at + 7 * rows ≤ limit) ⌝ }
-    ensures { λ r. ⌜ Puts (each rows (λ i. rowAt board (now (xs .entry)) (1 + rowNumbers board * i))) (now (out .entry)) at
-        (now (out .exit)) r ⌝ }
+    requires { (5 * rows + 5 ≤ limit) × (at + 7 * rows ≤ limit) }
+    ensures { Puts (each rows (λ i. row_at board xs.now (1 + row_numbers board * i))) out.old at
+        out.new result }
 {
     let size = row_numbers(board);
     let mut next = at;
@@ -183,14 +183,14 @@ fn put_rows(board: bool, xs: &[u64], rows: usize, out: &mut [u8], at: usize) -> 
 
 // The last byte of the mark.
 fn mark_end(board: bool) -> u8
-    ensures { λ r. ⌜ r ≡ cond board 0x32 0x54 ⌝ }
+    ensures { result ≡ cond board 0x32 0x54 }
 {
     if board { b'2' } else { b'T' }
 }
 
 // The table file of the elements and rows that `xs` has, with no check of them, or that of a board; how many bytes it is.
 pub fn table_file(board: bool, xs: &[u64], out: &mut [u8]) -> usize
-    ensures { λ r. ⌜ Puts (fileBytes board (now (xs .entry))) (now (out .entry)) 0 (now (out .exit)) r ⌝ }
+    ensures { Puts (file_bytes board xs.now) out.old 0 out.new result }
 {
     let rows = least(xs.len() / row_numbers(board), Table::ROWS + 1);
     let elements = low_byte(number_at(xs, 0));

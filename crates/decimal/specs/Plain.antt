@@ -5,26 +5,25 @@
 --   Digits ds      all of ds are digits
 --   Plain ds       digits with no 0 before them: "0", or a digit above it and then any
 --
--- `decimal n` is plain and has the value n, and it is the only such text (proofs/Decimal, `decimal-plain`, `decimal-value`, `plain-only`).
-use mathlib.Core.List.{List, [], _∷_}
-use Prim.Native.Nat.{ℕ, _+_, _-_, _*_, _≤_, _<_}
-use Rattle·rules.specs.Text.{zero-byte}
+-- `decimal n` is plain and has the value n, and it is the only such text (proofs/Decimal, `decimal_plain`, `decimal_value`, `plain_only`).
+use Rattle.std.specs.Prelude.{List, [], ◌∷◌, ℕ, ◌+◌, ◌-◌, ◌*◌, ◌≤◌, ◌<◌}
+use Rattle.rules.specs.Text.{zero_byte}
 
 -- the value of ds after digits of value v
-unfoldable pub valueFrom : ℕ → List ℕ → ℕ
-valueFrom v [] = v
-valueFrom v (d ∷ ds) = valueFrom (v * 10 + (d - zero-byte)) ds
+unfoldable pub value_from : ℕ → List ℕ → ℕ
+value_from v [] = v
+value_from v (d ∷ ds) = value_from (v * 10 + (d - zero_byte)) ds
 
 abbrev pub value : List ℕ → ℕ
-value ds = valueFrom 0 ds
+value ds = value_from 0 ds
 
 abbrev pub IsDigit : ℕ → Type 0
-IsDigit b = (zero-byte ≤ b) × (b < zero-byte + 10)
+IsDigit b = (zero_byte ≤ b) × (b < zero_byte + 10)
 
 unfoldable pub Digits : List ℕ → Type 0
 Digits [] = Unit {0}
 Digits (d ∷ ds) = IsDigit d × Digits ds
 
 pub data Plain : List ℕ → Type 0 where
-  none : Plain (zero-byte ∷ [])
-  some : (d : ℕ) (ds : List ℕ) → IsDigit d → zero-byte < d → Digits ds → Plain (d ∷ ds)
+  none : Plain (zero_byte ∷ [])
+  some : (d : ℕ) (ds : List ℕ) → IsDigit d → zero_byte < d → Digits ds → Plain (d ∷ ds)

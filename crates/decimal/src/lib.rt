@@ -2,15 +2,15 @@
 //
 // Each function writes from place `at` on, as far as there is room, and returns the place after its text: so a slice of no places measures
 // a text.
-ghost use mathlib.Core.List.{[], _∷_};
-ghost use Prim.Native.Nat.{_+_, _*_, _<_, _≤_};
-ghost use lib.ListN.{length};
-ghost use Rattle·rules.specs.Text.{space, decimal, fields, textOf};
-ghost use Rattle·decimal·specs.specs.Puts.{limit, field-most, lineOf, Puts};
+#![tactic(auto)]
+
+ghost use Rattle.std.specs.Prelude.{[], ◌∷◌, ◌+◌, ◌*◌, ◌<◌, ◌≤◌, length};
+ghost use Rattle.rules.specs.Text.{space, decimal, fields, text_of};
+ghost use Rattle.decimal.specs.Puts.{limit, field_most, line_of, Puts};
 
 fn put_byte(b: u8, out: &mut [u8], at: usize) -> usize
-    requires { ⌜ at < limit ⌝ }
-    ensures { λ r. ⌜ Puts (b ∷ []) (now (out .entry)) at (now (out .exit)) r ⌝ }
+    requires { at < limit }
+    ensures { Puts (b ∷ []) out.old at out.new result }
 {
     if at >= out.len() {
         return at + 1;
@@ -20,8 +20,8 @@ fn put_byte(b: u8, out: &mut [u8], at: usize) -> usize
 }
 
 pub fn put_bytes(text: &[u8], out: &mut [u8], at: usize) -> usize
-    requires { ⌜ at + length (now text) ≤ limit ⌝ }
-    ensures { λ r. ⌜ Puts (now (text .entry)) (now (out .entry)) at (now (out .exit)) r ⌝ }
+    requires { at + length text.now ≤ limit }
+    ensures { Puts text.now out.old at out.new result }
 {
     let mut next = at;
     let mut i: usize = 0;
@@ -33,8 +33,8 @@ pub fn put_bytes(text: &[u8], out: &mut [u8], at: usize) -> usize
 }
 
 pub fn put_decimal(n: u64, out: &mut [u8], at: usize) -> usize
-    requires { ⌜ at + 20 ≤ limit ⌝ }
-    ensures { λ r. ⌜ Puts (decimal n) (now (out .entry)) at (now (out .exit)) r × (r ≤ at + 20) ⌝ }
+    requires { at + 20 ≤ limit }
+    ensures { Puts (decimal n) out.old at out.new result × (result ≤ at + 20) }
 {
     if n < 10 {
         return put_byte(b'0' + n as u8, out, at);
@@ -45,17 +45,17 @@ pub fn put_decimal(n: u64, out: &mut [u8], at: usize) -> usize
 
 // A space and a number.
 fn put_field(x: u64, out: &mut [u8], at: usize) -> usize
-    requires { ⌜ at + field-most ≤ limit ⌝ }
-    ensures { λ r. ⌜ Puts (space ∷ decimal x) (now (out .entry)) at (now (out .exit)) r × (r ≤ at + field-most) ⌝ }
+    requires { at + field_most ≤ limit }
+    ensures { Puts (space ∷ decimal x) out.old at out.new result × (result ≤ at + field_most) }
 {
     let next = put_byte(b' ', out, at);
     put_decimal(x, out, next)
 }
 
 fn put_fields(numbers: &[u64], out: &mut [u8], at: usize) -> usize
-    requires { ⌜ at + field-most * length (now numbers) ≤ limit ⌝ }
-    ensures { λ r. ⌜ Puts (fields (now (numbers .entry))) (now (out .entry)) at (now (out .exit)) r
-        × (r ≤ at + field-most * length (now (numbers .entry))) ⌝ }
+    requires { at + field_most * length numbers.now ≤ limit }
+    ensures { Puts (fields numbers.now) out.old at out.new result
+        × (result ≤ at + field_most * length numbers.now) }
 {
     let mut next = at;
     let mut k: usize = 0;
@@ -68,9 +68,9 @@ fn put_fields(numbers: &[u64], out: &mut [u8], at: usize) -> usize
 
 // A line: a word, numbers, and a newline.
 pub fn put_line(word: &[u8], numbers: &[u64], out: &mut [u8], at: usize) -> usize
-    requires { ⌜ at + length (now word) + field-most * length (now numbers) < limit ⌝ }
-    ensures { λ r. ⌜ Puts (textOf (lineOf (now (word .entry)) (now (numbers .entry)))) (now (out .entry)) at (now (out .exit)) r
-        × (r ≤ at + length (now (word .entry)) + field-most * length (now (numbers .entry)) + 1) ⌝ }
+    requires { at + length word.now + field_most * length numbers.now < limit }
+    ensures { Puts (text_of (line_of word.now numbers.now)) out.old at out.new result
+        × (result ≤ at + length word.now + field_most * length numbers.now + 1) }
 {
     let named = put_bytes(word, out, at);
     let numbered = put_fields(numbers, out, named);

@@ -1,36 +1,24 @@
 // From a file to a table in columns: the one place where the bytes of rows are read.
-use table::Answer;
-use table::Columns;
-use table::Row;
-use table::Table;
-use table::is_plain;
-use table::is_strange;
-use table::is_unknown;
-use table::no_columns;
-use table::read16;
-use table::rings_of;
-use table::row_bytes;
-use table::row_fault;
-use table::row_place;
-use table::size_fault;
-use table::version_of;
-use table::way_at;
-ghost use mathlib.Core.Path.{_≡_};
-ghost use mathlib.Core.Logic.{_≢_};
-ghost use Prim.Native.Nat.{_+_, _*_, _≤_, _<_};
-ghost use lib.ListN.{length, replicate};
-ghost use Rattle·rules.specs.Bounds.{max-rows};
-ghost use Rattle·rules.specs.TableFile.{table-mark, version-2, headerSize, rowSize, mark, version};
-ghost use Rattle·rules.specs.TableFile.{fileRings, fileTable, fileLabelled};
-ghost use Rattle·rules.specs.Refusals.{Answers, header-checks, row-checks, file-checks};
-ghost use Rattle·table.specs.Columns.{Whole, HoldsLabels};
-ghost use Rattle·decoding·specs.specs.Decoded.{StandsAt, Decoding, Empty, noHead, DecodesInto, refusal, Decodes};
-ghost use Rattle·numbers.specs.Decides.{Decides};
+#![tactic(auto)]
+
+ghost use Rattle.std.specs.Prelude.{◌≡◌, ◌≢◌, ◌+◌, ◌*◌, ◌≤◌, ◌<◌, length, replicate};
+ghost use Rattle.rules.specs.Bounds.{max_rows};
+ghost use Rattle.rules.specs.TableFile.{table_mark, version_2, header_size, row_size, mark, version};
+ghost use Rattle.rules.specs.TableFile.{file_rings, file_table, file_labelled};
+ghost use Rattle.rules.specs.Refusals.{Answers, header_checks, row_checks, file_checks};
+ghost use Rattle.table.specs.Columns.{Whole, HoldsLabels};
+ghost use Rattle.decoding.specs.Decoded.{StandsAt, Decoding, Empty, no_head, DecodesInto, refusal, Decodes};
+ghost use Rattle.numbers.specs.Decides.{Decides};
+
+use table::{
+    Answer, Columns, Row, Table, is_plain, is_strange, is_unknown, no_columns, read16, rings_of,
+    row_bytes, row_fault, row_place, size_fault, version_of, way_at,
+};
 
 // Whether a file has a header with the mark of one ring and version 2.
 pub fn is_labelled(file: &[u8]) -> bool
-    ensures { λ r. ⌜ Decides ((headerSize ≤ length (now (file .entry))) × (mark (now (file .entry)) ≡ table-mark)
-        × (version (now (file .entry)) ≡ version-2)) r ⌝ }
+    ensures { Decides ((header_size ≤ length file.now) × (mark file.now ≡ table_mark)
+        × (version file.now ≡ version_2)) result }
 {
     if file.len() < Table::HEADER {
         return false;
@@ -46,7 +34,7 @@ pub fn is_labelled(file: &[u8]) -> bool
 
 // Whether a file has a header with another mark than that of one ring: where one ring alone is taken, it gets 2.
 pub fn has_other_mark(file: &[u8]) -> bool
-    ensures { λ r. ⌜ Decides ((headerSize ≤ length (now (file .entry))) × (mark (now (file .entry)) ≢ table-mark)) r ⌝ }
+    ensures { Decides ((header_size ≤ length file.now) × (mark file.now ≢ table_mark)) result }
 {
     if file.len() < Table::HEADER {
         return false;
@@ -59,7 +47,7 @@ pub fn has_other_mark(file: &[u8]) -> bool
 
 // Checks 1 to 6.
 fn header_fault(file: &[u8]) -> u32
-    ensures { λ r. ⌜ Answers (header-checks (now (file .entry))) r 0 ⌝ }
+    ensures { Answers (header_checks file.now) result 0 }
 {
     if file.len() < Table::HEADER {
         return Answer::SHORT_FILE;
@@ -84,9 +72,9 @@ fn header_fault(file: &[u8]) -> u32
 
 // The first byte of row `i`, in a file that is as long as it says.
 fn row_in(file: &[u8], i: usize) -> usize
-    requires { ⌜ Whole (now file) × (i < fileTable (now file) .rows) ⌝ }
-    ensures { λ r. ⌜ (r ≡ headerSize + rowSize (fileRings (now (file .entry))) (version (now (file .entry))) * i)
-        × (r + rowSize (fileRings (now (file .entry))) (version (now (file .entry))) ≤ length (now (file .entry))) ⌝ }
+    requires { Whole file.now × (i < (file_table file.now).rows) }
+    ensures { (result ≡ header_size + row_size (file_rings file.now) (version file.now) * i)
+        × (result + row_size (file_rings file.now) (version file.now) ≤ length file.now) }
 {
     row_place(rings_of(file), version_of(file), i)
 }
@@ -94,8 +82,8 @@ fn row_in(file: &[u8], i: usize) -> usize
 // Writes the directions of the table in that file to `way`, which is 0: with two rings they stand after the six bytes that all rows have,
 // with one all are 0.
 fn put_ways(file: &[u8], way: &mut [u8; Table::ROWS])
-    requires { ⌜ Whole (now file) × (now way ≡ replicate max-rows 0) ⌝ }
-    ensures { λ _. ⌜ HoldsLabels (fileTable (now (file .entry)) .way) (now (way .exit)) ⌝ }
+    requires { Whole file.now × (way.old ≡ replicate max_rows 0) }
+    ensures { HoldsLabels (file_table file.now).way way.new }
 {
     if rings_of(file) != Table::RINGS {
         return;
@@ -109,15 +97,15 @@ fn put_ways(file: &[u8], way: &mut [u8; Table::ROWS])
 }
 
 fn wide(x: u8) -> u16
-    ensures { λ r. ⌜ r ≡ x ⌝ }
+    ensures { result ≡ x }
 {
     x as u16
 }
 
 // The row that stands at byte `at`, with this direction and no label.
 fn row_from(file: &[u8], at: usize, way: usize) -> Row
-    requires { ⌜ at + 5 < length (now file) ⌝ }
-    ensures { λ r. ⌜ StandsAt (now (file .entry)) at way r ⌝ }
+    requires { at + 5 < length file.now }
+    ensures { StandsAt file.now at way result }
 {
     Row {
         cost: read16(file, at),
@@ -139,11 +127,11 @@ fn put_rows(
     second: &mut [u8; Table::ROWS],
     way: &[u8; Table::ROWS],
 ) -> Answer
-    requires { ⌜ Whole (now file) × Decoding (fileTable (now file)) 0 (now cost) (now period) (now first) (now second)
-        × HoldsLabels (fileTable (now file) .way) (now way) ⌝ }
-    ensures { λ r. ⌜ Answers (row-checks (fileTable (now (file .entry)))) (r .number) (r .place)
-        × (r .number ≡ 0 → Decoding (fileTable (now (file .entry))) (fileTable (now (file .entry)) .rows)
-        (now (cost .exit)) (now (period .exit)) (now (first .exit)) (now (second .exit))) ⌝ }
+    requires { Whole file.now × Decoding (file_table file.now) 0 cost.old period.old first.old second.old
+        × HoldsLabels (file_table file.now).way way.now }
+    ensures { Answers (row_checks (file_table file.now)) result.number result.place
+        × (result.number ≡ 0 → Decoding (file_table file.now) (file_table file.now).rows
+        cost.new period.new first.new second.new) }
 {
     let table = Table::of(file);
     let rings = rings_of(file);
@@ -167,8 +155,8 @@ fn put_rows(
 
 // Its labels: with one ring, version 2 has them after those six bytes; else all are 0.
 fn labels_of(file: &[u8]) -> [u16; Table::ROWS]
-    requires { ⌜ Whole (now file) ⌝ }
-    ensures { λ r. ⌜ HoldsLabels (fileLabelled (now (file .entry)) .label) r ⌝ }
+    requires { Whole file.now }
+    ensures { HoldsLabels (file_labelled file.now).label result }
 {
     let mut labels = [0u16; Table::ROWS];
     if rings_of(file) == Table::RINGS {
@@ -187,6 +175,7 @@ fn labels_of(file: &[u8]) -> [u16; Table::ROWS]
 }
 
 // What a file says of its table beside the columns, or why it is refused: then the rest is 0.
+#[derive(Clone, Copy)]
 pub struct Head {
     pub answer: Answer,
     pub elements: usize,
@@ -196,7 +185,7 @@ pub struct Head {
 
 impl Head {
     pub fn refused(answer: Answer) -> Head
-        ensures { λ r. ⌜ r ≡ noHead answer ⌝ }
+        ensures { result ≡ no_head answer }
     {
         Head {
             answer: answer,
@@ -216,9 +205,9 @@ pub fn decode_into(
     second: &mut [u8; Table::ROWS],
     way: &mut [u8; Table::ROWS],
 ) -> Head
-    requires { ⌜ Empty (now cost) (now period) (now first) (now second) (now way) ⌝ }
-    ensures { λ r. ⌜ DecodesInto (file-checks (now (file .entry))) (fileTable (now (file .entry))) r
-        (now (cost .exit)) (now (period .exit)) (now (first .exit)) (now (second .exit)) (now (way .exit)) ⌝ }
+    requires { Empty cost.old period.old first.old second.old way.old }
+    ensures { DecodesInto (file_checks file.now) (file_table file.now) result
+        cost.new period.new first.new second.new way.new }
 {
     let number = header_fault(file);
     if number != Answer::DONE {
@@ -239,6 +228,7 @@ pub fn decode_into(
 }
 
 // A file's table and its labels, or why it is refused.
+#[derive(Clone, Copy)]
 pub struct Decoded {
     pub answer: Answer,
     pub columns: Columns,
@@ -247,7 +237,7 @@ pub struct Decoded {
 
 impl Decoded {
     pub fn refused(answer: Answer) -> Decoded
-        ensures { λ r. ⌜ r ≡ refusal answer ⌝ }
+        ensures { result ≡ refusal answer }
     {
         Decoded {
             answer: answer,
@@ -259,7 +249,7 @@ impl Decoded {
 
 // The same with labels, in one struct. Columns and labels are a passed file's; all 0 beside a refusal.
 pub fn decode(file: &[u8]) -> Decoded
-    ensures { λ r. ⌜ Decodes (file-checks (now (file .entry))) (fileLabelled (now (file .entry))) r ⌝ }
+    ensures { Decodes (file_checks file.now) (file_labelled file.now) result }
 {
     let mut cost = [0u16; Table::ROWS];
     let mut period = [0u16; Table::ROWS];

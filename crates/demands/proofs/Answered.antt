@@ -1,257 +1,257 @@
 -- Every input of every call has a number and a place: each check of its list is decided, the later ones for tables that pass those before.
-use mathlib.Core.Path.{_≡_, refl, subst}
+use mathlib.Core.Path.{◌≡◌, refl, subst}
 use mathlib.Core.Bool.{true, false}
-use mathlib.Core.List.{List, [], _∷_, _++_, append-assoc}
-use Prim.Native.Nat.{ℕ, _+_, _*_, _≤_, _<_}
-use native.Mathlib.Decide.{ℕ-discrete}
+use mathlib.Core.List.{List, [], ◌∷◌, ◌++◌, append_assoc}
+use Prim.Native.Nat.{ℕ, ◌+◌, ◌*◌, ◌≤◌, ◌<◌}
+use native.Mathlib.Decide.{ℕ_discrete}
 use native.Mathlib.Omega.{arith}
 use lib.ListN.{length}
-use Rattle·numbers.proofs.Tests.{Test, lt-test, le-test, eq-test, list-test, as-test, not-test, and-test, or-test}
-use Rattle·rules.specs.Bounds.{max-elements, max-rows, max-slots}
-use Rattle·rules.specs.Bus.{Table}
-use Rattle·rules.specs.TableFile.{table-mark, version-1, headerSize, rowSize, rowNumbers, mark, version, fileTable, fileLabelled}
-use Rattle·rules.specs.TableFile.{ringsOf, memoryWith, memoryLabelledWith}
-use Rattle·rules.specs.Line.{Sets}
-use Rattle·rules.specs.Loads.{hyperperiod}
-use Rattle·rules.specs.Parties.{max-limit}
-use Rattle·rules.specs.Relay.{split}
-use Rattle·rules.specs.Planner.{Stage, due, finished, Planner, Off}
-use Rattle·rules.specs.Refusals.{
+use Rattle.numbers.proofs.Tests.{Test, lt_test, le_test, eq_test, list_test, as_test, not_test, and_test, or_test}
+use Rattle.rules.specs.Bounds.{max_elements, max_rows, max_slots}
+use Rattle.rules.specs.Bus.{Table}
+use Rattle.rules.specs.TableFile.{table_mark, version_1, header_size, row_size, row_numbers, mark, version, file_table, file_labelled}
+use Rattle.rules.specs.TableFile.{rings_of, memory_with, memory_labelled_with}
+use Rattle.rules.specs.Line.{Sets}
+use Rattle.rules.specs.Loads.{hyperperiod}
+use Rattle.rules.specs.Parties.{max_limit}
+use Rattle.rules.specs.Relay.{split}
+use Rattle.rules.specs.Planner.{Stage, due, finished, Planner, Off}
+use Rattle.rules.specs.Refusals.{
   Check,
-  wrong-limit,
-  short-file,
-  wrong-mark,
-  one-ring-checks,
-  given-checks,
-  line-checks,
-  bound-checks,
-  limit-checks,
-  reader-checks,
-  version-1-checks,
-  memory-checks,
-  label-checks,
-  version-checks,
-  writer-checks,
-  shared-checks,
-  set-checks,
-  verdict-checks,
-  limited-checks,
-  long-hyperperiod,
-  split-checks,
-  relayed-line-checks,
-  relayed-checks,
-  sets-checks,
-  plan-checks,
-  step-room,
-  step-checks,
-  standings-checks,
+  wrong_limit,
+  short_file,
+  wrong_mark,
+  one_ring_checks,
+  given_checks,
+  line_checks,
+  bound_checks,
+  limit_checks,
+  reader_checks,
+  version_1_checks,
+  memory_checks,
+  label_checks,
+  version_checks,
+  writer_checks,
+  shared_checks,
+  set_checks,
+  verdict_checks,
+  limited_checks,
+  long_hyperperiod,
+  split_checks,
+  relayed_line_checks,
+  relayed_checks,
+  sets_checks,
+  plan_checks,
+  step_room,
+  step_checks,
+  standings_checks,
 }
-use Rattle·rules.specs.Calls.{Ask, lineAsk}
-use Rattle·rules.specs.Raising.{raise-checks}
-use Rattle·rules.proofs.Answers.{None, Numbered, stopped, joined, none-of}
-use Rattle·rules.proofs.Sets.{sets-only}
-use Rattle·rules.proofs.Verdict.{
+use Rattle.rules.specs.Calls.{Ask, line_ask}
+use Rattle.rules.specs.Raising.{raise_checks}
+use Rattle.rules.proofs.Answers.{None, Numbered, stopped, joined, none_of}
+use Rattle.rules.proofs.Sets.{sets_only}
+use Rattle.rules.proofs.Verdict.{
   Tests,
   none,
-  _then_,
+  ◌then◌,
   answer,
-  answer-is,
-  tests-join,
-  tests-each,
-  in-test,
-  mark-test,
-  version-test,
-  row-tests,
-  file-tests,
-  given-tests,
-  line-tests,
-  bound-tests,
-  limit-tests,
-  split-tests,
+  answer_is,
+  tests_join,
+  tests_each,
+  in_test,
+  mark_test,
+  version_test,
+  row_tests,
+  file_tests,
+  given_tests,
+  line_tests,
+  bound_tests,
+  limit_tests,
+  split_tests,
 }
-use Rattle·table.specs.Sound.{Sound}
-use Rattle·pasted.proofs.AsGiven.{given-numbered, given-passed}
-use Rattle·outline.proofs.Outlined.{line-numbered, none-line}
-use Rattle·relay.proofs.Clear.{has-cuts}
-use Rattle·relay.proofs.Given.{split-numbered, split-element, split-sound}
-use Rattle·verdict.proofs.Bound.{verdict-split, sets-exist}
-use Rattle·planner.specs.Proper.{Proper}
-use Rattle·demands·specs.specs.Demands.{Answered}
-use Rattle·demands·proofs.proofs.States.{off-test}
+use Rattle.table.specs.Sound.{Sound}
+use Rattle.pasted.proofs.AsGiven.{given_numbered, given_passed}
+use Rattle.outline.proofs.Outlined.{line_numbered, none_line}
+use Rattle.relay.proofs.Clear.{has_cuts}
+use Rattle.relay.proofs.Given.{split_numbered, split_element, split_sound}
+use Rattle.verdict.proofs.Bound.{verdict_split, sets_exist}
+use Rattle.planner.specs.Proper.{Proper}
+use Rattle.demands.specs.Demands.{Answered}
+use Rattle.demands.proofs.States.{off_test}
 
-pub by-tests : {cs : List Check} → Tests cs → Answered cs
-by-tests ts = (answer ts .0, answer ts .1, answer-is ts)
+pub by_tests : {cs : List Check} → Tests cs → Answered cs
+by_tests ts = ((answer ts).0, (answer ts).1, answer_is ts)
 
 -- the first list refuses, or the second decides where none of the first applies
-pub by-lists : (cs ds : List Check) → Numbered cs → Answered cs → (None cs → Answered ds) → Answered (cs ++ ds)
-by-lists cs ds m (n, p, a) more = go (ℕ-discrete n 0)
+pub by_lists : (cs ds : List Check) → Numbered cs → Answered cs → (None cs → Answered ds) → Answered (cs ++ ds)
+by_lists cs ds m (n, p, a) more = go (ℕ_discrete n 0)
   where
     go : Dec (n ≡ 0) → Answered (cs ++ ds)
     go (yes e) =
-        let N = none-of cs p m (rw e at a) in
+        let N = none_of cs p m (rw e at a) in
         let r = more N in
-        (r .0, r .1, joined cs ds (r .0) (r .1) N (r .2))
+        (r.0, r.1, joined cs ds r.0 r.1 N r.2)
     go (no h) = (n, p, stopped cs ds n p h a)
 
 -- ---- the table file
 
-reader-tests : (f : List ℕ) (room : ℕ) → Tests (reader-checks f room)
-unfolding reader-checks
-reader-tests f room = tests-join (file-tests f) (lt-test room (rowNumbers * fileTable f .rows) then none)
+reader_tests : (f : List ℕ) (room : ℕ) → Tests (reader_checks f room)
+unfolding reader_checks
+reader_tests f room = tests_join (file_tests f) (lt_test room (row_numbers * (file_table f).rows) then none)
 
-pub read-answered : (f : List ℕ) (room : ℕ) → Answered (reader-checks f room)
-read-answered f room = by-tests (reader-tests f room)
+pub read_answered : (f : List ℕ) (room : ℕ) → Answered (reader_checks f room)
+read_answered f room = by_tests (reader_tests f room)
 
-pub version-1-answered : (f : List ℕ) (room : ℕ) → Answered (version-1-checks f room)
-unfolding version-1-checks
-version-1-answered f room =
-    by-tests (
-    lt-test (length f) headerSize
-    then not-test (list-test (mark f) table-mark)
-    then not-test (eq-test (version f) version-1)
-    then reader-tests f room)
+pub version_1_answered : (f : List ℕ) (room : ℕ) → Answered (version_1_checks f room)
+unfolding version_1_checks
+version_1_answered f room =
+    by_tests (
+    lt_test (length f) header_size
+    then not_test (list_test (mark f) table_mark)
+    then not_test (eq_test (version f) version_1)
+    then reader_tests f room)
 
-pub written-answered : (m : List ℕ) (v M n : ℕ) (xs : List ℕ) (room : ℕ) → Answered (writer-checks m v M n xs room)
-unfolding writer-checks version-checks memory-checks label-checks
-written-answered m v M n xs room =
-    let r : ℕ = ringsOf m in
-    by-tests (mark-test m then tests-join (version-test r v then tests-join (tests-join (
-    not-test (in-test M 2 max-elements)
-    then not-test (in-test n 1 max-rows)
-    then not-test (eq-test (length xs) (rowNumbers * n))
-    then none) (row-tests (memoryWith r M n xs)))
-    (tests-each n (λ i. and-test (eq-test v version-1) (not-test (eq-test (memoryLabelledWith r M n xs .label i) 0)) then none)))
-    (lt-test room (headerSize + rowSize r v * n) then none))
+pub written_answered : (m : List ℕ) (v M n : ℕ) (xs : List ℕ) (room : ℕ) → Answered (writer_checks m v M n xs room)
+unfolding writer_checks version_checks memory_checks label_checks
+written_answered m v M n xs room =
+    let r : ℕ = rings_of m in
+    by_tests (mark_test m then tests_join (version_test r v then tests_join (tests_join (
+    not_test (in_test M 2 max_elements)
+    then not_test (in_test n 1 max_rows)
+    then not_test (eq_test (length xs) (row_numbers * n))
+    then none) (row_tests (memory_with r M n xs)))
+    (tests_each n (λ i. and_test (eq_test v version_1) (not_test (eq_test ((memory_labelled_with r M n xs).label i) 0)) then none)))
+    (lt_test room (header_size + row_size r v * n) then none))
 
-pub met-answered : (f : List ℕ) (i j : ℕ) → Answered (shared-checks f i j)
-unfolding shared-checks
-met-answered f i j =
-    let t = fileTable f in
-    by-tests (tests-join (file-tests f) (le-test (t .rows) i then le-test (t .rows) j then none))
+pub met_answered : (f : List ℕ) (i j : ℕ) → Answered (shared_checks f i j)
+unfolding shared_checks
+met_answered f i j =
+    let t = file_table f in
+    by_tests (tests_join (file_tests f) (le_test t.rows i then le_test t.rows j then none))
 
 -- ---- 10 and 11, and what is decided by the list of sets
 
-line-answered : (t : Table) → Sound t → (ds : List Check) → ((ws : List ℕ) → Sets t ws → Tests ds) → Answered (line-checks t ++ ds)
-line-answered t S ds more =
-    by-lists (line-checks t) ds (line-numbered t) (by-tests (line-tests t))
-    (λ N. let e = sets-exist t S (none-line t N .0) in by-tests (more (e .0) (e .1)))
+line_answered : (t : Table) → Sound t → (ds : List Check) → ((ws : List ℕ) → Sets t ws → Tests ds) → Answered (line_checks t ++ ds)
+line_answered t S ds more =
+    by_lists (line_checks t) ds (line_numbered t) (by_tests (line_tests t))
+    (λ N. let e = sets_exist t S (none_line t N).0 in by_tests (more e.0 e.1))
 
 -- where one ring alone is taken
-pub one-ring-answered : (f : List ℕ) (cs : List Check) → Answered cs → Answered (one-ring-checks f cs)
+pub one_ring_answered : (f : List ℕ) (cs : List Check) → Answered cs → Answered (one_ring_checks f cs)
 unfolding Numbered
-one-ring-answered f cs A =
-    by-lists (short-file f ∷ wrong-mark f ∷ []) cs (omega arith)
-    (by-tests (lt-test (length f) headerSize then not-test (list-test (mark f) table-mark) then none)) (λ N. A)
+one_ring_answered f cs A =
+    by_lists (short_file f ∷ wrong_mark f ∷ []) cs (omega arith)
+    (by_tests (lt_test (length f) header_size then not_test (list_test (mark f) table_mark) then none)) (λ N. A)
 
-short-list : (t : Table) (room : ℕ) → 0 < t .rows → (ws : List ℕ) → Sets t ws
+short_list : (t : Table) (room : ℕ) → 0 < t.rows → (ws : List ℕ) → Sets t ws
     → Test ((vs : List ℕ) × Sets t vs × (room < length vs))
-short-list t room some ws A =
-    as-test (lt-test room (length ws)) (λ h. (ws, A, h))
-    (λ w. subst (λ (vs : List ℕ). room < length vs) (sets-only some (w .1) A) (w .2))
+short_list t room some ws A =
+    as_test (lt_test room (length ws)) (λ h. (ws, A, h))
+    (λ w. subst (λ (vs : List ℕ). room < length vs) (sets_only some w.1 A) w.2)
 
 module _ (f : List ℕ) where
-  past-given : (ds : List Check) → (Sound (fileTable f) → Answered ds) → Answered (given-checks f ++ ds)
-  past-given ds more = by-lists (given-checks f) ds (given-numbered f) (by-tests (given-tests f)) (λ N. more (given-passed f N .sound))
+  past_given : (ds : List Check) → (Sound (file_table f) → Answered ds) → Answered (given_checks f ++ ds)
+  past_given ds more = by_lists (given_checks f) ds (given_numbered f) (by_tests (given_tests f)) (λ N. more (given_passed f N).sound)
 
-  pub judged-answered : Answered (verdict-checks f)
-  judged-answered =
-      rw (verdict-split f)
-      (past-given (line-checks (fileTable f) ++ bound-checks (fileTable f))
-      (λ S. line-answered (fileTable f) S (bound-checks (fileTable f)) (λ ws A. bound-tests (fileTable f) (S .rows-low) ws A)))
+  pub judged_answered : Answered (verdict_checks f)
+  judged_answered =
+      rw (verdict_split f)
+      (past_given (line_checks (file_table f) ++ bound_checks (file_table f))
+      (λ S. line_answered (file_table f) S (bound_checks (file_table f)) (λ ws A. bound_tests (file_table f) S.rows_low ws A)))
 
-  pub listed-answered : (room : ℕ) → Answered (sets-checks (lineAsk f .checks) (fileTable f) room)
-  unfolding sets-checks
-  listed-answered room =
-      rw append-assoc
-      (past-given (line-checks (fileTable f) ++ _)
-      (λ S. line-answered (fileTable f) S _ (λ ws A. short-list (fileTable f) room (S .rows-low) ws A then none)))
+  pub listed_answered : (room : ℕ) → Answered (sets_checks (line_ask f).checks (file_table f) room)
+  unfolding sets_checks
+  listed_answered room =
+      rw append_assoc
+      (past_given (line_checks (file_table f) ++ _)
+      (λ S. line_answered (file_table f) S _ (λ ws A. short_list (file_table f) room S.rows_low ws A then none)))
 
-  pub crowded-answered : (k : ℕ) → Answered (set-checks f k)
-  unfolding set-checks
-  crowded-answered k =
-      rw append-assoc
-      (past-given (line-checks (fileTable f) ++ _)
-      (λ S. line-answered (fileTable f) S _ (λ ws A. past-list (S .rows-low) ws A then none)))
+  pub crowded_answered : (k : ℕ) → Answered (set_checks f k)
+  unfolding set_checks
+  crowded_answered k =
+      rw append_assoc
+      (past_given (line_checks (file_table f) ++ _)
+      (λ S. line_answered (file_table f) S _ (λ ws A. past_list S.rows_low ws A then none)))
     where
-      past-list : 0 < fileTable f .rows → (ws : List ℕ) → Sets (fileTable f) ws
-          → Test ((vs : List ℕ) × Sets (fileTable f) vs × (length vs ≤ k))
-      past-list some ws A =
-          as-test (le-test (length ws) k) (λ h. (ws, A, h))
-          (λ w. subst (λ (vs : List ℕ). length vs ≤ k) (sets-only some (w .1) A) (w .2))
+      past_list : 0 < (file_table f).rows → (ws : List ℕ) → Sets (file_table f) ws
+          → Test ((vs : List ℕ) × Sets (file_table f) vs × (length vs ≤ k))
+      past_list some ws A =
+          as_test (le_test (length ws) k) (λ h. (ws, A, h))
+          (λ w. subst (λ (vs : List ℕ). length vs ≤ k) (sets_only some w.1 A) w.2)
 
-  pub raised-answered : (room : ℕ) → Answered (raise-checks f room)
-  unfolding raise-checks
-  raised-answered room =
-      one-ring-answered f _
-      (rw append-assoc
-      (past-given (line-checks (fileTable f) ++ _)
-      (λ S. line-answered (fileTable f) S _ (λ ws A. lt-test room (length f) then none))))
+  pub raised_answered : (room : ℕ) → Answered (raise_checks f room)
+  unfolding raise_checks
+  raised_answered room =
+      one_ring_answered f _
+      (rw append_assoc
+      (past_given (line_checks (file_table f) ++ _)
+      (λ S. line_answered (file_table f) S _ (λ ws A. lt_test room (length f) then none))))
 
-  pub limited-answered : (our their : ℕ) → Answered (limited-checks f our their)
-  unfolding limited-checks Numbered
-  limited-answered our their =
-      let t = fileTable f in
-      let ds = limit-checks (fileLabelled f) our their ++ bound-checks t in
-      by-lists (wrong-limit our their ∷ []) (one-ring-checks f (given-checks f ++ (line-checks t ++ ds))) (omega arith)
-      (by-tests (or-test (lt-test max-limit our) (lt-test max-limit their) then none))
+  pub limited_answered : (our their : ℕ) → Answered (limited_checks f our their)
+  unfolding limited_checks Numbered
+  limited_answered our their =
+      let t = file_table f in
+      let ds = limit_checks (file_labelled f) our their ++ bound_checks t in
+      by_lists (wrong_limit our their ∷ []) (one_ring_checks f (given_checks f ++ (line_checks t ++ ds))) (omega arith)
+      (by_tests (or_test (lt_test max_limit our) (lt_test max_limit their) then none))
       (λ N.
-      one-ring-answered f _
-      (past-given (line-checks t ++ ds)
+      one_ring_answered f _
+      (past_given (line_checks t ++ ds)
       (λ S.
-      line-answered t S ds
-      (λ ws A. tests-join (limit-tests (fileLabelled f) our their) (bound-tests t (S .rows-low) ws A)))))
+      line_answered t S ds
+      (λ ws A. tests_join (limit_tests (file_labelled f) our their) (bound_tests t S.rows_low ws A)))))
 
 -- ---- with a relay
 
 module _ (f : List ℕ) (r : ℕ) where
   abbrev t : Table
-  t = split (fileTable f) r
+  t = split (file_table f) r
 
   -- past 28 the split table is sound and has a cut, so that its sets decide the rest
-  past-split : (ds : List Check) → (Sound t → (ws : List ℕ) → Sets t ws → Tests ds) → Answered (relayed-line-checks f r ++ ds)
-  unfolding relayed-line-checks
-  past-split ds more =
-      rw append-assoc
-      (by-lists (split-checks f r) (long-hyperperiod t ∷ ds) (split-numbered f r) (by-tests (split-tests f r))
+  past_split : (ds : List Check) → (Sound t → (ws : List ℕ) → Sets t ws → Tests ds) → Answered (relayed_line_checks f r ++ ds)
+  unfolding relayed_line_checks
+  past_split ds more =
+      rw append_assoc
+      (by_lists (split_checks f r) (long_hyperperiod t ∷ ds) (split_numbered f r) (by_tests (split_tests f r))
       (λ N.
-      let S = split-sound f r N in
-      let e = sets-exist t S (has-cuts (fileTable f) (split-element f r N)) in
-      by-tests (lt-test max-slots (hyperperiod t) then more S (e .0) (e .1))))
+      let S = split_sound f r N in
+      let e = sets_exist t S (has_cuts (file_table f) (split_element f r N)) in
+      by_tests (lt_test max_slots (hyperperiod t) then more S e.0 e.1)))
 
-  pub relayed-answered : Answered (relayed-checks f r)
-  unfolding relayed-checks
-  relayed-answered = past-split (bound-checks t) (λ S ws A. bound-tests t (S .rows-low) ws A)
+  pub relayed_answered : Answered (relayed_checks f r)
+  unfolding relayed_checks
+  relayed_answered = past_split (bound_checks t) (λ S ws A. bound_tests t S.rows_low ws A)
 
-  pub relayed-listed-answered : (room : ℕ) → Answered (sets-checks (relayed-line-checks f r) t room)
-  unfolding sets-checks
-  relayed-listed-answered room = past-split _ (λ S ws A. short-list t room (S .rows-low) ws A then none)
+  pub relayed_listed_answered : (room : ℕ) → Answered (sets_checks (relayed_line_checks f r) t room)
+  unfolding sets_checks
+  relayed_listed_answered room = past_split _ (λ S ws A. short_list t room S.rows_low ws A then none)
 
 -- ---- the planner's calls, at an ask whose own checks are answered
 
-finished-test : (s : Stage) → Test (s ≡ finished)
-finished-test (due k) = record { test = false; is = λ h. absurd h; of = λ e. let z : _≡_ {A = ℕ} 0 1 = cc in omega arith }
-finished-test finished = record { test = true; is = λ h. refl; of = λ e. tt }
+finished_test : (s : Stage) → Test (s ≡ finished)
+finished_test (due k) = record { test = false; is = λ h. absurd h; of = λ e. let z : ◌≡◌ {A = ℕ} 0 1 = cc in omega arith }
+finished_test finished = record { test = true; is = λ h. refl; of = λ e. tt }
 
-module _ (a : Ask) (P : Proper a) (J : Answered (a .checks)) where
-  pub planned-answered : (room : ℕ) → Answered (plan-checks (a .checks) (a .table) room)
-  unfolding plan-checks
-  planned-answered room = by-lists (a .checks) _ (P .numbered) J (λ N. by-tests (lt-test room (hyperperiod (a .table)) then none))
+module _ (a : Ask) (P : Proper a) (J : Answered a.checks) where
+  pub planned_answered : (room : ℕ) → Answered (plan_checks a.checks a.table room)
+  unfolding plan_checks
+  planned_answered room = by_lists a.checks _ P.numbered J (λ N. by_tests (lt_test room (hyperperiod a.table) then none))
 
   module _ (p : Planner) where
     -- the table's state is decided where the ask admits the table
-    state-test : None (a .checks) → Test (Off (a .table) p)
-    state-test N =
-        let A = P .admissible N in
-        let e = sets-exist (a .table) (A .sound) (A .clear) in
-        off-test (a .table) p (e .0) (e .1)
+    state_test : None a.checks → Test (Off a.table p)
+    state_test N =
+        let A = P.admissible N in
+        let e = sets_exist a.table A.sound A.clear in
+        off_test a.table p e.0 e.1
 
-    pub stepped-answered : (room : ℕ) → Answered (step-checks (a .checks) (a .table) p room)
-    unfolding step-checks
-    stepped-answered room =
-        by-lists (a .checks) _ (P .numbered) J
-        (λ N. by-tests (
-        state-test N then finished-test (p .stage) then lt-test room (step-room (a .table) (p .stage)) then none))
+    pub stepped_answered : (room : ℕ) → Answered (step_checks a.checks a.table p room)
+    unfolding step_checks
+    stepped_answered room =
+        by_lists a.checks _ P.numbered J
+        (λ N. by_tests (
+        state_test N then finished_test p.stage then lt_test room (step_room a.table p.stage) then none))
 
-    pub stood-answered : Answered (standings-checks (a .checks) (a .table) p)
-    unfolding standings-checks
-    stood-answered = by-lists (a .checks) _ (P .numbered) J (λ N. by-tests (state-test N then none))
+    pub stood_answered : Answered (standings_checks a.checks a.table p)
+    unfolding standings_checks
+    stood_answered = by_lists a.checks _ P.numbered J (λ N. by_tests (state_test N then none))

@@ -1,100 +1,100 @@
 -- What the program writes, from what the readers and the writers answered. There is room for the rows of every table, so 17 is never given.
-use mathlib.Core.Path.{_≡_, sym, ap, ap₂, subst, _∙_}
-use mathlib.Core.Logic.{⊎-elim, _≢_}
-use mathlib.Core.List.{List, [], _∷_, _++_}
-use Prim.Native.Nat.{ℕ, _+_, _*_, _≤_, _<_}
+use mathlib.Core.Path.{◌≡◌, sym, ap, ap₂, subst, ◌∙◌}
+use mathlib.Core.Logic.{⊎_elim, ◌≢◌}
+use mathlib.Core.List.{List, [], ◌∷◌, ◌++◌}
+use Prim.Native.Nat.{ℕ, ◌+◌, ◌*◌, ◌≤◌, ◌<◌}
 use native.Mathlib.Omega.{arith}
 use lib.ListN.{length, take, length-take}
-use Rattle·rules.specs.Bounds.{max-rows}
-use Rattle·rules.specs.TableFile.{headerSize, rowSize, rowNumbers, ringsOf, markOf, fileTable}
-use Rattle·rules.specs.Text.{textOf}
-use Rattle·rules.specs.Refusals.{Check, Answers, short-output, file-checks, reader-checks}
-use Rattle·rules.specs.Calls.{Read, Written}
-use Rattle·rules.proofs.Answers.{None, none-of, answered, answers-split}
-use Rattle·table.proofs.Faults.{file-numbered, passed-none}
-use Rattle·round_trip.proofs.RoundTrip.{Bytes}
-use Rattle·grammar.specs.TableText.{textRings, textTable, text-checks, text-reader-checks, lineAt, columnAt, TextRead}
-use Rattle·grammar.specs.TableText.{TextWritten}
-use Rattle·decimal.specs.Puts.{Puts}
-use Rattle·grammar.specs.Reports.{fault, refusal, FileOf, TextOf, longest-text, Made, refused, made}
-use Rattle·text_reader.proofs.Texts.{text-numbered}
-use Rattle·text_trip.proofs.Sounds.{text-rings, text-sound}
-use Rattle·text_trip.proofs.Sizes.{file-short}
-use Rattle·text_trip.proofs.RoundTrip.{read-then-filed, file-then-said}
+use Rattle.rules.specs.Bounds.{max_rows}
+use Rattle.rules.specs.TableFile.{header_size, row_size, row_numbers, rings_of, mark_of, file_table}
+use Rattle.rules.specs.Text.{text_of}
+use Rattle.rules.specs.Refusals.{Check, Answers, short_output, file_checks, reader_checks}
+use Rattle.rules.specs.Calls.{Read, Written}
+use Rattle.rules.proofs.Answers.{None, none_of, answered, answers_split}
+use Rattle.table.proofs.Faults.{file_numbered, passed_none}
+use Rattle.round_trip.proofs.RoundTrip.{Bytes}
+use Rattle.grammar.specs.TableText.{text_rings, text_table, text_checks, text_reader_checks, line_at, column_at, TextRead}
+use Rattle.grammar.specs.TableText.{TextWritten}
+use Rattle.decimal.specs.Puts.{Puts}
+use Rattle.grammar.specs.Reports.{fault, refusal, FileOf, TextOf, longest_text, Made, refused, made}
+use Rattle.text_reader.proofs.Texts.{text_numbered}
+use Rattle.text_trip.proofs.Sounds.{text_rings_lem, text_sound}
+use Rattle.text_trip.proofs.Sizes.{file_short}
+use Rattle.text_trip.proofs.RoundTrip.{read_then_filed, file_then_said}
 
 -- where there is room, the last check is never the answer
-roomy : (cs : List Check) (A : Type 0) (n p : ℕ) → (None cs → A → ⊥) → Answers (cs ++ (short-output A ∷ [])) n p → Answers cs n p
+roomy : (cs : List Check) (A : Type 0) (n p : ℕ) → (None cs → A → ⊥) → Answers (cs ++ (short_output A ∷ [])) n p → Answers cs n p
 unfolding Answers
 roomy cs A n p h a =
-    ⊎-elim (λ b. b)
-    (λ q. ⊎-elim (λ w. absurd (h (q .0) (w .0))) (λ w. let e = w .1 in rw (e .0, e .1) (answered cs (q .0))) (q .1))
-    (answers-split cs (short-output A ∷ []) n p a)
+    ⊎_elim (λ b. b)
+    (λ q. ⊎_elim (λ w. absurd (h q.0 w.0)) (λ w. let e = w.1 in rw (e.0, e.1) (answered cs q.0)) q.1)
+    (answers_split cs (short_output A ∷ []) n p a)
 
 -- the front of what was written
-pub front : {P : List ℕ → Type 0} {was now : List ℕ} {next : ℕ} (size : ℕ) (xs : List ℕ) → P (take size xs) → size ≤ longest-text
+pub front : {P : List ℕ → Type 0} {was now : List ℕ} {next : ℕ} (size : ℕ) (xs : List ℕ) → P (take size xs) → size ≤ longest_text
     → Puts (take size xs) was 0 now next → Made P was now next
 front size xs a l Q =
-    record { bytes = take size xs; allowed = a; puts = Q; fits = omega (arith, Q .after, length-take size xs) }
+    record { bytes = take size xs; allowed = a; puts = Q; fits = omega (arith, Q.after, length-take size xs) }
 
 -- ---- a text
 
 module _ (t was now : List ℕ) (n p : ℕ) (m : List ℕ) (v M k : ℕ) (R : TextRead t was now n p m v M k)
-    (room : rowNumbers * max-rows ≤ length was) where
-  text-answers : Answers (text-checks t) n p
-  unfolding text-reader-checks
-  text-answers =
-      roomy (text-checks t) (length was < rowNumbers * textTable t .rows) n p
-      (λ a (l : length was < rowNumbers * textTable t .rows). let z : ⊥ = omega (arith, text-sound t a .rows-high) in z) (R .answers)
+    (room : row_numbers * max_rows ≤ length was) where
+  text_answers : Answers (text_checks t) n p
+  unfolding text_reader_checks
+  text_answers =
+      roomy (text_checks t) (length was < row_numbers * (text_table t).rows) n p
+      (λ a (l : length was < row_numbers * (text_table t).rows). let z : ⊥ = omega (arith, (text_sound t a).rows_high) in z) R.answers
 
-  pub text-refused : (line column : ℕ) → n ≢ 0 → line ≡ lineAt t p → column ≡ columnAt t p → FileOf t (textOf (fault n line column))
-  text-refused line column h e f =
-      subst (FileOf t) (sym (ap₂ (λ (i j : ℕ). textOf (fault n i j)) e f)) (refused n p text-answers h)
+  pub text_refused : (line column : ℕ) → n ≢ 0 → line ≡ line_at t p → column ≡ column_at t p → FileOf t (text_of (fault n line column))
+  text_refused line column h e f =
+      subst (FileOf t) (sym (ap₂ (λ (i j : ℕ). text_of (fault n i j)) e f)) (refused n p text_answers h)
 
   module _ (z : n ≡ 0) where
-    none : None (text-checks t)
-    none = none-of (text-checks t) p (text-numbered t) (rw z at text-answers)
+    none : None (text_checks t)
+    none = none_of (text_checks t) p (text_numbered t) (rw z at text_answers)
 
-    pub text-few : k ≤ max-rows
-    text-few = omega (arith, R .done z .3, text-sound t none .rows-high)
+    pub text_few : k ≤ max_rows
+    text_few = omega (arith, (R.done z).3, (text_sound t none).rows_high)
 
-    pub text-marked : 3 ≤ length m
-    unfolding markOf
-    text-marked =
-        let e : length m ≡ length (markOf (textRings t)) = ap length (R .done z .0) in
-        ⊎-elim (λ w. omega (arith, e, ap (λ (r : ℕ). length (markOf r)) w)) (λ w. omega (arith, e, ap (λ (r : ℕ). length (markOf r)) w))
-        (text-rings t)
+    pub text_marked : 3 ≤ length m
+    unfolding mark_of
+    text_marked =
+        let e : length m ≡ length (mark_of (text_rings t)) = ap length (R.done z).0 in
+        ⊎_elim (λ w. omega (arith, e, ap (λ (r : ℕ). length (mark_of r)) w)) (λ w. omega (arith, e, ap (λ (r : ℕ). length (mark_of r)) w))
+        (text_rings_lem t)
 
-    pub text-made : (size : ℕ) (was′ now′ : List ℕ) (number place : ℕ) → size ≡ headerSize + rowSize (ringsOf m) v * k
-        → size ≤ length was′ → Written m v M k (take (rowNumbers * k) now) was′ now′ number place → FileOf t (take size now′)
-    text-made size was′ now′ number place e l W =
-        let d = read-then-filed t was now p m v M k was′ now′ number place (rw z at R) (omega (arith, e, l)) W in
-        subst (FileOf t) (sym (d .2) ∙ ap (λ (j : ℕ). take j now′) (sym e)) (made (answered (text-checks t) none))
+    pub text_made : (size : ℕ) (was' now' : List ℕ) (number place : ℕ) → size ≡ header_size + row_size (rings_of m) v * k
+        → size ≤ length was' → Written m v M k (take (row_numbers * k) now) was' now' number place → FileOf t (take size now')
+    text_made size was' now' number place e l W =
+        let d = read_then_filed t was now p m v M k was' now' number place (rw z at R) (omega (arith, e, l)) W in
+        subst (FileOf t) (sym d.2 ∙ ap (λ (j : ℕ). take j now') (sym e)) (made (answered (text_checks t) none))
 
 -- ---- a file
 
 module _ (f was now : List ℕ) (n p : ℕ) (m : List ℕ) (v M k : ℕ) (R : Read f was now n p m v M k)
-    (room : rowNumbers * max-rows ≤ length was) where
-  file-answers : Answers (file-checks f) n p
-  unfolding reader-checks
-  file-answers =
-      roomy (file-checks f) (length was < rowNumbers * fileTable f .rows) n p
-      (λ a (l : length was < rowNumbers * fileTable f .rows). let z : ⊥ = omega (arith, passed-none f a .sound .rows-high) in z)
-      (R .answers)
+    (room : row_numbers * max_rows ≤ length was) where
+  file_answers : Answers (file_checks f) n p
+  unfolding reader_checks
+  file_answers =
+      roomy (file_checks f) (length was < row_numbers * (file_table f).rows) n p
+      (λ a (l : length was < row_numbers * (file_table f).rows). let z : ⊥ = omega (arith, (passed_none f a).sound.rows_high) in z)
+      R.answers
 
-  pub file-refused : n ≢ 0 → TextOf f (textOf (refusal n p))
-  file-refused h = refused n p file-answers h
+  pub file_refused : n ≢ 0 → TextOf f (text_of (refusal n p))
+  file_refused h = refused n p file_answers h
 
   module _ (z : n ≡ 0) where
-    passes : None (file-checks f)
-    passes = none-of (file-checks f) p (file-numbered f) (rw z at file-answers)
+    passes : None (file_checks f)
+    passes = none_of (file_checks f) p (file_numbered f) (rw z at file_answers)
 
-    pub file-few : k ≤ max-rows
-    file-few = omega (arith, R .done z .3, passed-none f passes .sound .rows-high)
+    pub file_few : k ≤ max_rows
+    file_few = omega (arith, (R.done z).3, (passed_none f passes).sound.rows_high)
 
-    pub file-made : (was′ now′ : List ℕ) (number place size : ℕ) → Bytes f → longest-text ≤ length was′
-        → TextWritten m v M k (take (rowNumbers * k) now) was′ now′ number place size
-        → (size ≤ longest-text) × TextOf f (take size now′)
-    file-made was′ now′ number place size b l W =
-        let s = file-short f b passes in
-        let d = file-then-said f was now p m v M k was′ now′ number place size (rw z at R) (omega (arith, s)) W in
-        (omega (arith, s, d .2), subst (TextOf f) (sym (d .3)) (made (answered (file-checks f) passes)))
+    pub file_made : (was' now' : List ℕ) (number place size : ℕ) → Bytes f → longest_text ≤ length was'
+        → TextWritten m v M k (take (row_numbers * k) now) was' now' number place size
+        → (size ≤ longest_text) × TextOf f (take size now')
+    file_made was' now' number place size b l W =
+        let s = file_short f b passes in
+        let d = file_then_said f was now p m v M k was' now' number place size (rw z at R) (omega (arith, s)) W in
+        (omega (arith, s, d.2), subst (TextOf f) (sym d.3) (made (answered (file_checks f) passes)))

@@ -1,76 +1,76 @@
 -- What is read of a list file, as the program's lines.
-use mathlib.Core.Path.{_≡_, sym, ap, _∙_}
-use mathlib.Core.Logic.{⊎-elim, _≢_}
-use mathlib.Core.List.{List, [], _∷_}
-use Prim.Native.Nat.{ℕ, _+_, _*_, _≤_, _<_}
+use mathlib.Core.Path.{◌≡◌, sym, ap, ◌∙◌}
+use mathlib.Core.Logic.{⊎_elim, ◌≢◌}
+use mathlib.Core.List.{List, [], ◌∷◌}
+use Prim.Native.Nat.{ℕ, ◌+◌, ◌*◌, ◌≤◌, ◌<◌}
 use native.Mathlib.Omega.{arith}
 use lib.ListN.{length, take}
-use lib.Seq.{getD-take}
-use Rattle·numbers.specs.Lists.{at, each}
-use Rattle·numbers.proofs.Lists.{each-eq}
-use Rattle·rules.specs.Bounds.{max-slots}
-use Rattle·rules.specs.ElementList.{ElementList, entryNumbers, fileList, memoryEntry, listNumbers}
-use Rattle·rules.specs.Refusals.{Answers, short-output, list-file-checks, list-reader-checks}
-use Rattle·rules.specs.Calls.{ListRead}
-use Rattle·rules.specs.Program.{list, element, hyper, entry, entry-lines, ListPrinted, refused, shown}
-use Rattle·rules.proofs.Answers.{None, none-of, answered, answers-only, answers-split}
-use Rattle·rules.proofs.Calls.{lent-take}
-use Rattle·lists.proofs.Entries.{entries-few}
-use Rattle·lists.proofs.Heads.{file-numbered, file-right}
-use Rattle·lists.proofs.RoundTrip.{memory-back, numbers-length}
+use lib.Seq.{get_or-take}
+use Rattle.numbers.specs.Lists.{at, each}
+use Rattle.numbers.proofs.Lists.{each_eq}
+use Rattle.rules.specs.Bounds.{max_slots}
+use Rattle.rules.specs.ElementList.{ElementList, entry_numbers, file_list, memory_entry, list_numbers}
+use Rattle.rules.specs.Refusals.{Answers, short_output, list_file_checks, list_reader_checks}
+use Rattle.rules.specs.Calls.{ListRead}
+use Rattle.rules.specs.Program.{list, element, hyper, entry, entry_lines, ListPrinted, refused, shown}
+use Rattle.rules.proofs.Answers.{None, none_of, answered, answers_only, answers_split}
+use Rattle.rules.proofs.Calls.{lent_take}
+use Rattle.lists.proofs.Entries.{entries_few}
+use Rattle.lists.proofs.Heads.{file_numbered, file_right}
+use Rattle.lists.proofs.RoundTrip.{memory_back, numbers_length}
 
-module _ (f was now : List ℕ) (n p e h k : ℕ) (R : ListRead f was now n p e h k) (room : entryNumbers * (2 * max-slots) ≤ length was) where
+module _ (f was now : List ℕ) (n p e h k : ℕ) (R : ListRead f was now n p e h k) (room : entry_numbers * (2 * max_slots) ≤ length was) where
   abbrev l : ElementList
-  l = fileList f
+  l = file_list f
 
   -- a list that passes has room
-  fits : None (list-file-checks f) → l .entries ≤ 2 * max-slots
-  fits a = let r = file-right f a in omega (arith, entries-few l (l .entries) (r .entry), r .hyper-high)
+  fits : None (list_file_checks f) → l.entries ≤ 2 * max_slots
+  fits a = let r = file_right f a in omega (arith, entries_few l l.entries r.entry, r.hyper_high)
 
   -- so 17 is never given
-  pub read-answers : Answers (list-file-checks f) n p
-  unfolding list-reader-checks Answers
-  read-answers =
-      ⊎-elim (λ a. a)
+  pub read_answers : Answers (list_file_checks f) n p
+  unfolding list_reader_checks Answers
+  read_answers =
+      ⊎_elim (λ a. a)
       (λ q.
-      ⊎-elim (λ w. absurd (let z : ⊥ = omega (arith, w .0, fits (q .0), room) in z))
-      (λ w. let e = w .1 in rw (e .0, e .1) (answered (list-file-checks f) (q .0))) (q .1))
-      (answers-split (list-file-checks f) (short-output (length was < entryNumbers * l .entries) ∷ []) n p (R .answers))
+      ⊎_elim (λ w. absurd (let z : ⊥ = omega (arith, w.0, fits q.0, room) in z))
+      (λ w. let e = w.1 in rw (e.0, e.1) (answered (list_file_checks f) q.0)) q.1)
+      (answers_split (list_file_checks f) (short_output (length was < entry_numbers * l.entries) ∷ []) n p R.answers)
 
-  pub read-refused : n ≢ 0 → ListPrinted f (list n p ∷ [])
-  read-refused z = refused n p read-answers z
+  pub read_refused : n ≢ 0 → ListPrinted f (list n p ∷ [])
+  read_refused z = refused n p read_answers z
 
   module _ (z : n ≡ 0) where
-    none : None (list-file-checks f)
-    none = none-of (list-file-checks f) p (file-numbered f) (rw z at read-answers)
+    none : None (list_file_checks f)
+    none = none_of (list_file_checks f) p (file_numbered f) (rw z at read_answers)
 
-    pub read-fits : k ≤ 2 * max-slots
-    read-fits = omega (arith, fits none, R .done z .2)
+    pub read_fits : k ≤ 2 * max_slots
+    read_fits = omega (arith, fits none, (R.done z).2)
 
-    numbers : (i : ℕ) → i < entryNumbers * l .entries → at now i ≡ at (listNumbers l) i
+    numbers : (i : ℕ) → i < entry_numbers * l.entries → at now i ≡ at (list_numbers l) i
     numbers i m =
-        sym (getD-take (entryNumbers * l .entries) now i 0 m)
+        sym (get_or-take (entry_numbers * l.entries) now i 0 m)
         ∙ ap (λ (xs : List ℕ). at xs i)
-        (ap (take (entryNumbers * l .entries)) (R .done z .3) ∙ lent-take (listNumbers l) was (entryNumbers * l .entries)
-        (numbers-length l))
+        (ap (take (entry_numbers * l.entries)) (R.done z).3 ∙ lent_take (list_numbers l) was (entry_numbers * l.entries)
+        (numbers_length l))
 
-    entries : (i : ℕ) → i < l .entries → memoryEntry now i ≡ l .entry i
+    entries : (i : ℕ) → i < l.entries → memory_entry now i ≡ l.entry i
     entries i m =
         (λ j. record {
-          slot = numbers (entryNumbers * i) (omega arith) j;
-          row = numbers (entryNumbers * i + 1) (omega arith) j;
-          way = numbers (entryNumbers * i + 2) (omega arith) j;
+          slot = numbers (entry_numbers * i) (omega arith) j;
+          row = numbers (entry_numbers * i + 1) (omega arith) j;
+          way = numbers (entry_numbers * i + 2) (omega arith) j;
         })
-        ∙ memory-back l .entry i m
+        ∙ (memory_back l).entry i m
 
-    lines : each k (λ i. entry (memoryEntry now i) ∷ []) ≡ entry-lines l
+    lines : each k (λ i. entry (memory_entry now i) ∷ []) ≡ entry_lines l
     lines =
-        ap (λ (m : ℕ). each m (λ i. entry (memoryEntry now i) ∷ [])) (R .done z .2)
-        ∙ each-eq (l .entries) (λ i. entry (memoryEntry now i) ∷ []) (λ i. entry (l .entry i) ∷ [])
+        ap (λ (m : ℕ). each m (λ i. entry (memory_entry now i) ∷ [])) (R.done z).2
+        ∙ each_eq l.entries (λ i. entry (memory_entry now i) ∷ []) (λ i. entry (l.entry i) ∷ [])
         (λ i m. ap (λ x. entry x ∷ []) (entries i m))
 
-    pub read-shown : ListPrinted f (list n p ∷ element e ∷ hyper h ∷ each k (λ i. entry (memoryEntry now i) ∷ []))
-    read-shown =
-        let d = R .done z in
-        let a = answers-only (list-file-checks f) n 0 p 0 read-answers (answered (list-file-checks f) none) in
-        rw (a .0, a .1, d .0, d .1, lines) (shown (answered (list-file-checks f) none))
+    pub read_shown : ListPrinted f (list n p ∷ element e ∷ hyper h ∷ each k (λ i. entry (memory_entry now i) ∷ []))
+    read_shown =
+        let d = R.done z in
+        let a = answers_only (list_file_checks f) n 0 p 0 read_answers (answered (list_file_checks f) none) in
+        rw (a.0, a.1, d.0, d.1, lines) (shown (answered (list_file_checks f) none))

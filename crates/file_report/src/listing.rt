@@ -1,18 +1,16 @@
 // What the program prints of a list file, and the list file that it writes for a table and an element (#101), in lent bytes.
 //
 // Each `put_` function writes lines from place `at` on, as far as there is room, and returns the place after them.
+ghost use Rattle.std.specs.Prelude.{[], ◌∷◌, ◌+◌, ◌*◌, ◌≤◌, length};
+ghost use Rattle.numbers.specs.Lists.{each};
+ghost use Rattle.rules.specs.ElementList.{move, entry_numbers, memory_entry};
+ghost use Rattle.rules.specs.Program.{list, entry, ListPrinted};
+ghost use Rattle.decimal.specs.Puts.{limit, line_of, max_line, PutsLine, PutsLines};
+ghost use Rattle.file_report.specs.ListWritten.{Rendered, ListWrittenFor};
+
 use decimal::put_line;
 use lists::Head;
-use table::Answer;
-use table::Table;
-ghost use mathlib.Core.List.{[], _∷_};
-ghost use Prim.Native.Nat.{_+_, _*_, _≤_};
-ghost use lib.ListN.{length};
-ghost use Rattle·numbers.specs.Lists.{each};
-ghost use Rattle·rules.specs.ElementList.{move, entryNumbers, memoryEntry};
-ghost use Rattle·rules.specs.Program.{list, entry, ListPrinted};
-ghost use Rattle·decimal.specs.Puts.{limit, lineOf, max-line, PutsLine, PutsLines};
-ghost use Rattle·file_report·specs.specs.ListWritten.{Rendered, ListWrittenFor};
+use table::{Answer, Table};
 
 // The program's input: room for one entry more than a list can have, and a byte, so that a still longer file is refused for its length.
 pub const INPUT: usize = Head::BYTES + Head::ENTRY_BYTES * (Head::ENTRIES + 1) + 1;
@@ -25,22 +23,22 @@ const NUMBERS: usize = Head::ENTRY_NUMBERS * Head::ENTRIES;
 // ---- lines
 
 fn put_answer(number: u32, place: u32, out: &mut [u8]) -> usize
-    ensures { λ r. ⌜ PutsLine (list number place) (now (out .entry)) 0 (now (out .exit)) r ⌝ }
+    ensures { PutsLine (list number place) out.old 0 out.new result }
 {
     put_line(b"list", &[number as u64, place as u64], out, 0)
 }
 
 // A line of one number.
 fn put_number(word: &[u8], x: u64, out: &mut [u8], at: usize) -> usize
-    requires { ⌜ (length (now word) ≤ 8) × (at + max-line ≤ limit) ⌝ }
-    ensures { λ r. ⌜ PutsLine (lineOf (now (word .entry)) (x ∷ [])) (now (out .entry)) at (now (out .exit)) r ⌝ }
+    requires { (length word.now ≤ 8) × (at + max_line ≤ limit) }
+    ensures { PutsLine (line_of word.now (x ∷ [])) out.old at out.new result }
 {
     put_line(word, &[x], out, at)
 }
 
 fn put_entry(slot: u16, row: u16, way: u16, out: &mut [u8], at: usize) -> usize
-    requires { ⌜ at + max-line ≤ limit ⌝ }
-    ensures { λ r. ⌜ PutsLine (entry (move slot row way)) (now (out .entry)) at (now (out .exit)) r ⌝ }
+    requires { at + max_line ≤ limit }
+    ensures { PutsLine (entry (move slot row way)) out.old at out.new result }
 {
     if way == 0 {
         return put_line(b"receive", &[slot as u64, row as u64], out, at);
@@ -50,9 +48,9 @@ fn put_entry(slot: u16, row: u16, way: u16, out: &mut [u8], at: usize) -> usize
 
 // The first entries of a slice of numbers that holds them.
 fn put_entries(numbers: &[u16], entries: usize, out: &mut [u8], at: usize) -> usize
-    requires { ⌜ (entryNumbers * entries ≤ length (now numbers)) × (at + max-line * entries ≤ limit) ⌝ }
-    ensures { λ r. ⌜ PutsLines (each entries (λ k. entry (memoryEntry (now (numbers .entry)) k) ∷ [])) entries (now (out .entry)) at
-        (now (out .exit)) r ⌝ }
+    requires { (entry_numbers * entries ≤ length numbers.now) × (at + max_line * entries ≤ limit) }
+    ensures { PutsLines (each entries (λ k. entry (memory_entry numbers.now k) ∷ [])) entries out.old at
+        out.new result }
 {
     let mut next = at;
     let mut k: usize = 0;
@@ -68,7 +66,7 @@ fn put_entries(numbers: &[u16], entries: usize, out: &mut [u8], at: usize) -> us
 
 // What the program prints for a list file, at the front of `out`; how many bytes it is. Of a refusal it is the first line only.
 pub fn show(file: &[u8], out: &mut [u8]) -> usize
-    ensures { λ r. ⌜ Rendered (ListPrinted (now (file .entry))) (now (out .entry)) (now (out .exit)) r ⌝ }
+    ensures { Rendered (ListPrinted file.now) out.old out.new result }
 {
     let mut numbers = [0u16; NUMBERS];
     let found = lists::read(file, &mut numbers);
@@ -83,7 +81,7 @@ pub fn show(file: &[u8], out: &mut [u8]) -> usize
 
 // The list file of an element's moves in the plan of a table file, at the front of `out`; how many bytes it is. Of a refusal it is a line.
 pub fn make(file: &[u8], element: u64, out: &mut [u8]) -> usize
-    ensures { λ r. ⌜ ListWrittenFor (now (file .entry)) element (now (out .entry)) (now (out .exit)) r ⌝ }
+    ensures { ListWrittenFor file.now element out.old out.new result }
 {
     let mut plan = [0u64; Table::SLOTS];
     planner::whole_plan(file, &mut plan);

@@ -1,17 +1,13 @@
 // What the program of tables in text writes, in lent bytes: for a text the file of its table, for a file the text of its table, and of a
 // refusal a line.
-use decimal::put_bytes;
-use decimal::put_line;
-use table::Answer;
-use table::Table;
-use table::rings_of;
-use table::row_bytes;
-use text_reader::Spot;
-use text_reader::spot_of;
-ghost use Prim.Native.Nat.{_≤_};
-ghost use Rattle·rules.specs.Text.{textOf};
-ghost use Rattle·decimal.specs.Puts.{Puts};
-ghost use Rattle·grammar.specs.Reports.{fault, refusal, FileOf, TextOf, longest-text, Made};
+ghost use Rattle.std.specs.Prelude.{◌≤◌};
+ghost use Rattle.rules.specs.Text.{text_of};
+ghost use Rattle.decimal.specs.Puts.{Puts};
+ghost use Rattle.grammar.specs.Reports.{fault, refusal, FileOf, TextOf, longest_text, Made};
+
+use decimal::{put_bytes, put_line};
+use table::{Answer, Table, rings_of, row_bytes};
+use text_reader::{Spot, spot_of};
 
 // The program's input: one byte more than a text may have, so that a longer one is refused for its length.
 pub const INPUT: usize = text_reader::TEXT + 1;
@@ -22,7 +18,7 @@ pub const SIZE: usize = 2048;
 const NUMBERS: usize = Table::ROW_NUMBERS * Table::ROWS;
 
 fn put_fault(number: u32, at: Spot, out: &mut [u8]) -> usize
-    ensures { λ r. ⌜ Puts (textOf (fault number (at .line) (at .column))) (now (out .entry)) 0 (now (out .exit)) r × (r ≤ longest-text) ⌝ }
+    ensures { Puts (text_of (fault number at.line at.column)) out.old 0 out.new result × (result ≤ longest_text) }
 {
     put_line(
         b"text",
@@ -33,14 +29,14 @@ fn put_fault(number: u32, at: Spot, out: &mut [u8]) -> usize
 }
 
 fn put_refusal(number: u32, place: u32, out: &mut [u8]) -> usize
-    ensures { λ r. ⌜ Puts (textOf (refusal number place)) (now (out .entry)) 0 (now (out .exit)) r × (r ≤ longest-text) ⌝ }
+    ensures { Puts (text_of (refusal number place)) out.old 0 out.new result × (result ≤ longest_text) }
 {
     put_line(b"file", &[number as u64, place as u64], out, 0)
 }
 
 // The file of a text's table, at the front of `out`; how many bytes it is.
 pub fn make(text: &[u8], out: &mut [u8]) -> usize
-    ensures { λ r. ⌜ Made (FileOf (now (text .entry))) (now (out .entry)) (now (out .exit)) r ⌝ }
+    ensures { Made (FileOf text.now) out.old out.new result }
 {
     let mut numbers = [0u16; NUMBERS];
     let found = text_reader::read(text, &mut numbers);
@@ -65,7 +61,7 @@ pub fn make(text: &[u8], out: &mut [u8]) -> usize
 
 // The text of a file's table, at the front of `out`; how many bytes it is.
 pub fn show(file: &[u8], out: &mut [u8]) -> usize
-    ensures { λ r. ⌜ Made (TextOf (now (file .entry))) (now (out .entry)) (now (out .exit)) r ⌝ }
+    ensures { Made (TextOf file.now) out.old out.new result }
 {
     let mut numbers = [0u16; NUMBERS];
     let found = reader::read(file, &mut numbers);

@@ -1,135 +1,135 @@
 -- Laws of the loops that fill arrays: each holds of the first m entries, and one more is put in.
-use mathlib.Core.Path.{_≡_, refl, sym, ap, _∙_}
-use mathlib.Core.Bool.{Bool, true, false, _&&_, _||_}
+use mathlib.Core.Path.{◌≡◌, refl, sym, ap, ◌∙◌}
+use mathlib.Core.Bool.{Bool, true, false, ◌&&◌, ◌||◌}
 use mathlib.Core.List.{List}
-use Prim.Native.Nat.{ℕ, suc, _+_, _-_, _≤_, _<_}
-use native.Mathlib.Decide.{decLt, ℕ-discrete}
+use Prim.Native.Nat.{ℕ, suc, ◌+◌, ◌-◌, ◌≤◌, ◌<◌}
+use native.Mathlib.Decide.{dec_lt, ℕ_discrete}
 use native.Mathlib.Omega.{arith}
 use lib.Dec.{eqb, ltb}
-use borrow.Author.Tests.{eq-eqb, ne-eqb, lt-ltb}
-use Rattle·numbers.specs.Finite.{sumIn, only}
-use Rattle·numbers.specs.Lists.{at}
-use Rattle·numbers.specs.Word.{bit}
-use Rattle·numbers.proofs.Finite.{only-true, only-false, only-zero, sum-bump, sum-zero, sumIn-most}
-use Rattle·numbers.proofs.Word.{bit-zero}
-use Rattle·rules.specs.Bounds.{max-elements, max-rows, max-slots}
-use Rattle·loads.specs.Network.{Put}
-use Rattle·loads.proofs.Words.{or-same, or-right}
-use Rattle·loads.specs.Loads.{inSet, last, among, part-most, Spans, Parts, Summed}
-use Rattle·loads.proofs.Line.{covers-in, covers-before, covers-after}
-use Rattle·interval·specs.specs.Taken.{Lifted, Lowered, Uneven}
+use borrow.Author.Tests.{eq-eqb, ne_eqb, lt-ltb}
+use Rattle.numbers.specs.Finite.{sum_in, only}
+use Rattle.numbers.specs.Lists.{at}
+use Rattle.numbers.specs.Word.{bit}
+use Rattle.numbers.proofs.Finite.{only_true, only_false, only_zero, sum_bump, sum_zero, sum_in_most}
+use Rattle.numbers.proofs.Word.{bit_zero}
+use Rattle.rules.specs.Bounds.{max_elements, max_rows, max_slots}
+use Rattle.loads.specs.Network.{Put}
+use Rattle.loads.proofs.Words.{or_same, or_right}
+use Rattle.loads.specs.Loads.{in_set, last, among, part_most, Spans, Parts, Summed}
+use Rattle.loads.proofs.Line.{covers_in, covers_before, covers_after}
+use Rattle.interval.specs.Taken.{Lifted, Lowered, Uneven}
 
 -- what holds below m, and of m, holds below m + 1
 pub extend : (P : ℕ → Type 0) (m : ℕ) → ((i : ℕ) → i < m → P i) → P m → (i : ℕ) → i < m + 1 → P i
-extend P m f p i l = go (ℕ-discrete i m)
+extend P m f p i l = go (ℕ_discrete i m)
   where
     go : Dec (i ≡ m) → P i
     go (yes q) = rw q p
     go (no q) = f i (omega arith)
 
 -- a row's sets, from its tail up to its head
-pub row-span : {n K : ℕ} (tail head : List ℕ) → Spans n K (at tail) (last head) → (i : ℕ) → i < n → 0 < at head i
-    → (at tail i ≤ at head i) × (at head i ≤ max-elements) × (at head i ≤ K) × (at head i ≡ suc (last head i))
-row-span tail head S i l p = let r = S .row i l in (omega (arith, r), omega (arith, r, S .few-sets), omega (arith, r), omega arith)
+pub row_span : {n K : ℕ} (tail head : List ℕ) → Spans n K (at tail) (last head) → (i : ℕ) → i < n → 0 < at head i
+    → (at tail i ≤ at head i) × (at head i ≤ max_elements) × (at head i ≤ K) × (at head i ≡ suc (last head i))
+row_span tail head S i l p = let r = S.row i l in (omega (arith, r), omega (arith, r, S.few_sets), omega (arith, r), omega arith)
 
 -- ---- the parts of the rows in a word
 
-pub among-le : (w : ℕ) (f : ℕ → ℕ) (i : ℕ) → among w f i ≤ f i
-among-le w f i = go (bit w i) refl
+pub among_le : (w : ℕ) (f : ℕ → ℕ) (i : ℕ) → among w f i ≤ f i
+among_le w f i = go (bit w i) refl
   where
     go : (b : Bool) → bit w i ≡ b → among w f i ≤ f i
-    go true e = omega (arith, only-true (bit w i) (f i) e)
-    go false e = omega (arith, only-false (bit w i) (f i) e)
+    go true e = omega (arith, only_true (bit w i) (f i) e)
+    go false e = omega (arith, only_false (bit w i) (f i) e)
 
-pub among-parts : {n h : ℕ} {f : ℕ → ℕ} (w : ℕ) → Parts n h f → Parts n h (among w f)
-among-parts {f = f} w P = record { some = P .some; fits = P .fits; row = λ i l. omega (arith, among-le w f i, P .row i l) }
+pub among_parts : {n h : ℕ} {f : ℕ → ℕ} (w : ℕ) → Parts n h f → Parts n h (among w f)
+among_parts {f = f} w P = record { some = P.some; fits = P.fits; row = λ i l. omega (arith, among_le w f i, P.row i l) }
 
-pub among-uneven : (n w : ℕ) (f : ℕ → ℕ) → ((i : ℕ) → bit w i ≡ true → (i < n) × (0 < f i)) → Uneven n (among w f) w
-among-uneven n w f h i = go (bit w i) refl
+pub among_uneven : (n w : ℕ) (f : ℕ → ℕ) → ((i : ℕ) → bit w i ≡ true → (i < n) × (0 < f i)) → Uneven n (among w f) w
+among_uneven n w f h i = go (bit w i) refl
   where
     none : (b : Bool) → (b && false) ≡ false
     none true = refl
     none false = refl
 
     go : (b : Bool) → bit w i ≡ b → b ≡ (ltb i n && ltb 0 (only b (f i)))
-    go true e = let r = h i e in rw (lt-ltb i n (r .0), only-true true (f i) refl, lt-ltb 0 (f i) (r .1)) refl
-    go false e = rw (only-false false (f i) refl) (sym (none (ltb i n)))
+    go true e = let r = h i e in rw (lt-ltb i n r.0, only_true true (f i) refl, lt-ltb 0 (f i) r.1) refl
+    go false e = rw (only_false false (f i) refl) (sym (none (ltb i n)))
 
 -- ---- numbers from one up to another
 
-pub lifted-none : (x : ℕ → ℕ) (from v : ℕ) → Lifted x x from from v
-lifted-none x from v = record { inside = λ e l u. absurd (omega arith); below = λ e l. refl; beyond = λ e l. refl }
+pub lifted_none : (x : ℕ → ℕ) (from v : ℕ) → Lifted x x from from v
+lifted_none x from v = record { inside = λ e l u. absurd (omega arith); below = λ e l. refl; beyond = λ e l. refl }
 
-pub lifted-next : (x x' x'' : ℕ → ℕ) (from e v : ℕ) → from ≤ e → Lifted x x' from e v → Put x' e (x' e + v) x''
+pub lifted_next : (x x' x'' : ℕ → ℕ) (from e v : ℕ) → from ≤ e → Lifted x x' from e v → Put x' e (x' e + v) x''
     → Lifted x x'' from (e + 1) v
-lifted-next x x' x'' from e v g s p = record {
-  inside = λ f l u. go f l u (ℕ-discrete f e);
-  below = λ f l. p .1 f (omega arith) ∙ s .below f l;
-  beyond = λ f l. p .1 f (omega arith) ∙ s .beyond f (omega arith);
+lifted_next x x' x'' from e v g s p = record {
+  inside = λ f l u. go f l u (ℕ_discrete f e);
+  below = λ f l. p.1 f (omega arith) ∙ s.below f l;
+  beyond = λ f l. p.1 f (omega arith) ∙ s.beyond f (omega arith);
 }
   where
     go : (f : ℕ) → from ≤ f → f < e + 1 → Dec (f ≡ e) → x'' f ≡ x f + v
-    go f l u (yes q) = omega (arith, ap x'' q, p .0, s .beyond e (omega arith), ap x q)
-    go f l u (no q) = omega (arith, p .1 f q, s .inside f l (omega arith))
+    go f l u (yes q) = omega (arith, ap x'' q, p.0, s.beyond e (omega arith), ap x q)
+    go f l u (no q) = omega (arith, p.1 f q, s.inside f l (omega arith))
 
-pub lowered-none : (x : ℕ → ℕ) (from v : ℕ) → Lowered x x from from v
-lowered-none x from v = record { inside = λ e l u. absurd (omega arith); below = λ e l. refl; beyond = λ e l. refl }
+pub lowered_none : (x : ℕ → ℕ) (from v : ℕ) → Lowered x x from from v
+lowered_none x from v = record { inside = λ e l u. absurd (omega arith); below = λ e l. refl; beyond = λ e l. refl }
 
-pub lowered-next : (x x' x'' : ℕ → ℕ) (from e v : ℕ) → from ≤ e → Lowered x x' from e v → Put x' e (x' e - v) x''
+pub lowered_next : (x x' x'' : ℕ → ℕ) (from e v : ℕ) → from ≤ e → Lowered x x' from e v → Put x' e (x' e - v) x''
     → Lowered x x'' from (e + 1) v
-lowered-next x x' x'' from e v g s p = record {
-  inside = λ f l u. go f l u (ℕ-discrete f e);
-  below = λ f l. p .1 f (omega arith) ∙ s .below f l;
-  beyond = λ f l. p .1 f (omega arith) ∙ s .beyond f (omega arith);
+lowered_next x x' x'' from e v g s p = record {
+  inside = λ f l u. go f l u (ℕ_discrete f e);
+  below = λ f l. p.1 f (omega arith) ∙ s.below f l;
+  beyond = λ f l. p.1 f (omega arith) ∙ s.beyond f (omega arith);
 }
   where
     go : (f : ℕ) → from ≤ f → f < e + 1 → Dec (f ≡ e) → x'' f ≡ x f - v
-    go f l u (yes q) = omega (arith, ap x'' q, p .0, s .beyond e (omega arith), ap x q)
-    go f l u (no q) = omega (arith, p .1 f q, s .inside f l (omega arith))
+    go f l u (yes q) = omega (arith, ap x'' q, p.0, s.beyond e (omega arith), ap x q)
+    go f l u (no q) = omega (arith, p.1 f q, s.inside f l (omega arith))
 
 -- ---- the sums, of the rows in a word
 
-pub summed-none : (n K : ℕ) (a b f s : ℕ → ℕ) → ((k : ℕ) → s k ≡ 0) → Summed n K a b (among 0 f) s
-summed-none n K a b f s z k l =
-    z k ∙ sym (sum-zero n _ (λ i m. ap (only (inSet a b k i)) (only-false _ (f i) (bit-zero i)) ∙ only-zero (inSet a b k i)))
+pub summed_none : (n K : ℕ) (a b f s : ℕ → ℕ) → ((k : ℕ) → s k ≡ 0) → Summed n K a b (among 0 f) s
+summed_none n K a b f s z k l =
+    z k ∙ sym (sum_zero n _ (λ i m. ap (only (in_set a b k i)) (only_false _ (f i) (bit_zero i)) ∙ only_zero (in_set a b k i)))
 
 module _ (n K : ℕ) (a b f s : ℕ → ℕ) (done done' m : ℕ) (l : m < n) (fresh : bit done m ≡ false)
     (one : (i : ℕ) → bit done' i ≡ (bit done i || eqb i m)) (t : Summed n K a b (among done f) s) where
   -- one more row in a set's sum
-  more : (k : ℕ) → sumIn n (inSet a b k) (among done' f) ≡ sumIn n (inSet a b k) (among done f) + only (inSet a b k m) (f m)
+  more : (k : ℕ) → sum_in n (in_set a b k) (among done' f) ≡ sum_in n (in_set a b k) (among done f) + only (in_set a b k m) (f m)
   more k =
-      let D = inSet a b k in
-      sum-bump n (λ i. only (D i) (among done f i)) (λ i. only (D i) (among done' f i)) m (only (D m) (f m)) l
-      (λ i u ne. ap (λ (c : Bool). only (D i) (only c (f i))) (one i ∙ or-same (bit done i) (eqb i m) (ne-eqb i m ne)))
+      let D = in_set a b k in
+      sum_bump n (λ i. only (D i) (among done f i)) (λ i. only (D i) (among done' f i)) m (only (D m) (f m)) l
+      (λ i u ne. ap (λ (c : Bool). only (D i) (only c (f i))) (one i ∙ or_same (bit done i) (eqb i m) (ne_eqb i m ne)))
       (omega (
         arith,
-        ap (only (D m)) (only-true _ (f m) (one m ∙ or-right (bit done m) (eqb m m) (eq-eqb m m refl))),
-        ap (only (D m)) (only-false _ (f m) fresh),
-        only-zero (D m),
+        ap (only (D m)) (only_true _ (f m) (one m ∙ or_right (bit done m) (eqb m m) (eq-eqb m m refl))),
+        ap (only (D m)) (only_false _ (f m) fresh),
+        only_zero (D m),
       ))
 
-  pub summed-next : (s' : ℕ → ℕ) (to : ℕ) → to ≡ suc (b m) → Lifted s s' (a m) to (f m) → Summed n K a b (among done' f) s'
-  summed-next s' to e L k g = go (t k g) (decLt k (a m)) (decLt (b m) k)
+  pub summed_next : (s' : ℕ → ℕ) (to : ℕ) → to ≡ suc (b m) → Lifted s s' (a m) to (f m) → Summed n K a b (among done' f) s'
+  summed_next s' to e L k g = go (t k g) (dec_lt k (a m)) (dec_lt (b m) k)
     where
-      go : s k ≡ sumIn n (inSet a b k) (among done f) → Dec (k < a m) → Dec (b m < k)
-          → s' k ≡ sumIn n (inSet a b k) (among done' f)
-      go r (yes p) q = omega (arith, L .below k p, more k, only-false _ (f m) (covers-before (a m) (b m) k p))
-      go r (no p) (yes q) = omega (arith, L .beyond k (omega arith), more k, only-false _ (f m) (covers-after (a m) (b m) k q))
+      go : s k ≡ sum_in n (in_set a b k) (among done f) → Dec (k < a m) → Dec (b m < k)
+          → s' k ≡ sum_in n (in_set a b k) (among done' f)
+      go r (yes p) q = omega (arith, L.below k p, more k, only_false _ (f m) (covers_before (a m) (b m) k p))
+      go r (no p) (yes q) = omega (arith, L.beyond k (omega arith), more k, only_false _ (f m) (covers_after (a m) (b m) k q))
       go r (no p) (no q) =
           omega (
             arith,
-            L .inside k (omega arith) (omega arith),
+            L.inside k (omega arith) (omega arith),
             more k,
-            only-true _ (f m) (covers-in (a m) (b m) k (omega arith) (omega arith)),
+            only_true _ (f m) (covers_in (a m) (b m) k (omega arith) (omega arith)),
           )
 
   -- there is room for row m in its sets' sums
-  pub summed-room : (h : ℕ) → Parts n h f → n ≤ max-rows → (k : ℕ) → k < K → a m ≤ k → k ≤ b m → s k + f m ≤ part-most
-  summed-room h P few k g p q =
+  pub summed_room : (h : ℕ) → Parts n h f → n ≤ max_rows → (k : ℕ) → k < K → a m ≤ k → k ≤ b m → s k + f m ≤ part_most
+  summed_room h P few k g p q =
       omega (
         arith,
         t k g,
         more k,
-        only-true _ (f m) (covers-in (a m) (b m) k p q),
-        sumIn-most n (inSet a b k) (among done' f) max-slots (λ i u. omega (arith, among-le done' f i, P .row i u, P .fits)),
+        only_true _ (f m) (covers_in (a m) (b m) k p q),
+        sum_in_most n (in_set a b k) (among done' f) max_slots (λ i u. omega (arith, among_le done' f i, P.row i u, P.fits)),
       )

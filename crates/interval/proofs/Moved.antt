@@ -1,31 +1,31 @@
 -- What an interval done gives: it is a planner's step, only one list of words and one list of totals fit, and the totals keep step.
-use mathlib.Core.Path.{_≡_, refl, sym, ap, ap₂, _∙_}
-use mathlib.Core.List.{List, _++_}
-use Prim.Native.Nat.{ℕ, _+_, _-_}
+use mathlib.Core.Path.{◌≡◌, refl, sym, ap, ap₂, ◌∙◌}
+use mathlib.Core.List.{List, ◌++◌}
+use Prim.Native.Nat.{ℕ, ◌+◌, ◌-◌}
 use lib.ListN.{take-append-drop}
-use lib.Seq.{ext-getD}
-use Rattle·rules.specs.Bus.{Table}
-use Rattle·rules.specs.Loads.{start, end}
-use Rattle·rules.specs.Planner.{due, Planner, next, Step}
-use Rattle·rules.proofs.Plans.{step-only}
-use Rattle·lags.specs.Lags.{Steady}
-use Rattle·lags.proofs.Lags.{steady-eq, steady-next}
-use Rattle·interval·specs.specs.Interval.{Moved}
-use Rattle·interval·specs.specs.Ready.{Advanced}
+use lib.Seq.{ext_get_or}
+use Rattle.rules.specs.Bus.{Table}
+use Rattle.rules.specs.Loads.{start, end}
+use Rattle.rules.specs.Planner.{due, Planner, next, Step}
+use Rattle.rules.proofs.Plans.{step_only}
+use Rattle.lags.specs.Lags.{Steady}
+use Rattle.lags.proofs.Lags.{steady_eq, steady_next}
+use Rattle.interval.specs.Interval.{Moved}
+use Rattle.interval.specs.Ready.{Advanced}
 
 -- ---- a step
 
-pub step-of-moved : {t : Table} {p q : Planner} {k : ℕ} {ws : List ℕ} → p .stage ≡ due k → q .stage ≡ next t k
-    → Moved t k (p .totals) (q .totals) ws → Step t p q ws
-step-of-moved {k = k} e f M = record {
+pub step_of_moved : {t : Table} {p q : Planner} {k : ℕ} {ws : List ℕ} → p.stage ≡ due k → q.stage ≡ next t k
+    → Moved t k p.totals q.totals ws → Step t p q ws
+step_of_moved {k = k} e f M = record {
   interval = k;
-  is-due = e;
-  loads = M .loads;
-  greatest = M .greatest;
-  words = M .words;
-  placed = M .placed;
-  moved = M .moved;
-  spare = M .spare;
+  is_due = e;
+  loads = M.loads;
+  greatest = M.greatest;
+  words = M.words;
+  placed = M.placed;
+  moved = M.moved;
+  spare = M.spare;
   after = f;
 }
 
@@ -37,25 +37,25 @@ module _ {t : Table} {k : ℕ} {had : ℕ → ℕ} {now then : ℕ → ℕ} {ws 
 
   -- as steps from interval k due
   same : (after now ≡ after then) × (ws ≡ vs)
-  same = step-only {p = record { stage = due k; totals = had }} (step-of-moved refl refl M) (step-of-moved refl refl N)
+  same = step_only {p = record { stage = due k; totals = had }} (step_of_moved refl refl M) (step_of_moved refl refl N)
 
-  pub moved-words : ws ≡ vs
-  moved-words = same .1
+  pub moved_words : ws ≡ vs
+  moved_words = same.1
 
-  pub moved-totals : (i : ℕ) → now i ≡ then i
-  moved-totals i = ap (λ (p : Planner). p .totals i) (same .0)
+  pub moved_totals : (i : ℕ) → now i ≡ then i
+  moved_totals i = ap (λ (p : Planner). p.totals i) same.0
 
-pub advanced-only : {t : Table} {k : ℕ} {had now then was out to : List ℕ} → Advanced t k had now was out → Advanced t k had then was to
+pub advanced_only : {t : Table} {k : ℕ} {had now then was out to : List ℕ} → Advanced t k had now was out → Advanced t k had then was to
     → (now ≡ then) × (out ≡ to)
-advanced-only {t} {k} {had} {now} {then} {was} {out} {to} A B =
+advanced_only {t} {k} {had} {now} {then} {was} {out} {to} A B =
     let l : ℕ = end t k - start t k in (
-      ext-getD 0 now then (A .size ∙ sym (B .size)) (λ i h. moved-totals (A .moved) (B .moved) i),
-      sym (take-append-drop l out) ∙ ap₂ _++_ (moved-words (A .moved) (B .moved)) (A .kept .rest ∙ sym (B .kept .rest))
+      ext_get_or 0 now then (A.size ∙ sym B.size) (λ i h. moved_totals A.moved B.moved i),
+      sym (take-append-drop l out) ∙ ap₂ ◌++◌ (moved_words A.moved B.moved) (A.kept.rest ∙ sym B.kept.rest)
           ∙ take-append-drop l to,
     )
 
 -- ---- the totals after it
 
-pub moved-steady : {t : Table} {k : ℕ} {had now : ℕ → ℕ} {ws : List ℕ} → Moved t k had now ws → Steady t (end t k) now
-moved-steady {t} {k} {had} {now} M =
-    steady-eq t (end t k) (λ i. had i + M .loads i) now (λ i l. sym (M .moved i l)) (steady-next (M .greatest .qualify))
+pub moved_steady : {t : Table} {k : ℕ} {had now : ℕ → ℕ} {ws : List ℕ} → Moved t k had now ws → Steady t (end t k) now
+moved_steady {t} {k} {had} {now} M =
+    steady_eq t (end t k) (λ i. had i + M.loads i) now (λ i l. sym (M.moved i l)) (steady_next M.greatest.qualify)

@@ -6,23 +6,21 @@
 --   Given n top whole had x now   n rows that have had `had` slots get x more: with their whole slots, those in the word `top` one more
 --
 -- Only one ws fits, and only one `now` (proofs/Moved).
-use mathlib.Core.Path.{_≡_}
-use mathlib.Core.List.{List}
-use Prim.Native.Nat.{ℕ, _+_, _-_, _*_, _^_, _≤_, _<_}
-use Rattle·numbers.specs.Finite.{count}
-use Rattle·rules.specs.Bus.{Table, overlap}
-use Rattle·rules.specs.Line.{lineFirst}
-use Rattle·rules.specs.Loads.{start, end}
-use Rattle·rules.specs.Interval.{Qualify, Greatest, moves, SlotWords}
-use Rattle·loads.specs.Loads.{digit}
+use Rattle.std.specs.Prelude.{◌≡◌, List, ℕ, ◌+◌, ◌-◌, ◌*◌, ◌^◌, ◌≤◌, ◌<◌}
+use Rattle.numbers.specs.Finite.{count}
+use Rattle.rules.specs.Bus.{Table, overlap}
+use Rattle.rules.specs.Line.{line_first}
+use Rattle.rules.specs.Loads.{start, end}
+use Rattle.rules.specs.Interval.{Qualify, Greatest, moves, SlotWords}
+use Rattle.loads.specs.Loads.{digit}
 
 pub record Moved (t : Table) (k : ℕ) (had now : ℕ → ℕ) (ws : List ℕ) : Type 0 where
   pub loads : ℕ → ℕ
-  pub greatest : Greatest (t .rows) (Qualify t k had) loads
-  pub words : SlotWords (t .rows) (overlap t) (lineFirst t) loads (end t k - start t k) ws
-  pub placed : (i : ℕ) → i < t .rows → count (end t k - start t k) (moves ws i) ≡ loads i
-  pub moved : (i : ℕ) → i < t .rows → now i ≡ had i + loads i
-  pub spare : (i : ℕ) → t .rows ≤ i → now i ≡ had i
+  pub greatest : Greatest t.rows (Qualify t k had) loads
+  pub words : SlotWords t.rows (overlap t) (line_first t) loads (end t k - start t k) ws
+  pub placed : (i : ℕ) → i < t.rows → count (end t k - start t k) (moves ws i) ≡ loads i
+  pub moved : (i : ℕ) → i < t.rows → now i ≡ had i + loads i
+  pub spare : (i : ℕ) → t.rows ≤ i → now i ≡ had i
 
 pub record Inverse (h v : ℕ) : Type 0 where
   pub least : 2 ^ 36 ≤ v * h

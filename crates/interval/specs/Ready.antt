@@ -8,25 +8,22 @@
 --   Advanced t k had now was out
 --                           interval k is done: `now` are the totals after it, and `out`, which held `was`, has its words at the front
 --
--- Only one `now` and one `out` fit (proofs/Moved, `advanced-only`).
-use mathlib.Core.Path.{_≡_}
-use mathlib.Core.List.{List}
-use Prim.Native.Nat.{ℕ, _-_, _<_}
-use lib.ListN.{length, take}
-use Rattle·numbers.specs.Lists.{at}
-use Rattle·rules.specs.Bounds.{max-rows}
-use Rattle·rules.specs.Bus.{Table}
-use Rattle·rules.specs.Line.{lineTop, lineFirst, lineSecond, Sets}
-use Rattle·rules.specs.Loads.{hyperperiod, start, end, intervals}
-use Rattle·rules.specs.Loads as loads
-use Rattle·table.specs.Columns.{ByRow}
-use Rattle·lags.specs.Lags.{Admissible, Steady}
-use Rattle·loads.specs.declared.Size.{Size}
-use Rattle·loads.specs.NodesOf.{NodesOf}
-use Rattle·interval·specs.specs.Folded.{FoldedSets}
-use Rattle·interval·specs.specs.Interval.{Moved}
-use Rattle·sets.specs.Chained.{Chained}
-use Rattle·placing.specs.Filled.{Kept}
+-- Only one `now` and one `out` fit (proofs/Moved, `advanced_only`).
+use Rattle.std.specs.Prelude.{◌≡◌, List, ℕ, ◌-◌, ◌<◌, length, take}
+use Rattle.numbers.specs.Lists.{at}
+use Rattle.rules.specs.Bounds.{max_rows}
+use Rattle.rules.specs.Bus.{Table}
+use Rattle.rules.specs.Line.{line_top, line_first, line_second, Sets}
+use Rattle.rules.specs.Loads.{hyperperiod, start, end, intervals}
+use Rattle.rules.specs.Loads as loads
+use Rattle.table.specs.Columns.{ByRow}
+use Rattle.lags.specs.Lags.{Admissible, Steady}
+use Rattle.loads.specs.declared.Size.{Size}
+use Rattle.loads.specs.NodesOf.{NodesOf}
+use Rattle.interval.specs.Folded.{FoldedSets}
+use Rattle.interval.specs.Interval.{Moved}
+use Rattle.sets.specs.Chained.{Chained}
+use Rattle.placing.specs.Filled.{Kept}
 
 pub record Laid : Type 0 where
   pub tail : List ℕ
@@ -38,26 +35,26 @@ pub record Laid : Type 0 where
 
 pub record Ready (t : Table) (size : Size) (top : ℕ) (first second rate : List ℕ) (upper : ℕ) (words : List ℕ) (L : Laid) : Type 0 where
   pub admissible : Admissible t
-  pub row-count : size .rows ≡ t .rows
-  pub top-end : top ≡ lineTop t
-  pub hyper-is : size .hyper ≡ hyperperiod t
-  pub firsts : ByRow (t .rows) (lineFirst t) first
-  pub seconds : ByRow (t .rows) (lineSecond t) second
-  pub rates : ByRow (t .rows) (loads.rate t) rate
+  pub row_count : size.rows ≡ t.rows
+  pub top_end : top ≡ line_top t
+  pub hyper_is : size.hyper ≡ hyperperiod t
+  pub firsts : ByRow t.rows (line_first t) first
+  pub seconds : ByRow t.rows (line_second t) second
+  pub rates : ByRow t.rows (loads.rate t) rate
   pub count : ℕ
   pub listed : List ℕ
   pub list : Sets t (take count listed)
-  pub folded : FoldedSets (t .rows) (t .elements) count (at first) listed (record { upper = upper; sets = size .sets }) words
-  pub laid : NodesOf (t .rows) (size .sets) words (L .tail) (L .head) (L .out) (L .into)
-  pub chained : Chained (t .rows) (at first) (L .heads) (L .next)
+  pub folded : FoldedSets t.rows t.elements count (at first) listed (record { upper = upper; sets = size.sets }) words
+  pub laid : NodesOf t.rows size.sets words L.tail L.head L.out L.into
+  pub chained : Chained t.rows (at first) L.heads L.next
 
 pub record Due (t : Table) (k b e : ℕ) (had : List ℕ) : Type 0 where
-  pub in-range : k < intervals t
+  pub in_range : k < intervals t
   pub begins : b ≡ start t k
   pub ends : e ≡ end t k
   pub steady : Steady t b (at had)
 
 pub record Advanced (t : Table) (k : ℕ) (had now was out : List ℕ) : Type 0 where
-  pub size : length now ≡ max-rows
+  pub size : length now ≡ max_rows
   pub moved : Moved t k (at had) (at now) (take (end t k - start t k) out)
   pub kept : Kept (end t k - start t k) was out

@@ -1,29 +1,26 @@
 -- Loads on each of two rings by itself.
 --
---   onRing d upper f i        f i where row i is of ring d, else 0; the rows of ring 1 are those of the word `upper`
+--   on_ring d upper f i        f i where row i is of ring d, else 0; the rows of ring 1 are those of the word `upper`
 --   OnEach n K a b h upper f x   loads x of parts f qualify on each ring, for n rows and the K sets of the folded line
---   ringCount upper           on how many rings there are rows to choose from: where none is in `upper`, on one
+--   ring_count upper           on how many rings there are rows to choose from: where none is in `upper`, on one
 --   Chosen n K a b h upper f d rounded
 --                             `rounded` are the rows to round up on the first d rings: their loads are the greatest of those that qualify
-use mathlib.Core.Path.{_≡_}
-use mathlib.Core.Bool.{cond}
-use Prim.Native.Nat.{ℕ, _<_}
-use lib.Dec.{eqb}
-use Rattle·numbers.specs.Finite.{only}
-use Rattle·rules.specs.Bounds.{max-rings}
-use Rattle·rules.specs.Interval.{Greatest}
-use Rattle·loads.specs.Loads.{digit, none, Qualified}
+use Rattle.std.specs.Prelude.{◌≡◌, cond, ℕ, ◌<◌, eqb}
+use Rattle.numbers.specs.Finite.{only}
+use Rattle.rules.specs.Bounds.{max_rings}
+use Rattle.rules.specs.Interval.{Greatest}
+use Rattle.loads.specs.Loads.{digit, none, Qualified}
 
-abbrev pub onRing : (d upper : ℕ) → (ℕ → ℕ) → ℕ → ℕ
-onRing d upper f i = only (eqb (digit upper i) d) (f i)
+abbrev pub on_ring : (d upper : ℕ) → (ℕ → ℕ) → ℕ → ℕ
+on_ring d upper f i = only (eqb (digit upper i) d) (f i)
 
 abbrev pub OnEach : (n K : ℕ) (a b : ℕ → ℕ) (h upper : ℕ) (f x : ℕ → ℕ) → Type 0
-OnEach n K a b h upper f x = (d : ℕ) → d < max-rings → Qualified n K a b h (onRing d upper f) none (onRing d upper x)
+OnEach n K a b h upper f x = (d : ℕ) → d < max_rings → Qualified n K a b h (on_ring d upper f) none (on_ring d upper x)
 
-abbrev pub ringCount : ℕ → ℕ
-ringCount upper = cond (eqb upper 0) 1 max-rings
+abbrev pub ring_count : ℕ → ℕ
+ring_count upper = cond (eqb upper 0) 1 max_rings
 
 pub record Chosen (n K : ℕ) (a b : ℕ → ℕ) (h upper : ℕ) (f : ℕ → ℕ) (d rounded : ℕ) : Type 0 where
   pub nothing : d ≡ 0 → rounded ≡ 0
-  pub one : d ≡ 1 → Greatest n (Qualified n K a b h (onRing 0 upper f) none) (digit rounded)
+  pub one : d ≡ 1 → Greatest n (Qualified n K a b h (on_ring 0 upper f) none) (digit rounded)
   pub both : d ≡ 2 → Greatest n (OnEach n K a b h upper f) (digit rounded)

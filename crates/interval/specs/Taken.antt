@@ -7,14 +7,11 @@
 --   Fits n K a b h f z             loads z are the parts f rounded, and no set's sum is above its parts rounded up
 --   Taken n K m a b h f top left   the rows below m have been taken: no loads that fit are greater. The others are rounded down, and `left`
 --                                  is what is left of the sets
-use mathlib.Core.Path.{_≡_}
-use mathlib.Core.Bool.{Bool, true, false, _&&_}
-use Prim.Native.Nat.{ℕ, _+_, _-_, _*_, _≤_, _<_}
-use lib.Dec.{ltb}
-use Rattle·numbers.specs.Finite.{sumIn}
-use Rattle·numbers.specs.Rounding.{Rounded}
-use Rattle·numbers.specs.Word.{bit}
-use Rattle·loads.specs.Loads.{inSet, digit}
+use Rattle.std.specs.Prelude.{◌≡◌, Bool, true, false, ◌&&◌, ℕ, ◌+◌, ◌-◌, ◌*◌, ◌≤◌, ◌<◌, ltb}
+use Rattle.numbers.specs.Finite.{sum_in}
+use Rattle.numbers.specs.Rounding.{Rounded}
+use Rattle.numbers.specs.Word.{bit}
+use Rattle.loads.specs.Loads.{in_set, digit}
 
 pub record Lifted (x x' : ℕ → ℕ) (from to v : ℕ) : Type 0 where
   pub inside : (k : ℕ) → from ≤ k → k < to → x' k ≡ x k + v
@@ -35,10 +32,10 @@ Uneven n f w = (i : ℕ) → bit w i ≡ (ltb i n && ltb 0 (f i))
 
 pub record Fits (n K : ℕ) (a b : ℕ → ℕ) (h : ℕ) (f z : ℕ → ℕ) : Type 0 where
   pub rows : (i : ℕ) → i < n → Rounded (z i) (f i) h
-  pub sets : (k : ℕ) → k < K → sumIn n (inSet a b k) z * h < sumIn n (inSet a b k) f + h
+  pub sets : (k : ℕ) → k < K → sum_in n (in_set a b k) z * h < sum_in n (in_set a b k) f + h
 
 pub record Taken (n K m : ℕ) (a b : ℕ → ℕ) (h : ℕ) (f : ℕ → ℕ) (top : ℕ) (left : ℕ → ℕ) : Type 0 where
-  pub sets : (k : ℕ) → k < K → left k ≡ sumIn n (inSet a b k) f - sumIn n (inSet a b k) (digit top) * h
+  pub sets : (k : ℕ) → k < K → left k ≡ sum_in n (in_set a b k) f - sum_in n (in_set a b k) (digit top) * h
   pub fits : Fits n K a b h f (digit top)
   pub rest : (i : ℕ) → m ≤ i → bit top i ≡ false
   pub best : (z : ℕ → ℕ) → Fits n K a b h f z → (i : ℕ) → i < m → ((j : ℕ) → j < i → z j ≡ digit top j) → z i ≤ digit top i

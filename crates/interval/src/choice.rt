@@ -6,20 +6,17 @@
 //   loads).
 // - The bound by the interval's length is left out: a set's lag is at most the length, and so is the lag rounded up.
 // - Of all loads that qualify these are the greatest, row 0's first, as document 02, #110, has them.
-use loads::NODES;
-use loads::Size;
+ghost use Rattle.std.specs.Prelude.{◌≡◌, true, ℕ, ◌+◌, ◌-◌, ◌<◌, ◌≤◌, length};
+ghost use Rattle.numbers.specs.Lists.{at};
+ghost use Rattle.numbers.specs.Word.{bit};
+ghost use Rattle.rules.specs.Bounds.{max_elements};
+ghost use Rattle.rules.specs.Interval.{Greatest};
+ghost use Rattle.loads.specs.Loads.{part_most, digit, among, last, none, Spans, Parts, Summed, Qualified};
+ghost use Rattle.loads.specs.State.{Ends};
+ghost use Rattle.interval.specs.Taken.{Lifted, Lowered, Open, Uneven, Taken};
+
+use loads::{NODES, Size};
 use table::Table;
-ghost use mathlib.Core.Path.{_≡_};
-ghost use mathlib.Core.Bool.{true};
-ghost use Prim.Native.Nat.{ℕ, _+_, _-_, _<_, _≤_};
-ghost use lib.ListN.{length};
-ghost use Rattle·numbers.specs.Lists.{at};
-ghost use Rattle·numbers.specs.Word.{bit};
-ghost use Rattle·rules.specs.Bounds.{max-elements};
-ghost use Rattle·rules.specs.Interval.{Greatest};
-ghost use Rattle·loads.specs.Loads.{part-most, digit, among, last, none, Spans, Parts, Summed, Qualified};
-ghost use Rattle·loads.specs.State.{Ends};
-ghost use Rattle·interval·specs.specs.Taken.{Lifted, Lowered, Open, Uneven, Taken};
 
 const ROWS: usize = Table::ROWS;
 
@@ -29,9 +26,9 @@ const SETS: usize = Table::ELEMENTS;
 
 // Adds v to the sums from one up to another.
 fn lift(sum: &mut [u32; SETS], from: usize, to: usize, v: u32)
-    requires { ⌜ (from ≤ to) × (to ≤ max-elements) × (length (now sum) ≡ max-elements)
-        × ((k : ℕ) → from ≤ k → k < to → at (now sum) k + v ≤ part-most) ⌝ }
-    ensures { λ r. ⌜ (length (now (sum .exit)) ≡ max-elements) × Lifted (at (now (sum .entry))) (at (now (sum .exit))) from to v ⌝ }
+    requires { (from ≤ to) × (to ≤ max_elements) × (length sum.old ≡ max_elements)
+        × ((k : ℕ) → from ≤ k → k < to → at sum.old k + v ≤ part_most) }
+    ensures { (length sum.new ≡ max_elements) × Lifted (at sum.old) (at sum.new) from to v }
 {
     let mut k = from;
     while k < to {
@@ -48,13 +45,13 @@ fn add_parts(
     rows: u64,
     sum: &mut [u32; SETS],
 )
-    requires { ⌜ ((n : ℕ) × (K : ℕ) × (h : ℕ) × Spans n K (at (now tail)) (last (now head)) × ((i : ℕ) → i < n → 0 < at (now head) i)
-        × Parts n h (at (now part)) × ((i : ℕ) → bit rows i ≡ true → i < n))
-        × ((k : ℕ) → at (now sum) k ≡ 0) × (length (now sum) ≡ max-elements) ⌝ }
-    ensures { λ r. ⌜ (length (now (sum .exit)) ≡ max-elements)
-        × ((n K : ℕ) → Spans n K (at (now (tail .entry))) (last (now (head .entry)))
-        → ((i : ℕ) → i < n → 0 < at (now (head .entry)) i) → ((i : ℕ) → bit rows i ≡ true → i < n)
-        → Summed n K (at (now (tail .entry))) (last (now (head .entry))) (among rows (at (now (part .entry)))) (at (now (sum .exit)))) ⌝ }
+    requires { ((n : ℕ) × (K : ℕ) × (h : ℕ) × Spans n K (at tail.now) (last head.now) × ((i : ℕ) → i < n → 0 < at head.now i)
+        × Parts n h (at part.now) × ((i : ℕ) → bit rows i ≡ true → i < n))
+        × ((k : ℕ) → at sum.old k ≡ 0) × (length sum.old ≡ max_elements) }
+    ensures { (length sum.new ≡ max_elements)
+        × ((n K : ℕ) → Spans n K (at tail.now) (last head.now)
+        → ((i : ℕ) → i < n → 0 < at head.now i) → ((i : ℕ) → bit rows i ≡ true → i < n)
+        → Summed n K (at tail.now) (last head.now) (among rows (at part.now)) (at sum.new)) }
 {
     let mut done: u64 = 0;
     while done != rows {
@@ -70,8 +67,8 @@ fn add_parts(
 
 // Whether none of the sets from one up to another is full.
 fn has_room(left: &[u32; SETS], from: usize, to: usize) -> bool
-    requires { ⌜ to ≤ max-elements ⌝ }
-    ensures { λ r. ⌜ Open (at (now (left .entry))) from to r ⌝ }
+    requires { to ≤ max_elements }
+    ensures { Open (at left.now) from to result }
 {
     let mut k = from;
     while k < to {
@@ -85,7 +82,7 @@ fn has_room(left: &[u32; SETS], from: usize, to: usize) -> bool
 
 // What is left of v after h is taken, at least 0.
 fn less(v: u32, h: u32) -> u32
-    ensures { λ r. ⌜ r ≡ v - h ⌝ }
+    ensures { result ≡ v - h }
 {
     if v < h {
         return 0;
@@ -95,9 +92,9 @@ fn less(v: u32, h: u32) -> u32
 
 // Takes h from what is left of the sets from one up to another.
 fn lower(left: &mut [u32; SETS], from: usize, to: usize, h: u32)
-    requires { ⌜ (from ≤ to) × (to ≤ max-elements) × (length (now left) ≡ max-elements) ⌝ }
-    ensures { λ r. ⌜ (length (now (left .exit)) ≡ max-elements)
-        × Lowered (at (now (left .entry))) (at (now (left .exit))) from to h ⌝ }
+    requires { (from ≤ to) × (to ≤ max_elements) × (length left.old ≡ max_elements) }
+    ensures { (length left.new ≡ max_elements)
+        × Lowered (at left.old) (at left.new) from to h }
 {
     let mut k = from;
     while k < to {
@@ -109,14 +106,14 @@ fn lower(left: &mut [u32; SETS], from: usize, to: usize, h: u32)
 // Rounds up one after the other of the rows with a part, where its sets have room. `left` holds the sets' sums, and then what is left of
 // them.
 fn take_rows(tail: &[u8; ROWS], head: &[u8; ROWS], rows: u64, h: u32, left: &mut [u32; SETS]) -> u64
-    requires { ⌜ ((n : ℕ) × (K : ℕ) × (f : ℕ → ℕ) × Spans n K (at (now tail)) (last (now head))
-        × ((i : ℕ) → i < n → 0 < at (now head) i) × Parts n h f × Uneven n f rows
-        × Summed n K (at (now tail)) (last (now head)) f (at (now left))) × (length (now left) ≡ max-elements) ⌝ }
-    ensures { λ r. ⌜ (length (now (left .exit)) ≡ max-elements)
-        × ((n K : ℕ) (f : ℕ → ℕ) → Spans n K (at (now (tail .entry))) (last (now (head .entry)))
-        → ((i : ℕ) → i < n → 0 < at (now (head .entry)) i) → Parts n h f → Uneven n f rows
-        → Summed n K (at (now (tail .entry))) (last (now (head .entry))) f (at (now (left .entry)))
-        → Taken n K n (at (now (tail .entry))) (last (now (head .entry))) h f r (at (now (left .exit)))) ⌝ }
+    requires { ((n : ℕ) × (K : ℕ) × (f : ℕ → ℕ) × Spans n K (at tail.now) (last head.now)
+        × ((i : ℕ) → i < n → 0 < at head.now i) × Parts n h f × Uneven n f rows
+        × Summed n K (at tail.now) (last head.now) f (at left.old)) × (length left.old ≡ max_elements) }
+    ensures { (length left.new ≡ max_elements)
+        × ((n K : ℕ) (f : ℕ → ℕ) → Spans n K (at tail.now) (last head.now)
+        → ((i : ℕ) → i < n → 0 < at head.now i) → Parts n h f → Uneven n f rows
+        → Summed n K (at tail.now) (last head.now) f (at left.old)
+        → Taken n K n (at tail.now) (last head.now) h f result (at left.new)) }
 {
     let mut top: u64 = 0;
     let mut done: u64 = 0;
@@ -135,8 +132,8 @@ fn take_rows(tail: &[u8; ROWS], head: &[u8; ROWS], rows: u64, h: u32, left: &mut
 
 // Whether less than h is left of every set.
 fn all_less(left: &[u32; SETS], sets: usize, h: u32) -> bool
-    requires { ⌜ sets ≤ max-elements ⌝ }
-    ensures { λ r. ⌜ (r ≡ true → (k : ℕ) → k < sets → at (now (left .entry)) k < h) ⌝ }
+    requires { sets ≤ max_elements }
+    ensures { result ≡ true → (k : ℕ) → k < sets → at left.now k < h }
 {
     let mut k: usize = 0;
     while k < sets {
@@ -160,11 +157,11 @@ pub fn choose(
     part: &[u32; ROWS],
     rows: u64,
 ) -> u64
-    requires { ⌜ Ends (size .rows) (size .sets) (now tail) (now head) (now out) (now into)
-        × Parts (size .rows) (size .hyper) (at (now part))
-        × ((i : ℕ) → bit rows i ≡ true → (i < size .rows) × (0 < at (now part) i)) ⌝ }
-    ensures { λ r. ⌜ Greatest (size .rows) (Qualified (size .rows) (size .sets) (at (now (tail .entry))) (last (now (head .entry)))
-        (size .hyper) (among rows (at (now (part .entry)))) none) (digit r) ⌝ }
+    requires { Ends size.rows size.sets tail.now head.now out.now into.now
+        × Parts size.rows size.hyper (at part.now)
+        × ((i : ℕ) → bit rows i ≡ true → (i < size.rows) × (0 < at part.now i)) }
+    ensures { Greatest size.rows (Qualified size.rows size.sets (at tail.now) (last head.now)
+        size.hyper (among rows (at part.now)) none) (digit result) }
 {
     if rows == 0 {
         return 0;

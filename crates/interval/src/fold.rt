@@ -2,22 +2,20 @@
 // line is folded where the second ring's begins: word k has set k of each ring. Rows of different rings share no set, so loads qualify just
 // when they qualify on each ring by itself (proofs/Unfolding), and the greatest of a product is the product of the greatest
 // (proofs/Product): rows can be chosen once a ring, those of the other with part 0. With one ring nothing is folded.
+ghost use Rattle.std.specs.Prelude.{◌≡◌, cond, ℕ, ◌≤◌, ◌<◌, max, length, take};
+ghost use Rattle.numbers.specs.Lists.{at};
+ghost use Rattle.numbers.specs.Word.{bit};
+ghost use Rattle.rules.specs.Bounds.{max_rows};
+ghost use Rattle.interval.specs.Folded.{upper_rows, low_sets, FoldedSets};
+
 use table::Table;
-ghost use mathlib.Core.Path.{_≡_};
-ghost use mathlib.Core.Bool.{cond};
-ghost use Prim.Native.Nat.{ℕ, _≤_, _<_, max};
-ghost use lib.ListN.{length, take};
-ghost use Rattle·numbers.specs.Lists.{at};
-ghost use Rattle·numbers.specs.Word.{bit};
-ghost use Rattle·rules.specs.Bounds.{max-rows};
-ghost use Rattle·interval·specs.specs.Folded.{upperRows, lowSets, FoldedSets};
 
 const ROWS: usize = Table::ROWS;
 
 // The rows that start past the bound: those of the second ring.
 fn upper_rows(rows: usize, first: &[u8; ROWS], bound: usize) -> u64
-    requires { ⌜ rows ≤ max-rows ⌝ }
-    ensures { λ r. ⌜ r ≡ upperRows rows bound (at (now (first .entry))) ⌝ }
+    requires { rows ≤ max_rows }
+    ensures { result ≡ upper_rows rows bound (at first.now) }
 {
     let mut upper: u64 = 0;
     let mut i: usize = 0;
@@ -30,8 +28,8 @@ fn upper_rows(rows: usize, first: &[u8; ROWS], bound: usize) -> u64
 
 // How many sets come before the first with one of these rows.
 fn low_sets(words: &[u64; ROWS], sets: usize, upper: u64) -> usize
-    requires { ⌜ (sets ≤ max-rows) × (length (now words) ≡ max-rows) ⌝ }
-    ensures { λ r. ⌜ r ≡ lowSets upper (take sets (now (words .entry))) ⌝ }
+    requires { (sets ≤ max_rows) × (length words.now ≡ max_rows) }
+    ensures { result ≡ low_sets upper (take sets words.now) }
 {
     let mut k: usize = 0;
     while k < sets {
@@ -45,8 +43,8 @@ fn low_sets(words: &[u64; ROWS], sets: usize, upper: u64) -> usize
 
 // The rows of set k, none past the last set.
 fn set_at(words: &[u64; ROWS], sets: usize, k: usize) -> u64
-    requires { ⌜ (sets ≤ max-rows) × (length (now words) ≡ max-rows) ⌝ }
-    ensures { λ r. ⌜ r ≡ at (take sets (now (words .entry))) k ⌝ }
+    requires { (sets ≤ max_rows) × (length words.now ≡ max_rows) }
+    ensures { result ≡ at (take sets words.now) k }
 {
     if k < sets {
         return words[k];
@@ -56,14 +54,14 @@ fn set_at(words: &[u64; ROWS], sets: usize, k: usize) -> u64
 
 // The rows of `high` that are in `upper`, and those of `low` that are not.
 fn merge(low: u64, high: u64, upper: u64) -> u64
-    ensures { λ r. ⌜ ((i : ℕ) → bit r i ≡ cond (bit upper i) (bit high i) (bit low i)) ⌝ }
+    ensures { (i : ℕ) → bit result i ≡ cond (bit upper i) (bit high i) (bit low i) }
 {
     low ^ ((low ^ high) & upper)
 }
 
 // The larger of two numbers.
 fn larger(a: usize, b: usize) -> usize
-    ensures { λ r. ⌜ r ≡ max a b ⌝ }
+    ensures { result ≡ max a b }
 {
     if a < b {
         return b;
@@ -72,6 +70,7 @@ fn larger(a: usize, b: usize) -> usize
 }
 
 // The rows of the second ring, and how many sets the folded line has.
+#[derive(Clone, Copy)]
 pub struct Folded {
     pub upper: u64,
     pub sets: usize,
@@ -85,8 +84,8 @@ pub fn fold_sets(
     bound: usize,
     words: &mut [u64; ROWS],
 ) -> Folded
-    requires { ⌜ (rows ≤ max-rows) × (sets ≤ max-rows) × (length (now words) ≡ max-rows) ⌝ }
-    ensures { λ r. ⌜ FoldedSets rows bound sets (at (now (first .entry))) (now (words .entry)) r (now (words .exit)) ⌝ }
+    requires { (rows ≤ max_rows) × (sets ≤ max_rows) × (length words.old ≡ max_rows) }
+    ensures { FoldedSets rows bound sets (at first.now) words.old result words.new }
 {
     let upper = upper_rows(rows, first, bound);
     if upper == 0 {

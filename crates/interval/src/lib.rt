@@ -1,43 +1,41 @@
 // One planning interval of an admitted table, in pieces: from totals that keep step at its first slot to its loads and the totals after it
 // (document 01, "Loads of one interval, and its slots"). Who plans intervals calls them in turn, and then fills the slots; that they make
-// an interval is a law (proofs/Course, `advanced-of`).
+// an interval is a law (proofs/Course, `advanced_of`).
+#![tactic(auto)]
+
 mod choice;
 mod fold;
 
+ghost use Rattle.std.specs.Prelude.{◌≡◌, true, ◌&&◌, ℕ, ◌+◌, ◌*◌, ◌/◌, ◌%◌, ◌≤◌, ◌<◌, eqb, length};
+ghost use Rattle.numbers.specs.Lists.{at};
+ghost use Rattle.numbers.specs.Word.{bit};
+ghost use Rattle.rules.specs.Bounds.{max_rows, max_rings, max_slots};
+ghost use Rattle.rules.specs.Interval.{Greatest};
+ghost use Rattle.loads.specs.Loads.{share_most, digit, last, Parts};
+ghost use Rattle.loads.specs.State.{Ends};
+ghost use Rattle.interval.specs.Taken.{Uneven};
+ghost use Rattle.interval.specs.Rings.{OnEach, ring_count};
+ghost use Rattle.interval.specs.Interval.{Inverse, Given};
+
 pub use fold::fold_sets;
-use loads::NODES;
-use loads::Size;
+use loads::{NODES, Size};
 use table::Table;
-ghost use mathlib.Core.Path.{_≡_};
-ghost use mathlib.Core.Bool.{true, _&&_};
-ghost use Prim.Native.Nat.{ℕ, _+_, _*_, _/_, _%_, _≤_, _<_};
-ghost use lib.Dec.{eqb};
-ghost use lib.ListN.{length};
-ghost use Rattle·numbers.specs.Lists.{at};
-ghost use Rattle·numbers.specs.Word.{bit};
-ghost use Rattle·rules.specs.Bounds.{max-rows, max-rings, max-slots};
-ghost use Rattle·rules.specs.Interval.{Greatest};
-ghost use Rattle·loads.specs.Loads.{share-most, digit, last, Parts};
-ghost use Rattle·loads.specs.State.{Ends};
-ghost use Rattle·interval·specs.specs.Taken.{Uneven};
-ghost use Rattle·interval·specs.specs.Rings.{OnEach, ringCount};
-ghost use Rattle·interval·specs.specs.Interval.{Inverse, Given};
 
 // ---- shares
 
 // What shares are multiplied by to be divided by h: 2^36 / h, rounded up. A plan has a share for each row and interval, and a product takes
 // a fraction of a quotient's time.
 pub fn inverse_of(h: u64) -> u64
-    requires { ⌜ (0 < h) × (h ≤ max-slots) ⌝ }
-    ensures { λ r. ⌜ Inverse h r ⌝ }
+    requires { (0 < h) × (h ≤ max_slots) }
+    ensures { Inverse h result }
 {
     ((1u64 << 36) + (h - 1)) / h
 }
 
 // The whole slots of a share.
 fn whole_of(share: u64, inverse: u64) -> u64
-    requires { ⌜ ((h : ℕ) × (0 < h) × (h ≤ max-slots) × Inverse h inverse) × (share ≤ share-most) ⌝ }
-    ensures { λ r. ⌜ ((h : ℕ) → 0 < h → h ≤ max-slots → Inverse h inverse → r ≡ share / h) ⌝ }
+    requires { ((h : ℕ) × (0 < h) × (h ≤ max_slots) × Inverse h inverse) × (share ≤ share_most) }
+    ensures { (h : ℕ) → 0 < h → h ≤ max_slots → Inverse h inverse → result ≡ share / h }
 {
     (share * inverse) >> 36
 }
@@ -51,13 +49,13 @@ pub fn part_shares(
     whole: &mut [u16; Table::ROWS],
     part: &mut [u32; Table::ROWS],
 ) -> u64
-    requires { ⌜ (size .rows ≤ max-rows) × (0 < size .hyper) × (size .hyper ≤ max-slots) × Inverse (size .hyper) inverse
-        × ((i : ℕ) → i < size .rows → (at (now rate) i * slots ≤ share-most) × (at (now rate) i * slots / size .hyper ≤ max-slots))
-        × (length (now whole) ≡ max-rows) × (length (now part) ≡ max-rows) ⌝ }
-    ensures { λ r. ⌜ (length (now (whole .exit)) ≡ max-rows) × (length (now (part .exit)) ≡ max-rows)
-        × ((i : ℕ) → i < size .rows → (at (now (whole .exit)) i ≡ at (now (rate .entry)) i * slots / size .hyper)
-        × (at (now (part .exit)) i ≡ at (now (rate .entry)) i * slots % size .hyper))
-        × Uneven (size .rows) (at (now (part .exit))) r ⌝ }
+    requires { (size.rows ≤ max_rows) × (0 < size.hyper) × (size.hyper ≤ max_slots) × Inverse size.hyper inverse
+        × ((i : ℕ) → i < size.rows → (at rate.now i * slots ≤ share_most) × (at rate.now i * slots / size.hyper ≤ max_slots))
+        × (length whole.old ≡ max_rows) × (length part.old ≡ max_rows) }
+    ensures { (length whole.new ≡ max_rows) × (length part.new ≡ max_rows)
+        × ((i : ℕ) → i < size.rows → (at whole.new i ≡ at rate.now i * slots / size.hyper)
+        × (at part.new i ≡ at rate.now i * slots % size.hyper))
+        × Uneven size.rows (at part.new) result }
 {
     let h = size.hyper;
     let mut parted: u64 = 0;
@@ -78,7 +76,7 @@ pub fn part_shares(
 
 // On how many rings there are rows to choose from.
 fn ring_count(upper: u64) -> u64
-    ensures { λ r. ⌜ r ≡ ringCount upper ⌝ }
+    ensures { result ≡ ring_count upper }
 {
     if upper == 0 {
         return 1;
@@ -88,8 +86,8 @@ fn ring_count(upper: u64) -> u64
 
 // Those of the rows that are on ring d.
 fn on_ring(d: u64, upper: u64, rows: u64) -> u64
-    requires { ⌜ d < max-rings ⌝ }
-    ensures { λ r. ⌜ ((i : ℕ) → bit r i ≡ (bit rows i && eqb (digit upper i) d)) ⌝ }
+    requires { d < max_rings }
+    ensures { (i : ℕ) → bit result i ≡ (bit rows i && eqb (digit upper i) d) }
 {
     let high = rows & upper;
     if d == 0 {
@@ -110,10 +108,10 @@ pub fn round_rows<'a>(
     part: &'a [u32; Table::ROWS],
     parted: u64,
 ) -> u64
-    requires { ⌜ Ends (size .rows) (size .sets) (now tail) (now head) (now out) (now into)
-        × Parts (size .rows) (size .hyper) (at (now part)) × Uneven (size .rows) (at (now part)) parted ⌝ }
-    ensures { λ r. ⌜ Greatest (size .rows) (OnEach (size .rows) (size .sets) (at (now (tail .entry))) (last (now (head .entry)))
-        (size .hyper) upper (at (now (part .entry)))) (digit r) ⌝ }
+    requires { Ends size.rows size.sets tail.now head.now out.now into.now
+        × Parts size.rows size.hyper (at part.now) × Uneven size.rows (at part.now) parted }
+    ensures { Greatest size.rows (OnEach size.rows size.sets (at tail.now) (last head.now)
+        size.hyper upper (at part.now)) (digit result) }
 {
     let rings = ring_count(upper);
     let mut rounded: u64 = 0;
@@ -131,10 +129,10 @@ pub fn round_rows<'a>(
 // Gives each row its whole slots, which `load` has, and one more to those in the word `top`: `load` is then what a row gets beside those it
 // has had.
 pub fn give(top: u64, rows: usize, load: &mut [u16; Table::ROWS], totals: &mut [u64; Table::ROWS])
-    requires { ⌜ (rows ≤ max-rows) × ((i : ℕ) → i < rows → (at (now totals) i ≤ at (now load) i) × (at (now load) i ≤ max-slots))
-        × (length (now load) ≡ max-rows) × (length (now totals) ≡ max-rows) ⌝ }
-    ensures { λ r. ⌜ (length (now (load .exit)) ≡ max-rows) × (length (now (totals .exit)) ≡ max-rows)
-        × Given rows top (at (now (load .entry))) (at (now (totals .entry))) (at (now (load .exit))) (at (now (totals .exit))) ⌝ }
+    requires { (rows ≤ max_rows) × ((i : ℕ) → i < rows → (at totals.old i ≤ at load.old i) × (at load.old i ≤ max_slots))
+        × (length load.old ≡ max_rows) × (length totals.old ≡ max_rows) }
+    ensures { (length load.new ≡ max_rows) × (length totals.new ≡ max_rows)
+        × Given rows top (at load.old) (at totals.old) (at load.new) (at totals.new) }
 {
     let mut i: usize = 0;
     while i < rows {

@@ -1,3 +1,2 @@
 pub mod Only
 pub mod Small
-pub mod Walks

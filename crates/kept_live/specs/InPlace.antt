@@ -7,23 +7,21 @@
 --   FileToC p v was now c         c answers for the table file of p's rows in version v, and a slice that held `was` now holds `now`
 --
 -- What is left in place and what is answered are those of the call by value. Only one answer fits (proofs/Only).
-use mathlib.Core.Path.{_≡_}
-use mathlib.Core.List.{List}
-use Prim.Native.Nat.{ℕ}
-use Rattle·rules.specs.Calls.{c-answer}
-use Rattle·rules.specs.Live.{Filed}
-use Rattle·live.specs.declared.Live.{Live}
-use Rattle·live.specs.declared.Changed.{Changed}
-use Rattle·live.specs.State.{liveOf}
-use Rattle·live.specs.Answers.{NewAnswer, AddAnswer, RemoveAnswer}
-use Rattle·kept_live·specs.specs.declared.Kept.{Kept}
+use Rattle.std.specs.Prelude.{◌≡◌, List, ℕ}
+use Rattle.rules.specs.Calls.{c_answer}
+use Rattle.rules.specs.Live.{Filed}
+use Rattle.live.specs.declared.Live.{Live}
+use Rattle.live.specs.declared.Changed.{Changed}
+use Rattle.live.specs.State.{live_of}
+use Rattle.live.specs.Answers.{NewAnswer, AddAnswer, RemoveAnswer}
+use Rattle.kept_live.specs.declared.Kept.{Kept}
 
 pub record Said (x : Changed) (q : Live) (c : ℕ) : Type 0 where
-  pub left : q ≡ x .live
-  pub code : c ≡ c-answer (x .answer .number) (x .taken)
+  pub left : q ≡ x.live
+  pub code : c ≡ c_answer x.answer.number x.taken
 
 abbrev pub Told : Changed → Kept → Type 0
-Told x r = Said x (r .live) (r .code)
+Told x r = Said x r.live r.code
 
 abbrev pub NewInPlace : ℕ → Live → ℕ → Type 0
 NewInPlace M q c = (x : Changed) × NewAnswer M x × Said x q c
@@ -38,5 +36,5 @@ RemoveInPlace p k q c = (x : Changed) × RemoveAnswer p k x × Said x q c
 pub record FileToC (p : Live) (v : ℕ) (was now : List ℕ) (c : ℕ) : Type 0 where
   pub number : ℕ
   pub place : ℕ
-  pub filed : Filed v (liveOf p) was now number place
-  pub as-one : c ≡ c-answer number place
+  pub filed : Filed v (live_of p) was now number place
+  pub as_one : c ≡ c_answer number place

@@ -1,16 +1,18 @@
 // The live table changed where it is kept (#109), for those who keep one: the supervisor, a C program (include/ringlive.h). Each call takes
 // it by value, and what is handed back is stored where it was. Each answers 256 × number + place; an addition's place is the one taken.
 // The rows present are written as a table file from where they are kept.
-use live::Changed;
-use live::Entry;
-use live::Live;
-ghost use Prim.Native.Nat.{_≤_};
-ghost use Rattle·rules.specs.Bounds.{max-rows};
-ghost use Rattle·rules.specs.Refusals.{last-number};
-ghost use Rattle·kept_live·specs.specs.InPlace.{NewInPlace, AddInPlace, RemoveInPlace, Told, FileToC};
+#![tactic(auto)]
+
+ghost use Rattle.std.specs.Prelude.{◌≤◌};
+ghost use Rattle.rules.specs.Bounds.{max_rows};
+ghost use Rattle.rules.specs.Refusals.{last_number};
+ghost use Rattle.kept_live.specs.InPlace.{NewInPlace, AddInPlace, RemoveInPlace, Told, FileToC};
+
+use live::{Changed, Entry, Live};
 
 // A live table, and what is answered.
 #[repr(C)]
+#[derive(Clone, Copy)]
 pub struct Kept {
     pub live: Live,
     pub code: u32,
@@ -18,8 +20,8 @@ pub struct Kept {
 
 // Number and place as one number.
 fn told(after: Changed) -> Kept
-    requires { ⌜ (after .answer .number ≤ last-number) × (after .taken ≤ max-rows) ⌝ }
-    ensures { λ r. ⌜ Told after r ⌝ }
+    requires { (after.answer.number ≤ last_number) × (after.taken ≤ max_rows) }
+    ensures { Told after result }
 {
     let live = after.live;
     Kept {
@@ -29,13 +31,13 @@ fn told(after: Changed) -> Kept
 }
 
 fn made(elements: usize) -> Kept
-    ensures { λ r. ⌜ NewInPlace elements (r .live) (r .code) ⌝ }
+    ensures { NewInPlace elements result.live result.code }
 {
     told(Live::new(elements))
 }
 
 fn added(was: Live, cost: u16, period: u16, first: u16, second: u16, label: u16) -> Kept
-    ensures { λ r. ⌜ AddInPlace was cost period first second label (r .live) (r .code) ⌝ }
+    ensures { AddInPlace was cost period first second label result.live result.code }
 {
     let entry = Entry {
         cost: cost,
@@ -48,15 +50,15 @@ fn added(was: Live, cost: u16, period: u16, first: u16, second: u16, label: u16)
 }
 
 fn removed(was: Live, place: usize) -> Kept
-    ensures { λ r. ⌜ RemoveInPlace was place (r .live) (r .code) ⌝ }
+    ensures { RemoveInPlace was place result.live result.code }
 {
     told(Live::remove(was, place))
 }
 
 // A new live table of a ring of `elements`; nothing but zeros where it is refused. What was there is not looked at.
-#[no_mangle]
+#[unsafe(no_mangle)]
 pub extern "C" fn ring_live_new(live: &mut Live, elements: usize) -> u32
-    ensures { λ r. ⌜ NewInPlace elements (now (live .exit)) r ⌝ }
+    ensures { NewInPlace elements live.new result }
 {
     let after = made(elements);
     *live = after.live;
@@ -64,7 +66,7 @@ pub extern "C" fn ring_live_new(live: &mut Live, elements: usize) -> u32
 }
 
 // A row is put in the lowest free place.
-#[no_mangle]
+#[unsafe(no_mangle)]
 pub extern "C" fn ring_live_add(
     live: &mut Live,
     cost: u16,
@@ -73,7 +75,7 @@ pub extern "C" fn ring_live_add(
     second: u16,
     label: u16,
 ) -> u32
-    ensures { λ r. ⌜ AddInPlace (now (live .entry)) cost period first second label (now (live .exit)) r ⌝ }
+    ensures { AddInPlace live.old cost period first second label live.new result }
 {
     let after = added(*live, cost, period, first, second, label);
     *live = after.live;
@@ -81,9 +83,9 @@ pub extern "C" fn ring_live_add(
 }
 
 // The row in place `place` is removed.
-#[no_mangle]
+#[unsafe(no_mangle)]
 pub extern "C" fn ring_live_remove(live: &mut Live, place: usize) -> u32
-    ensures { λ r. ⌜ RemoveInPlace (now (live .entry)) place (now (live .exit)) r ⌝ }
+    ensures { RemoveInPlace live.old place live.new result }
 {
     let after = removed(*live, place);
     *live = after.live;
@@ -91,16 +93,16 @@ pub extern "C" fn ring_live_remove(live: &mut Live, place: usize) -> u32
 }
 
 fn written(was: Live, version: u64, out: &mut [u8]) -> u32
-    ensures { λ r. ⌜ FileToC was version (now (out .entry)) (now (out .exit)) r ⌝ }
+    ensures { FileToC was version out.old out.new result }
 {
     let answer = live::write_file(was, version, out);
     256 * answer.number + answer.place
 }
 
 // The rows present, written as a table file in the version that is told.
-#[no_mangle]
+#[unsafe(no_mangle)]
 pub extern "C" fn ring_live_file(live: &Live, version: u64, out: &mut [u8]) -> u32
-    ensures { λ r. ⌜ FileToC (now (live .entry)) version (now (out .entry)) (now (out .exit)) r ⌝ }
+    ensures { FileToC live.now version out.old out.new result }
 {
     written(*live, version, out)
 }

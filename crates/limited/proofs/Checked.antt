@@ -1,36 +1,35 @@
 -- The analysis within limits of each outcome: checks that pass stand before those that are left; and that only one verdict fits.
-use mathlib.Core.Path.{_≡_, refl, sym, subst, ap, _∙_}
-use mathlib.Core.Logic.{_≢_, ⊎-elim, inl, inr}
-use mathlib.Core.Bool.{Bool, true, false, _||_}
-use mathlib.Core.List.{List, [], _∷_, _++_, append-assoc}
-use Prim.Native.Nat.{ℕ, _≤_, _<_}
+use mathlib.Core.Path.{◌≡◌, sym, subst, ◌∙◌}
+use mathlib.Core.Logic.{◌≢◌, ⊎_elim, inl, inr}
+use mathlib.Core.Bool.{Bool, true, false, ◌||◌}
+use mathlib.Core.List.{List, ◌++◌}
+use Prim.Native.Nat.{ℕ, ◌≤◌, ◌<◌}
 use native.Mathlib.Omega.{arith}
-use borrow.Author.Tests.{ltb-true, ltb-false}
-use lib.Dec.{T, ltb, ltb→lt, lt→ltb}
-use Rattle·numbers.specs.Lists.{at}
-use Rattle·numbers.proofs.Truth.{or-cases, orl, orr, of-true, of-false}
-use Rattle·rules.specs.Bus.{Table, Labelled}
-use Rattle·rules.specs.TableFile.{fileTable, fileLabelled}
-use Rattle·rules.specs.Parties.{max-limit}
-use Rattle·rules.specs.Refusals.{Check, Answers, wrong-limit, given-checks, one-ring-checks, line-checks, limit-checks, bound-checks}
-use Rattle·rules.specs.Refusals.{limited-checks, verdict-checks}
-use Rattle·rules.proofs.Answers.{None, Numbered, applied, passed, stopped, none-of, none-join, none-left, none-right, numbered-join}
-use Rattle·table.specs.declared.Answer.{Answer}
-use Rattle·outline.specs.declared.Outline.{Outline}
-use Rattle·outline.specs.Outlined.{Outlined}
-use Rattle·limited·specs.specs.Limits.{labelled}
-use Rattle·limited·proofs.proofs.Within.{limit-numbered}
-use Rattle·outline.proofs.Outlined.{line-numbered}
-use Rattle·lags.specs.Lags.{Admissible}
-use Rattle·verdict.proofs.Bound.{bound-numbered, verdict-split, admissible-of}
-use Rattle·pasted.proofs.OneRing.{one-ring-numbered}
-use Rattle·verdict.specs.declared.Analysis.{Analysis}
-use Rattle·verdict.specs.declared.Verdict.{Verdict}
-use Rattle·verdict.specs.Verdict.{JudgedBy}
-use Rattle·verdict.specs.Analysed.{table-checks, blank, Rated, Analysed}
-use Rattle·verdict.proofs.Judging.{judged-by-only}
-use Rattle·verdict.proofs.Analysing.{analysed-refused, analysed-after, line-none}
-use Rattle·limited·specs.specs.Limited.{within-checks}
+use lib.Dec.{ltb, ltb→lt, lt→ltb}
+use Rattle.numbers.specs.Lists.{at}
+use Rattle.numbers.proofs.Truth.{or_cases, orl, orr, of_true, of_false}
+use Rattle.rules.specs.Bus.{Table, Labelled}
+use Rattle.rules.specs.TableFile.{file_table, file_labelled}
+use Rattle.rules.specs.Parties.{max_limit}
+use Rattle.rules.specs.Refusals.{Check, Answers, wrong_limit, given_checks, one_ring_checks, line_checks, limit_checks, bound_checks}
+use Rattle.rules.specs.Refusals.{limited_checks, verdict_checks}
+use Rattle.rules.proofs.Answers.{None, Numbered, applied, passed, stopped, none_of, none_join, none_left, none_right, numbered_join}
+use Rattle.table.specs.declared.Answer.{Answer}
+use Rattle.outline.specs.declared.Outline.{Outline}
+use Rattle.outline.specs.Outlined.{Outlined}
+use Rattle.limited.specs.Limits.{labelled}
+use Rattle.limited.proofs.Within.{limit_numbered}
+use Rattle.outline.proofs.Outlined.{line_numbered}
+use Rattle.lags.specs.Lags.{Admissible}
+use Rattle.verdict.proofs.Bound.{bound_numbered, verdict_split, admissible_of}
+use Rattle.pasted.proofs.OneRing.{one_ring_numbered}
+use Rattle.verdict.specs.declared.Analysis.{Analysis}
+use Rattle.verdict.specs.declared.Verdict.{Verdict}
+use Rattle.verdict.specs.Verdict.{JudgedBy}
+use Rattle.verdict.specs.Analysed.{table_checks, blank, Rated, Analysed}
+use Rattle.verdict.proofs.Judging.{judged_by_only}
+use Rattle.verdict.proofs.Analysing.{analysed_refused, analysed_after, line_none}
+use Rattle.limited.specs.Limited.{within_checks}
 
 -- ---- of a table
 
@@ -39,123 +38,123 @@ module _ (t : Table) (label : List ℕ) (our their : ℕ) where
   l = labelled t label
 
   abbrev past : List Check
-  past = limit-checks l our their ++ bound-checks t
+  past = limit_checks l our their ++ bound_checks t
 
   -- 10 or 11
-  pub within-line : (o : Outline) → Outlined (line-checks t) t o → o .answer .number ≢ 0
-      → Analysed (within-checks l our their) t (blank (o .answer))
-  within-line o O h = analysed-refused (o .answer) h (stopped (line-checks t) past (o .answer .number) (o .answer .place) h (O .answers))
+  pub within_line : (o : Outline) → Outlined (line_checks t) t o → o.answer.number ≢ 0
+      → Analysed (within_checks l our their) t (blank o.answer)
+  within_line o O h = analysed_refused o.answer h (stopped (line_checks t) past o.answer.number o.answer.place h O.answers)
 
   module _ {o : Outline} {i : ℕ} {xs : List ℕ} (R : Rated t o i xs) (k : Answer)
-      (K : Answers (limit-checks l our their) (k .number) (k .place)) where
+      (K : Answers (limit_checks l our their) k.number k.place) where
     -- 21 or 22
-    pub within-limit : k .number ≢ 0 → Analysed (within-checks l our their) t (blank k)
-    within-limit h =
-        analysed-after (line-checks t) past (line-none t R)
-        (analysed-refused k h (stopped (limit-checks l our their) (bound-checks t) (k .number) (k .place) h K))
+    pub within_limit : k.number ≢ 0 → Analysed (within_checks l our their) t (blank k)
+    within_limit h =
+        analysed_after (line_checks t) past (line_none t R)
+        (analysed_refused k h (stopped (limit_checks l our their) (bound_checks t) k.number k.place h K))
 
     -- then what is weighed
-    pub within-bound : k .number ≡ 0 → {a : Analysis} → Analysed (bound-checks t) t a → Analysed (within-checks l our their) t a
-    within-bound z A =
-        analysed-after (line-checks t) past (line-none t R)
-        (analysed-after (limit-checks l our their) (bound-checks t)
-        (none-of (limit-checks l our their) (k .place) (limit-numbered l our their) (rw z at K)) A)
+    pub within_bound : k.number ≡ 0 → {a : Analysis} → Analysed (bound_checks t) t a → Analysed (within_checks l our their) t a
+    within_bound z A =
+        analysed_after (line_checks t) past (line_none t R)
+        (analysed_after (limit_checks l our their) (bound_checks t)
+        (none_of (limit_checks l our their) k.place (limit_numbered l our their) (rw z at K)) A)
 
 -- a table with labels that columns hold
-pub within-held : (t : Table) (label : List ℕ) (u : Labelled) (our their : ℕ) → t ≡ u .table → at label ≡ u .label → {a : Analysis}
-    → Analysed (within-checks (labelled t label) our their) t a → Analysed (within-checks u our their) (u .table) a
-within-held t label u our their e g {a} A =
+pub within_held : (t : Table) (label : List ℕ) (u : Labelled) (our their : ℕ) → t ≡ u.table → at label ≡ u.label → {a : Analysis}
+    → Analysed (within_checks (labelled t label) our their) t a → Analysed (within_checks u our their) u.table a
+within_held t label u our their e g {a} A =
     let held : labelled t label ≡ u = λ k. record { table = e k; label = g k } in
-    subst (λ (l : Labelled). Analysed (within-checks l our their) (l .table) a) held A
+    subst (λ (l : Labelled). Analysed (within_checks l our their) l.table a) held A
 
 -- ---- of a file
 
 module _ (f : List ℕ) (our their : ℕ) where
   abbrev wrong : Check
-  wrong = wrong-limit our their
+  wrong = wrong_limit our their
 
   -- 1 to 9 and 18 of a table with one ring
   abbrev first : List Check
-  first = one-ring-checks f (given-checks f)
+  first = one_ring_checks f (given_checks f)
 
   abbrev rest : List Check
-  rest = first ++ within-checks (fileLabelled f) our their
+  rest = first ++ within_checks (file_labelled f) our their
 
   -- 23
-  pub limits-wrong : {b : Bool} → b ≡ (ltb max-limit our || ltb max-limit their) → b ≡ true → (r : Answer)
-      → r .number ≡ 23 → r .place ≡ 0 → Analysed (limited-checks f our their) (fileTable f) (blank r)
-  unfolding limited-checks
-  limits-wrong e t r n p =
-      analysed-refused r (omega (arith, n))
-      (applied wrong rest (r .number) (r .place)
-      (⊎-elim (λ x. inl (ltb→lt max-limit our x)) (λ x. inr (ltb→lt max-limit their x))
-      (or-cases (ltb max-limit our) (ltb max-limit their) (of-true (sym e ∙ t)))) n p)
+  pub limits_wrong : {b : Bool} → b ≡ (ltb max_limit our || ltb max_limit their) → b ≡ true → (r : Answer)
+      → r.number ≡ 23 → r.place ≡ 0 → Analysed (limited_checks f our their) (file_table f) (blank r)
+  unfolding limited_checks
+  limits_wrong e t r n p =
+      analysed_refused r (omega (arith, n))
+      (applied wrong rest r.number r.place
+      (⊎_elim (λ x. inl (ltb→lt max_limit our x)) (λ x. inr (ltb→lt max_limit their x))
+      (or_cases (ltb max_limit our) (ltb max_limit their) (of_true (sym e ∙ t)))) n p)
 
-  module _ {b : Bool} (e : b ≡ (ltb max-limit our || ltb max-limit their)) (w : b ≡ false) where
-    pub limits-low : (our ≤ max-limit) × (their ≤ max-limit)
-    limits-low =
-        let no = of-false (sym e ∙ w) in
-        let one : max-limit < our → ⊥ = λ x. no (orl (ltb max-limit our) (ltb max-limit their) (lt→ltb max-limit our x)) in
-        let other : max-limit < their → ⊥ = λ x. no (orr (ltb max-limit our) (ltb max-limit their) (lt→ltb max-limit their x)) in
+  module _ {b : Bool} (e : b ≡ (ltb max_limit our || ltb max_limit their)) (w : b ≡ false) where
+    pub limits_low : (our ≤ max_limit) × (their ≤ max_limit)
+    limits_low =
+        let no = of_false (sym e ∙ w) in
+        let one : max_limit < our → ⊥ = λ x. no (orl (ltb max_limit our) (ltb max_limit their) (lt→ltb max_limit our x)) in
+        let other : max_limit < their → ⊥ = λ x. no (orr (ltb max_limit our) (ltb max_limit their) (lt→ltb max_limit their x)) in
         (omega (arith, one), omega (arith, other))
 
-    not-wrong : wrong .applies → ⊥
-    not-wrong = ⊎-elim (λ x. omega (arith, x, limits-low .0)) (λ x. omega (arith, x, limits-low .1))
+    not_wrong : wrong.applies → ⊥
+    not_wrong = ⊎_elim (λ x. omega (arith, x, limits_low.0)) (λ x. omega (arith, x, limits_low.1))
 
     abbrev after : List Check
-    after = within-checks (fileLabelled f) our their
+    after = within_checks (file_labelled f) our their
 
     -- 1 to 9 or 18
-    pub limits-given : (r : Answer) → r .number ≢ 0 → Answers first (r .number) (r .place)
-        → Analysed (limited-checks f our their) (fileTable f) (blank r)
-    unfolding limited-checks
-    limits-given r h a =
-        analysed-refused r h
-        (passed wrong rest (r .number) (r .place) not-wrong (stopped first after (r .number) (r .place) h a))
+    pub limits_given : (r : Answer) → r.number ≢ 0 → Answers first r.number r.place
+        → Analysed (limited_checks f our their) (file_table f) (blank r)
+    unfolding limited_checks
+    limits_given r h a =
+        analysed_refused r h
+        (passed wrong rest r.number r.place not_wrong (stopped first after r.number r.place h a))
 
     -- past these its table's analysis within limits is the file's
-    pub limits-past : (p : ℕ) → Answers first 0 p → {a : Analysis}
-        → Analysed (within-checks (fileLabelled f) our their) (fileTable f) a → Analysed (limited-checks f our their) (fileTable f) a
-    unfolding limited-checks
-    limits-past p g {a} A =
-        let B = analysed-after first after (none-of first p (one-ring-numbered f) g) A in
+    pub limits_past : (p : ℕ) → Answers first 0 p → {a : Analysis}
+        → Analysed (within_checks (file_labelled f) our their) (file_table f) a → Analysed (limited_checks f our their) (file_table f) a
+    unfolding limited_checks
+    limits_past p g {a} A =
+        let B = analysed_after first after (none_of first p (one_ring_numbered f) g) A in
         record {
-          answers = passed wrong rest (a .outline .answer .number) (a .outline .answer .place) not-wrong (B .answers);
-          found = B .found;
-          refused = B .refused;
+          answers = passed wrong rest a.outline.answer.number a.outline.answer.place not_wrong B.answers;
+          found = B.found;
+          refused = B.refused;
         }
 
 -- ---- the checks as a whole
 
 module _ (f : List ℕ) (our their : ℕ) where
   abbrev t : Table
-  t = fileTable f
+  t = file_table f
 
   abbrev limits : List Check
-  limits = limit-checks (fileLabelled f) our their
+  limits = limit_checks (file_labelled f) our their
 
-  pub limited-numbered : Numbered (limited-checks f our their)
-  unfolding limited-checks Numbered
-  limited-numbered = (
+  pub limited_numbered : Numbered (limited_checks f our their)
+  unfolding limited_checks Numbered
+  limited_numbered = (
     omega arith,
-    numbered-join (one-ring-checks f (given-checks f)) (line-checks t ++ (limits ++ bound-checks t)) (one-ring-numbered f)
-        (numbered-join (line-checks t) (limits ++ bound-checks t) (line-numbered t)
-        (numbered-join limits (bound-checks t) (limit-numbered (fileLabelled f) our their) (bound-numbered t))),
+    numbered_join (one_ring_checks f (given_checks f)) (line_checks t ++ (limits ++ bound_checks t)) (one_ring_numbered f)
+        (numbered_join (line_checks t) (limits ++ bound_checks t) (line_numbered t)
+        (numbered_join limits (bound_checks t) (limit_numbered (file_labelled f) our their) (bound_numbered t))),
   )
 
   -- a table that passes them passes the verdict's
-  pub limited-none : None (limited-checks f our their) → None (verdict-checks f)
-  unfolding limited-checks None
-  limited-none n =
-      let given : None (given-checks f ++ (line-checks t ++ (limits ++ bound-checks t))) = n .1 .1 .1 in
-      let past = none-right (given-checks f) (line-checks t ++ (limits ++ bound-checks t)) given in
-      rw (verdict-split f)
-      (none-join (given-checks f) (table-checks t) (none-left (given-checks f) (line-checks t ++ (limits ++ bound-checks t)) given)
-      (none-join (line-checks t) (bound-checks t) (none-left (line-checks t) (limits ++ bound-checks t) past)
-      (none-right limits (bound-checks t) (none-right (line-checks t) (limits ++ bound-checks t) past))))
+  pub limited_none : None (limited_checks f our their) → None (verdict_checks f)
+  unfolding limited_checks None
+  limited_none n =
+      let given : None (given_checks f ++ (line_checks t ++ (limits ++ bound_checks t))) = n.1.1.1 in
+      let past = none_right (given_checks f) (line_checks t ++ (limits ++ bound_checks t)) given in
+      rw (verdict_split f)
+      (none_join (given_checks f) (table_checks t) (none_left (given_checks f) (line_checks t ++ (limits ++ bound_checks t)) given)
+      (none_join (line_checks t) (bound_checks t) (none_left (line_checks t) (limits ++ bound_checks t) past)
+      (none_right limits (bound_checks t) (none_right (line_checks t) (limits ++ bound_checks t) past))))
 
-  pub limited-admissible : None (limited-checks f our their) → Admissible t
-  limited-admissible n = admissible-of f (limited-none n)
+  pub limited_admissible : None (limited_checks f our their) → Admissible t
+  limited_admissible n = admissible_of f (limited_none n)
 
-  pub limited-only : (r s : Verdict) → JudgedBy (limited-checks f our their) t r → JudgedBy (limited-checks f our their) t s → r ≡ s
-  limited-only = judged-by-only (λ n. limited-admissible n .sound .rows-low) limited-numbered
+  pub limited_only : (r s : Verdict) → JudgedBy (limited_checks f our their) t r → JudgedBy (limited_checks f our their) t s → r ≡ s
+  limited_only = judged_by_only (λ n. (limited_admissible n).sound.rows_low) limited_numbered

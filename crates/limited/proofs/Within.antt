@@ -1,126 +1,125 @@
 -- 21 and 22 of a table whose h and rates are found: what is answered of a party, from the lowest segment that the code finds.
-use mathlib.Core.Path.{_≡_, refl, sym, ap, ap₂, _∙_}
-use mathlib.Core.Logic.{_≢_, ⊎-elim}
-use mathlib.Core.Bool.{Bool, true, false, _&&_}
-use mathlib.Core.List.{List, _++_}
-use Prim.Native.Nat.{ℕ, suc, _+_, _*_, _≤_, _<_}
-use native.Mathlib.Decide.{ℕ-discrete}
+use mathlib.Core.Path.{◌≡◌, refl, sym, ap, ap₂, ◌∙◌}
+use mathlib.Core.Logic.{◌≢◌, ⊎_elim}
+use mathlib.Core.Bool.{Bool, ◌&&◌}
+use mathlib.Core.List.{List, ◌++◌}
+use Prim.Native.Nat.{ℕ, suc, ◌+◌, ◌*◌, ◌≤◌, ◌<◌}
+use native.Mathlib.Decide.{ℕ_discrete}
 use native.Mathlib.Numerals.{add-one}
 use native.Mathlib.Omega.{arith}
-use lib.Dec.{T, ltb, lt→ltb}
-use Rattle·numbers.specs.Finite.{lowest, sumIn}
-use Rattle·numbers.specs.Lists.{at}
-use Rattle·numbers.specs.Word.{bit}
-use Rattle·numbers.proofs.Truth.{along, is-true, le-or-lt}
-use Rattle·numbers.proofs.Finite.{sumIn-eq, lowest-has, lowest-below}
-use Rattle·numbers.proofs.Word.{bit-word}
-use Rattle·rules.specs.Bounds.{max-slots}
-use Rattle·rules.specs.Bus.{Table, Labelled, uses}
-use Rattle·rules.specs.Loads as loads
-use Rattle·rules.specs.Parties.{ours, theirs, owns, own, overLimit}
-use Rattle·rules.specs.Refusals.{Check, Answers, over-limit, segment-checks, limit-checks}
-use Rattle·rules.proofs.Answers.{None, Numbered, stopped, joined, answered, none-of, numbered-join}
-use Rattle·rules.proofs.Answers.{single-none, single-numbered, single-stopped}
-use Rattle·table.specs.declared.Answer.{Answer}
-use Rattle·ring.specs.Route.{rowSegments}
-use Rattle·lags.proofs.Intervals.{rate-le}
-use Rattle·limited·specs.specs.Limits.{party, RatesFit, weightOn, Limited, OverAt, FirstOf}
-use Rattle·limited·proofs.proofs.Own.{over-among}
+use lib.Dec.{ltb, lt→ltb}
+use Rattle.numbers.specs.Finite.{lowest, sum_in}
+use Rattle.numbers.specs.Lists.{at}
+use Rattle.numbers.specs.Word.{bit}
+use Rattle.numbers.proofs.Truth.{along, is_true, le_or_lt}
+use Rattle.numbers.proofs.Finite.{sum_in_eq, lowest_has, lowest_below}
+use Rattle.numbers.proofs.Word.{bit_word}
+use Rattle.rules.specs.Bus.{Table, Labelled, uses}
+use Rattle.rules.specs.Loads as loads
+use Rattle.rules.specs.Parties.{ours, theirs, owns, own, is_over_limit}
+use Rattle.rules.specs.Refusals.{Check, Answers, over_limit, segment_checks, limit_checks}
+use Rattle.rules.proofs.Answers.{None, Numbered, stopped, joined, answered, none_of, numbered_join}
+use Rattle.rules.proofs.Answers.{single_none, single_numbered, single_stopped}
+use Rattle.table.specs.declared.Answer.{Answer}
+use Rattle.ring.specs.Route.{row_segments}
+use Rattle.lags.proofs.Intervals.{rate_le}
+use Rattle.limited.specs.Limits.{party, RatesFit, weight_on, Limited, OverAt, FirstOf}
+use Rattle.limited.proofs.Own.{over_among}
 
 module _ {t : Table} {M n h : ℕ} {rate words : List ℕ} (L : Limited t M n h rate words) where
-  pub limited-small : RatesFit n rate
-  limited-small = record {
-    few = omega (arith, L .rows-is, L .sound .rows-high);
+  pub limited_small : RatesFit n rate
+  limited_small = record {
+    few = omega (arith, L.rows_is, L.sound.rows_high);
     small = λ i l.
-        let m : i < t .rows = omega (arith, L .rows-is) in
-        omega (arith, L .rate-is .row i m, rate-le (L .sound) i m, L .short);
+        let m : i < t.rows = omega (arith, L.rows_is) in
+        omega (arith, L.rate_is.row i m, rate_le L.sound i m, L.short);
   }
 
-  uses-is : (i s : ℕ) → i < t .rows → s < t .elements → bit (at words i) s ≡ uses t i (suc s)
-  unfolding rowSegments uses
-  uses-is i s l k =
-      ap (λ (w : ℕ). bit w s) (L .segments-is .row i l) ∙ bit-word (t .elements) _ s
-      ∙ ap (λ (c : Bool). c && uses t i (suc s)) (is-true (ltb s (t .elements)) (lt→ltb s (t .elements) k))
+  uses_is : (i s : ℕ) → i < t.rows → s < t.elements → bit (at words i) s ≡ uses t i (suc s)
+  unfolding row_segments uses
+  uses_is i s l k =
+      ap (λ (w : ℕ). bit w s) (L.segments_is.row i l) ∙ bit_word t.elements _ s
+      ∙ ap (λ (c : Bool). c && uses t i (suc s)) (is_true (ltb s t.elements) (lt→ltb s t.elements k))
 
   module _ (label : List ℕ) (b : Bool) (limit : ℕ) where
     abbrev alone : Table
     alone = own (party b) (record { table = t; label = at label })
 
     abbrev test : ℕ → Bool
-    test s = ltb (limit * h) (1000 * weightOn n rate words label b s)
+    test s = ltb (limit * h) (1000 * weight_on n rate words label b s)
 
-    weight-is : (s : ℕ) → s < t .elements
-        → weightOn n rate words label b s ≡ sumIn (t .rows) (λ i. owns (party b) (at label i) && uses t i (suc s)) (loads.rate t)
-    unfolding weightOn
-    weight-is s k =
-        ap (λ (m : ℕ). sumIn m (λ i. owns (party b) (at label i) && bit (at words i) s) (at rate)) (L .rows-is)
-        ∙ sumIn-eq (t .rows) (λ i. owns (party b) (at label i) && bit (at words i) s)
+    weight_is : (s : ℕ) → s < t.elements
+        → weight_on n rate words label b s ≡ sum_in t.rows (λ i. owns (party b) (at label i) && uses t i (suc s)) (loads.rate t)
+    unfolding weight_on
+    weight_is s k =
+        ap (λ (m : ℕ). sum_in m (λ i. owns (party b) (at label i) && bit (at words i) s) (at rate)) L.rows_is
+        ∙ sum_in_eq t.rows (λ i. owns (party b) (at label i) && bit (at words i) s)
         (λ i. owns (party b) (at label i) && uses t i (suc s)) (at rate) (loads.rate t)
-        (λ i l. ap (λ (c : Bool). owns (party b) (at label i) && c) (uses-is i s l k))
-        (λ i l u. L .rate-is .row i l)
+        (λ i l. ap (λ (c : Bool). owns (party b) (at label i) && c) (uses_is i s l k))
+        (λ i l u. L.rate_is.row i l)
 
-    over-is : (s : ℕ) → s < t .elements → overLimit alone limit (suc s) ≡ test s
-    over-is s k =
-        over-among (party b) (record { table = t; label = at label }) (L .sound) (L .one-ring) limit (suc s)
-        ∙ ap₂ (λ (x y : ℕ). ltb (limit * x) (1000 * y)) (sym (L .hyper-is)) (sym (weight-is s k))
+    over_is : (s : ℕ) → s < t.elements → is_over_limit alone limit (suc s) ≡ test s
+    over_is s k =
+        over_among (party b) (record { table = t; label = at label }) L.sound L.one_ring limit (suc s)
+        ∙ ap₂ (λ (x y : ℕ). ltb (limit * x) (1000 * y)) (sym L.hyper_is) (sym (weight_is s k))
 
-    alone-elements : alone .elements ≡ t .elements
+    alone_elements : alone.elements ≡ t.elements
     unfolding own
-    alone-elements = refl
+    alone_elements = refl
 
     module _ (number r : ℕ) (e : r ≡ lowest M test) where
-      limit-refused : number ≢ 0 → r < M → Answers (segment-checks number alone limit) number (r + 1)
-      unfolding segment-checks
-      limit-refused z l =
+      limit_refused : number ≢ 0 → r < M → Answers (segment_checks number alone limit) number (r + 1)
+      unfolding segment_checks
+      limit_refused z l =
           rw add-one
-          (single-stopped (λ s. over-limit number alone limit (suc s)) (alone .elements) r
-          (omega (arith, alone-elements, L .elements-is)) z
-          (λ j k u. lowest-below M test j (omega (arith, e)) (along (over-is j (omega (arith, L .elements-is))) u))
-          (along (sym (over-is r (omega (arith, L .elements-is)))) (rw e (lowest-has M test (omega (arith, e))))))
+          (single_stopped (λ s. over_limit number alone limit (suc s)) alone.elements r
+          (omega (arith, alone_elements, L.elements_is)) z
+          (λ j k u. lowest_below M test j (omega (arith, e)) (along (over_is j (omega (arith, L.elements_is))) u))
+          (along (sym (over_is r (omega (arith, L.elements_is)))) (rw e (lowest_has M test (omega (arith, e))))))
 
-      limit-none : M ≤ r → None (segment-checks number alone limit)
-      unfolding segment-checks
-      limit-none l =
-          single-none (λ s. over-limit number alone limit (suc s)) (alone .elements)
+      limit_none : M ≤ r → None (segment_checks number alone limit)
+      unfolding segment_checks
+      limit_none l =
+          single_none (λ s. over_limit number alone limit (suc s)) alone.elements
           (λ s k u.
-          let m : s < t .elements = omega (arith, alone-elements, k) in
-          lowest-below M test s (omega (arith, e, L .elements-is)) (along (over-is s m) u))
+          let m : s < t.elements = omega (arith, alone_elements, k) in
+          lowest_below M test s (omega (arith, e, L.elements_is)) (along (over_is s m) u))
 
       -- what is answered of a party
-      pub limit-answers : number ≢ 0 → (a : Answer) → OverAt number M r a
-          → Answers (segment-checks number alone limit) (a .number) (a .place)
-      limit-answers z a O =
-          ⊎-elim
-          (λ l. rw (O .within l .0, O .within l .1) (answered (segment-checks number alone limit) (limit-none l)))
-          (λ l. rw (O .over l .0, O .over l .1) (limit-refused z l))
-          (le-or-lt M r)
+      pub limit_answers : number ≢ 0 → (a : Answer) → OverAt number M r a
+          → Answers (segment_checks number alone limit) a.number a.place
+      limit_answers z a O =
+          ⊎_elim
+          (λ l. rw ((O.within l).0, (O.within l).1) (answered (segment_checks number alone limit) (limit_none l)))
+          (λ l. rw ((O.over l).0, (O.over l).1) (limit_refused z l))
+          (le_or_lt M r)
 
-pub segment-numbered : (number : ℕ) (t : Table) (limit : ℕ) → number ≢ 0 → Numbered (segment-checks number t limit)
-unfolding segment-checks
-segment-numbered number t limit z = single-numbered (λ s. over-limit number t limit (suc s)) (t .elements) (λ s. z)
+pub segment_numbered : (number : ℕ) (t : Table) (limit : ℕ) → number ≢ 0 → Numbered (segment_checks number t limit)
+unfolding segment_checks
+segment_numbered number t limit z = single_numbered (λ s. over_limit number t limit (suc s)) t.elements (λ s. z)
 
 -- 21 for all segments, then 22
 module _ (t : Labelled) (our their : ℕ) where
-  abbrev of-ours : List Check
-  of-ours = segment-checks 21 (own ours t) our
+  abbrev of_ours : List Check
+  of_ours = segment_checks 21 (own ours t) our
 
-  abbrev of-theirs : List Check
-  of-theirs = segment-checks 22 (own theirs t) their
+  abbrev of_theirs : List Check
+  of_theirs = segment_checks 22 (own theirs t) their
 
-  pub both-answer : {a b r : Answer} → Answers of-ours (a .number) (a .place) → Answers of-theirs (b .number) (b .place) → FirstOf a b r
-      → Answers (limit-checks t our their) (r .number) (r .place)
-  unfolding limit-checks
-  both-answer {a} {b} {r} A B F = go (ℕ-discrete (a .number) 0)
+  pub both_answer : {a b r : Answer} → Answers of_ours a.number a.place → Answers of_theirs b.number b.place → FirstOf a b r
+      → Answers (limit_checks t our their) r.number r.place
+  unfolding limit_checks
+  both_answer {a} {b} {r} A B F = go (ℕ_discrete a.number 0)
     where
-      go : Dec (a .number ≡ 0) → Answers (of-ours ++ of-theirs) (r .number) (r .place)
+      go : Dec (a.number ≡ 0) → Answers (of_ours ++ of_theirs) r.number r.place
       go (yes z) =
-          rw (F .passed z)
-          (joined of-ours of-theirs (b .number) (b .place)
-          (none-of of-ours (a .place) (segment-numbered 21 (own ours t) our (omega arith)) (rw z at A)) B)
-      go (no h) = rw (F .refused h) (stopped of-ours of-theirs (a .number) (a .place) h A)
+          rw (F.passed z)
+          (joined of_ours of_theirs b.number b.place
+          (none_of of_ours a.place (segment_numbered 21 (own ours t) our (omega arith)) (rw z at A)) B)
+      go (no h) = rw (F.refused h) (stopped of_ours of_theirs a.number a.place h A)
 
-  pub limit-numbered : Numbered (limit-checks t our their)
-  unfolding limit-checks
-  limit-numbered =
-      numbered-join of-ours of-theirs (segment-numbered 21 (own ours t) our (omega arith))
-      (segment-numbered 22 (own theirs t) their (omega arith))
+  pub limit_numbered : Numbered (limit_checks t our their)
+  unfolding limit_checks
+  limit_numbered =
+      numbered_join of_ours of_theirs (segment_numbered 21 (own ours t) our (omega arith))
+      (segment_numbered 22 (own theirs t) their (omega arith))

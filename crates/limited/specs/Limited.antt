@@ -1,8 +1,7 @@
 -- The checks of a table with labels within limits, past those of a table as it is given: 10 and 11, 21 and 22, 13 and 14.
-use mathlib.Core.List.{List, _++_}
-use Prim.Native.Nat.{ℕ}
-use Rattle·rules.specs.Bus.{Labelled}
-use Rattle·rules.specs.Refusals.{Check, line-checks, limit-checks, bound-checks}
+use Rattle.std.specs.Prelude.{List, ◌++◌, ℕ}
+use Rattle.rules.specs.Bus.{Labelled}
+use Rattle.rules.specs.Refusals.{Check, line_checks, limit_checks, bound_checks}
 
-abbrev pub within-checks : Labelled → (our their : ℕ) → List Check
-within-checks t our their = line-checks (t .table) ++ (limit-checks t our their ++ bound-checks (t .table))
+abbrev pub within_checks : Labelled → (our their : ℕ) → List Check
+within_checks t our their = line_checks t.table ++ (limit_checks t our their ++ bound_checks t.table)

@@ -2,38 +2,34 @@
 --
 --   party b            the second maker's where b holds, else ours
 --   RatesFit n xs      no rate of n rows is above 4096
---   weightOn n ..      what a party's rows among n weigh on the segment whose bit is s
+--   weight_on n ..      what a party's rows among n weigh on the segment whose bit is s
 --   labelled t xs      the table t with the labels xs
 --   Limited t ..       the table t is sound, has one ring and a short h, and its rates and words of segments are these
 --   OverAt n M s r     r answers with number n and segment s, counted from 0, or with 0 where s is none of M
 --   FirstOf a b r      r is a where a refuses, else b
-use mathlib.Core.Path.{_≡_}
-use mathlib.Core.Logic.{_≢_}
-use mathlib.Core.Bool.{Bool, _&&_, cond}
-use mathlib.Core.List.{List}
-use Prim.Native.Nat.{ℕ, _+_, _≤_, _<_}
-use Rattle·numbers.specs.Finite.{sumIn}
-use Rattle·numbers.specs.Lists.{at}
-use Rattle·numbers.specs.Word.{bit}
-use Rattle·rules.specs.Bounds.{max-rows, max-slots}
-use Rattle·rules.specs.Bus.{Table, Labelled}
-use Rattle·rules.specs.Loads.{hyperperiod}
-use Rattle·rules.specs.Loads as loads
-use Rattle·rules.specs.Parties.{Party, ours, theirs, owns}
-use Rattle·table.specs.Sound.{Sound}
-use Rattle·table.specs.Columns.{ByRow}
-use Rattle·table.specs.declared.Answer.{Answer}
-use Rattle·ring.specs.Route as route
+use Rattle.std.specs.Prelude.{◌≡◌, ◌≢◌, Bool, ◌&&◌, cond, List, ℕ, ◌+◌, ◌≤◌, ◌<◌}
+use Rattle.numbers.specs.Finite.{sum_in}
+use Rattle.numbers.specs.Lists.{at}
+use Rattle.numbers.specs.Word.{bit}
+use Rattle.rules.specs.Bounds.{max_rows, max_slots}
+use Rattle.rules.specs.Bus.{Table, Labelled}
+use Rattle.rules.specs.Loads.{hyperperiod}
+use Rattle.rules.specs.Loads as loads
+use Rattle.rules.specs.Parties.{Party, ours, theirs, owns}
+use Rattle.table.specs.Sound.{Sound}
+use Rattle.table.specs.Columns.{ByRow}
+use Rattle.table.specs.declared.Answer.{Answer}
+use Rattle.ring.specs.Route as route
 
 abbrev pub party : Bool → Party
 party b = cond b theirs ours
 
 pub record RatesFit (n : ℕ) (xs : List ℕ) : Type 0 where
-  pub few : n ≤ max-rows
-  pub small : (i : ℕ) → i < n → at xs i ≤ max-slots
+  pub few : n ≤ max_rows
+  pub small : (i : ℕ) → i < n → at xs i ≤ max_slots
 
-unfoldable pub weightOn : (n : ℕ) (rate segments label : List ℕ) → Bool → ℕ → ℕ
-weightOn n rate segments label b s = sumIn n (λ i. owns (party b) (at label i) && bit (at segments i) s) (at rate)
+unfoldable pub weight_on : (n : ℕ) (rate segments label : List ℕ) → Bool → ℕ → ℕ
+weight_on n rate segments label b s = sum_in n (λ i. owns (party b) (at label i) && bit (at segments i) s) (at rate)
 
 -- a table with the labels of an array
 abbrev pub labelled : Table → List ℕ → Labelled
@@ -41,18 +37,18 @@ labelled t label = record { table = t; label = at label }
 
 pub record Limited (t : Table) (elements rows hyper : ℕ) (rate segments : List ℕ) : Type 0 where
   pub sound : Sound t
-  pub one-ring : t .rings ≡ 1
-  pub elements-is : elements ≡ t .elements
-  pub rows-is : rows ≡ t .rows
-  pub hyper-is : hyper ≡ hyperperiod t
-  pub short : hyperperiod t ≤ max-slots
-  pub rate-is : ByRow (t .rows) (loads.rate t) rate
-  pub segments-is : ByRow (t .rows) (λ i. route.rowSegments (t .elements) (t .way i) (t .first i) (t .second i)) segments
+  pub one_ring : t.rings ≡ 1
+  pub elements_is : elements ≡ t.elements
+  pub rows_is : rows ≡ t.rows
+  pub hyper_is : hyper ≡ hyperperiod t
+  pub short : hyperperiod t ≤ max_slots
+  pub rate_is : ByRow t.rows (loads.rate t) rate
+  pub segments_is : ByRow t.rows (λ i. route.row_segments t.elements (t.way i) (t.first i) (t.second i)) segments
 
 pub record OverAt (number elements s : ℕ) (r : Answer) : Type 0 where
-  pub over : s < elements → (r .number ≡ number) × (r .place ≡ s + 1)
-  pub within : elements ≤ s → (r .number ≡ 0) × (r .place ≡ 0)
+  pub over : s < elements → (r.number ≡ number) × (r.place ≡ s + 1)
+  pub within : elements ≤ s → (r.number ≡ 0) × (r.place ≡ 0)
 
 pub record FirstOf (first second r : Answer) : Type 0 where
-  pub refused : first .number ≢ 0 → r ≡ first
-  pub passed : first .number ≡ 0 → r ≡ second
+  pub refused : first.number ≢ 0 → r ≡ first
+  pub passed : first.number ≡ 0 → r ≡ second

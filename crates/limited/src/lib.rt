@@ -1,38 +1,34 @@
 // The verdict, a step and the whole plan with a limit for each of two parties (#108): 23 before all else, and 21 and 22 between the
 // outline's refusals and those of the bound. One ring alone is taken. Limits refuse, and choose nothing: the words are those without.
+#![tactic(auto)]
+
 mod limits;
 
+ghost use Rattle.std.specs.Prelude.{◌≡◌, ◌||◌, ◌≤◌, ltb};
+ghost use Rattle.rules.specs.Parties.{max_limit};
+ghost use Rattle.rules.specs.TableFile.{file_table};
+ghost use Rattle.rules.specs.Refusals.{limited_checks};
+ghost use Rattle.rules.specs.Calls.{limited_ask, Judged};
+ghost use Rattle.table.specs.Sound.{Sound};
+ghost use Rattle.table.specs.Columns.{table_of};
+ghost use Rattle.limited.specs.Limits.{labelled};
+ghost use Rattle.verdict.specs.Analysed.{blank, Analysed};
+ghost use Rattle.verdict.specs.Verdict.{number_of, place_of, cut_of, other_of, interval_of, hyper_of, load_of, sets_of};
+ghost use Rattle.planner.specs.Answers.{StepAnswer, PlanAnswer};
+ghost use Rattle.limited.specs.Limited.{within_checks};
+
 pub use limits::Limits;
-use planner::MovedOn;
-use planner::Planner;
-use table::Answer;
-use table::Columns;
-use table::Table;
-use verdict::Analysis;
-use verdict::Verdict;
-ghost use mathlib.Core.Path.{_≡_};
-ghost use mathlib.Core.Bool.{_||_};
-ghost use Prim.Native.Nat.{_≤_};
-ghost use lib.Dec.{ltb};
-ghost use Rattle·rules.specs.Parties.{max-limit};
-ghost use Rattle·rules.specs.TableFile.{fileTable};
-ghost use Rattle·rules.specs.Refusals.{limited-checks};
-ghost use Rattle·rules.specs.Calls.{limitedAsk, Judged};
-ghost use Rattle·table.specs.Sound.{Sound};
-ghost use Rattle·table.specs.Columns.{tableOf};
-ghost use Rattle·limited·specs.specs.Limits.{labelled};
-ghost use Rattle·verdict.specs.Analysed.{blank, Analysed};
-ghost use Rattle·verdict.specs.Verdict.{numberOf, placeOf, cutOf, otherOf, intervalOf, hyperOf, loadOf, setsOf};
-ghost use Rattle·planner.specs.Answers.{StepAnswer, PlanAnswer};
-ghost use Rattle·limited·specs.specs.Limited.{within-checks};
+use planner::{MovedOn, Planner};
+use table::{Answer, Columns, Table};
+use verdict::{Analysis, Verdict};
 
 // ---- the analysis and the verdict
 
 // The analysis of a table with labels and one ring: 10 and 11, then 21 and 22, then 13 and 14.
 fn analysis_within(columns: Columns, label: &[u16; Table::ROWS], limits: Limits) -> Analysis
-    requires { ⌜ Sound (tableOf columns) × (columns .rings ≡ 1) × (limits .ours ≤ max-limit) × (limits .theirs ≤ max-limit) ⌝ }
-    ensures { λ r. ⌜ Analysed (within-checks (labelled (tableOf columns) (now (label .entry))) (limits .ours) (limits .theirs))
-        (tableOf columns) r ⌝ }
+    requires { Sound (table_of columns) × (columns.rings ≡ 1) × (limits.ours ≤ max_limit) × (limits.theirs ≤ max_limit) }
+    ensures { Analysed (within_checks (labelled (table_of columns) label.now) limits.ours limits.theirs)
+        (table_of columns) result }
 {
     let elements = columns.elements;
     let rows = columns.rows;
@@ -92,14 +88,14 @@ fn analysis_within(columns: Columns, label: &[u16; Table::ROWS], limits: Limits)
 
 // A limit is above 1,000 thousandths.
 fn are_wrong(limits: Limits) -> bool
-    ensures { λ r. ⌜ r ≡ (ltb max-limit (limits .ours) || ltb max-limit (limits .theirs)) ⌝ }
+    ensures { result ≡ (ltb max_limit limits.ours || ltb max_limit limits.theirs) }
 {
     limits.ours > Limits::MOST || limits.theirs > Limits::MOST
 }
 
 // The analysis of a file's table within limits, or the first refusal.
 pub fn analyse(file: &[u8], limits: Limits) -> Analysis
-    ensures { λ r. ⌜ Analysed (limited-checks (now (file .entry)) (limits .ours) (limits .theirs)) (fileTable (now (file .entry))) r ⌝ }
+    ensures { Analysed (limited_checks file.now limits.ours limits.theirs) (file_table file.now) result }
 {
     if are_wrong(limits) {
         return Analysis::refused(Answer::at(Answer::WRONG_LIMIT, 0));
@@ -115,8 +111,8 @@ pub fn analyse(file: &[u8], limits: Limits) -> Analysis
 
 // Whether the bus can carry the table of a file within limits.
 pub fn judge(file: &[u8], limits: Limits) -> Verdict
-    ensures { λ r. ⌜ Judged (limitedAsk (now (file .entry)) (limits .ours) (limits .theirs)) (numberOf r) (placeOf r)
-        (cutOf r) (otherOf r) (intervalOf r) (hyperOf r) (loadOf r) (setsOf r) ⌝ }
+    ensures { Judged (limited_ask file.now limits.ours limits.theirs) (number_of result) (place_of result)
+        (cut_of result) (other_of result) (interval_of result) (hyper_of result) (load_of result) (sets_of result) }
 {
     verdict::verdict_of(analyse(file, limits))
 }
@@ -125,16 +121,16 @@ pub fn judge(file: &[u8], limits: Limits) -> Verdict
 
 // One interval of a file's table within limits.
 pub fn step(p: Planner, file: &[u8], limits: Limits, out: &mut [u64]) -> MovedOn
-    ensures { λ r. ⌜ StepAnswer (limitedAsk (now (file .entry)) (limits .ours) (limits .theirs)) p r
-        (now (out .entry)) (now (out .exit)) ⌝ }
+    ensures { StepAnswer (limited_ask file.now limits.ours limits.theirs) p result
+        out.old out.new }
 {
     p.step_on(analyse(file, limits), out)
 }
 
 // The whole plan of a file's table within limits.
 pub fn whole_plan(file: &[u8], limits: Limits, plan: &mut [u64]) -> Answer
-    ensures { λ r. ⌜ PlanAnswer (limitedAsk (now (file .entry)) (limits .ours) (limits .theirs)) r
-        (now (plan .entry)) (now (plan .exit)) ⌝ }
+    ensures { PlanAnswer (limited_ask file.now limits.ours limits.theirs) result
+        plan.old plan.new }
 {
     planner::plan_on(analyse(file, limits), false, plan)
 }

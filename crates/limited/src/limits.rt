@@ -2,22 +2,20 @@
 //
 // A party's rows are weighed where they stand among all rows, over the h of all rows; that this is what they weigh alone is a law
 // (proofs/Own).
-use table::Answer;
-use table::Table;
-ghost use mathlib.Core.Path.{_≡_};
-ghost use mathlib.Core.Bool.{_&&_};
-ghost use Prim.Native.Nat.{ℕ, _*_, _<_, _≤_};
-ghost use lib.Dec.{ltb};
-ghost use Rattle·numbers.specs.Finite.{lowest, sumIn};
-ghost use Rattle·numbers.specs.Lists.{at};
-ghost use Rattle·numbers.specs.Word.{bit};
-ghost use Rattle·rules.specs.Bounds.{max-elements, max-rows, max-slots};
-ghost use Rattle·rules.specs.Bus as bus;
-ghost use Rattle·rules.specs.Parties.{max-limit, owns};
-ghost use Rattle·rules.specs.Refusals.{Answers, limit-checks};
-ghost use Rattle·limited·specs.specs.Limits.{party, RatesFit, weightOn, labelled, Limited, OverAt, FirstOf};
+ghost use Rattle.std.specs.Prelude.{◌≡◌, ◌&&◌, ℕ, ◌*◌, ◌<◌, ◌≤◌, ltb};
+ghost use Rattle.numbers.specs.Finite.{lowest, sum_in};
+ghost use Rattle.numbers.specs.Lists.{at};
+ghost use Rattle.numbers.specs.Word.{bit};
+ghost use Rattle.rules.specs.Bounds.{max_elements, max_rows, max_slots};
+ghost use Rattle.rules.specs.Bus as bus;
+ghost use Rattle.rules.specs.Parties.{max_limit, owns};
+ghost use Rattle.rules.specs.Refusals.{Answers, limit_checks};
+ghost use Rattle.limited.specs.Limits.{party, RatesFit, weight_on, labelled, Limited, OverAt, FirstOf};
+
+use table::{Answer, Table};
 
 // Each party's limit in thousandths.
+#[derive(Clone, Copy)]
 pub struct Limits {
     pub ours: u32,
     pub theirs: u32,
@@ -33,7 +31,7 @@ const THEIRS_FROM: u64 = 32768;
 
 // A row with this label is the party's.
 fn is_of(label: u64, theirs: bool) -> bool
-    ensures { λ r. ⌜ r ≡ owns (party theirs) label ⌝ }
+    ensures { result ≡ owns (party theirs) label }
 {
     let low = label < THEIRS_FROM;
     if theirs { !low } else { low }
@@ -41,8 +39,8 @@ fn is_of(label: u64, theirs: bool) -> bool
 
 // A row with this label is the party's and uses the segment whose bit is `s`.
 fn counts(label: u64, theirs: bool, segments: u32, s: usize) -> bool
-    requires { ⌜ s < max-elements ⌝ }
-    ensures { λ r. ⌜ r ≡ (owns (party theirs) label && bit segments s) ⌝ }
+    requires { s < max_elements }
+    ensures { result ≡ (owns (party theirs) label && bit segments s) }
 {
     is_of(label, theirs) && (segments >> s) % 2 == 1
 }
@@ -56,9 +54,9 @@ fn load_on<'a>(
     theirs: bool,
     s: usize,
 ) -> u64
-    requires { ⌜ RatesFit rows (now rate) × (s < max-elements) ⌝ }
-    ensures { λ r. ⌜ (r ≡ weightOn rows (now (rate .entry)) (now (segments .entry)) (now (label .entry)) theirs s)
-        × (r ≤ max-rows * max-slots) ⌝ }
+    requires { RatesFit rows rate.now × (s < max_elements) }
+    ensures { (result ≡ weight_on rows rate.now segments.now label.now theirs s)
+        × (result ≤ max_rows * max_slots) }
 {
     let mut sum: u64 = 0;
     let mut i: usize = 0;
@@ -82,9 +80,9 @@ fn lowest_over<'a>(
     theirs: bool,
     limit: u32,
 ) -> usize
-    requires { ⌜ RatesFit rows (now rate) × (elements ≤ max-elements) × (hyper ≤ max-slots) × (limit ≤ max-limit) ⌝ }
-    ensures { λ r. ⌜ r ≡ lowest elements
-        (λ s. ltb (limit * hyper) (1000 * weightOn rows (now (rate .entry)) (now (segments .entry)) (now (label .entry)) theirs s)) ⌝ }
+    requires { RatesFit rows rate.now × (elements ≤ max_elements) × (hyper ≤ max_slots) × (limit ≤ max_limit) }
+    ensures { result ≡ lowest elements
+        (λ s. ltb (limit * hyper) (1000 * weight_on rows rate.now segments.now label.now theirs s)) }
 {
     let most = limit as u64 * hyper;
     let mut s: usize = 0;
@@ -99,8 +97,8 @@ fn lowest_over<'a>(
 
 // What is answered of a party that is over its limit on segment `s`, counted from 0, or on none where `s` is no segment.
 fn over_at(number: u32, elements: usize, s: usize) -> Answer
-    requires { ⌜ elements ≤ max-elements ⌝ }
-    ensures { λ r. ⌜ OverAt number elements s r ⌝ }
+    requires { elements ≤ max_elements }
+    ensures { OverAt number elements s result }
 {
     if s < elements {
         return Answer::at(number, s + 1);
@@ -110,7 +108,7 @@ fn over_at(number: u32, elements: usize, s: usize) -> Answer
 
 // The first of two answers, where it refuses, or the second.
 fn first_of(first: Answer, second: Answer) -> Answer
-    ensures { λ r. ⌜ FirstOf first second r ⌝ }
+    ensures { FirstOf first second result }
 {
     if first.number != Answer::DONE {
         return first;
@@ -128,10 +126,10 @@ pub fn kept_within<'a>(
     label: &'a [u16; Table::ROWS],
     limits: Limits,
 ) -> Answer
-    requires { ⌜ ((t : bus.Table) × Limited t elements rows hyper (now rate) (now segments))
-        × (limits .ours ≤ max-limit) × (limits .theirs ≤ max-limit) ⌝ }
-    ensures { λ r. ⌜ ((t : bus.Table) → Limited t elements rows hyper (now (rate .entry)) (now (segments .entry))
-        → Answers (limit-checks (labelled t (now (label .entry))) (limits .ours) (limits .theirs)) (r .number) (r .place)) ⌝ }
+    requires { ((t : bus.Table) × Limited t elements rows hyper rate.now segments.now)
+        × (limits.ours ≤ max_limit) × (limits.theirs ≤ max_limit) }
+    ensures { (t : bus.Table) → Limited t elements rows hyper rate.now segments.now
+        → Answers (limit_checks (labelled t label.now) limits.ours limits.theirs) result.number result.place }
 {
     let our = lowest_over(
         elements,

@@ -1,124 +1,124 @@
 -- The entries of a list checked one after the other.
 --
 --   Checked l k least  the first k entries of list l pass check 31, and leave ranks from `least` on to those after them
-use mathlib.Core.Path.{_≡_, refl}
-use mathlib.Core.Logic.{inl, inr, ⊎-elim, _⊎_, _≢_}
-use mathlib.Core.List.{[], _∷_}
-use Prim.Native.Nat.{ℕ, zero, suc, _+_, _-_, _*_, _≤_, _<_}
+use mathlib.Core.Path.{◌≡◌, refl}
+use mathlib.Core.Logic.{inl, inr, ⊎_elim, ◌⊎◌, ◌≢◌}
+use mathlib.Core.List.{[], ◌∷◌}
+use Prim.Native.Nat.{ℕ, zero, suc, ◌+◌, ◌-◌, ◌*◌, ◌≤◌, ◌<◌}
 use native.Mathlib.Omega.{arith}
-use Rattle·numbers.specs.Lists.{each}
-use Rattle·numbers.proofs.Truth.{le-or-lt}
-use Rattle·rules.specs.ElementList.{Entry, ElementList, Rises}
-use Rattle·rules.specs.Refusals.{Answers, wrong-entry}
-use Rattle·rules.proofs.Answers.{single-none, single-stopped, answered}
-use Rattle·lists·specs.specs.Entries.{rank, Wrong, Leaves, FirstWrong, IsEntry, entryOf}
-use Rattle·lists·specs.specs.declared.Entry.{Entry as Place}
+use Rattle.numbers.specs.Lists.{each}
+use Rattle.numbers.proofs.Truth.{le_or_lt}
+use Rattle.rules.specs.ElementList.{Entry, ElementList, Rises}
+use Rattle.rules.specs.Refusals.{Answers, wrong_entry}
+use Rattle.rules.proofs.Answers.{single_none, single_stopped, answered}
+use Rattle.lists.specs.Entries.{rank, Wrong, Leaves, FirstWrong, IsEntry, entry_of}
+use Rattle.lists.specs.declared.Entry.{Entry as Place}
 
 pub record Checked (l : ElementList) (k least : ℕ) : Type 0 where
-  pub clean : (j : ℕ) → j < k → wrong-entry l j .applies → ⊥
+  pub clean : (j : ℕ) → j < k → (wrong_entry l j).applies → ⊥
   pub few : k ≤ least
-  pub within : least ≤ 2 * l .hyper
-  pub after : ((k ≡ 0) × (least ≡ 0)) ⊎ ((0 < k) × (least ≡ rank (l .entry (k - 1)) + 1) × (l .entry (k - 1) .way ≤ 1))
+  pub within : least ≤ 2 * l.hyper
+  pub after : ((k ≡ 0) × (least ≡ 0)) ⊎ ((0 < k) × (least ≡ rank (l.entry (k - 1)) + 1) × ((l.entry (k - 1)).way ≤ 1))
 
-pub checked-start : (l : ElementList) → Checked l 0 0
-checked-start l =
+pub checked_start : (l : ElementList) → Checked l 0 0
+checked_start l =
     record { clean = λ j h. absurd (let z : ⊥ = omega arith in z); few = omega arith; within = omega arith; after = inl (refl, refl) }
 
 -- ---- the next entry
 
 module _ {l : ElementList} {k least : ℕ} (C : Checked l k least) where
   abbrev x : Entry
-  x = l .entry k
+  x = l.entry k
 
   -- its rank is too low for what comes before it
-  out-of-order : rank x < least → Rises l k → ⊥
-  out-of-order h r =
-      ⊎-elim (λ z. omega (arith, z .1))
+  out_of_order : rank x < least → Rises l k → ⊥
+  out_of_order h r =
+      ⊎_elim (λ z. omega (arith, z.1))
       (λ z.
-      ⊎-elim (λ (q : k ≡ 0). omega (arith, z .0))
-      (λ b. ⊎-elim (λ (q : l .entry (k - 1) .slot < x .slot). omega (arith, z .1, z .2)) (λ q. omega (arith, z .1, q .0, q .1)) b) r)
-      (C .after)
+      ⊎_elim (λ (q : k ≡ 0). omega (arith, z.0))
+      (λ b. ⊎_elim (λ (q : (l.entry (k - 1)).slot < x.slot). omega (arith, z.1, z.2)) (λ q. omega (arith, z.1, q.0, q.1)) b) r)
+      C.after
 
   -- it is wrong, exactly if its place or its rank says so
-  is-wrong : Wrong (l .hyper) least x → wrong-entry l k .applies
-  is-wrong w = ⊎-elim inl (λ v. ⊎-elim (λ h. inr (inl h)) (λ u. inr (inr (⊎-elim inl (λ h. inr (out-of-order h)) u))) v) w
+  is_wrong : Wrong l.hyper least x → (wrong_entry l k).applies
+  is_wrong w = ⊎_elim inl (λ v. ⊎_elim (λ h. inr (inl h)) (λ u. inr (inr (⊎_elim inl (λ h. inr (out_of_order h)) u))) v) w
 
-  module _ (f : Wrong (l .hyper) least x → ⊥) where
-    low-slot : x .slot < l .hyper
-    low-slot = ⊎-elim (λ h. absurd (f (inl h))) (λ h. h) (le-or-lt (l .hyper) (x .slot))
+  module _ (f : Wrong l.hyper least x → ⊥) where
+    low_slot : x.slot < l.hyper
+    low_slot = ⊎_elim (λ h. absurd (f (inl h))) (λ h. h) (le_or_lt l.hyper x.slot)
 
-    low-way : x .way ≤ 1
-    low-way = ⊎-elim (λ h. h) (λ h. absurd (f (inr (inr (inl h))))) (le-or-lt (x .way) 1)
+    low_way : x.way ≤ 1
+    low_way = ⊎_elim (λ h. h) (λ h. absurd (f (inr (inr (inl h))))) (le_or_lt x.way 1)
 
-    high-rank : least ≤ rank x
-    high-rank = ⊎-elim (λ h. h) (λ h. absurd (f (inr (inr (inr h))))) (le-or-lt least (rank x))
+    high_rank : least ≤ rank x
+    high_rank = ⊎_elim (λ h. h) (λ h. absurd (f (inr (inr (inr h))))) (le_or_lt least (rank x))
 
     rises : Rises l k
     rises =
-        ⊎-elim (λ z. inl (z .0))
+        ⊎_elim (λ z. inl z.0)
         (λ z.
-        inr (⊎-elim
-        (λ (h : x .slot ≤ l .entry (k - 1) .slot).
-        let e : l .entry (k - 1) .slot ≡ x .slot = omega (arith, z .1, z .2, high-rank, low-way) in
-        inr (e, omega (arith, z .1, high-rank)))
+        inr (⊎_elim
+        (λ (h : x.slot ≤ (l.entry (k - 1)).slot).
+        let e : (l.entry (k - 1)).slot ≡ x.slot = omega (arith, z.1, z.2, high_rank, low_way) in
+        inr (e, omega (arith, z.1, high_rank)))
         inl
-        (le-or-lt (x .slot) (l .entry (k - 1) .slot))))
-        (C .after)
+        (le_or_lt x.slot (l.entry (k - 1)).slot)))
+        C.after
 
-    right : wrong-entry l k .applies → ⊥
-    right w = ⊎-elim (λ h. f (inl h)) (λ v. ⊎-elim (λ h. f (inr (inl h))) (λ u. ⊎-elim (λ h. f (inr (inr (inl h)))) (λ n. n rises) u) v) w
+    right : (wrong_entry l k).applies → ⊥
+    right w = ⊎_elim (λ h. f (inl h)) (λ v. ⊎_elim (λ h. f (inr (inl h))) (λ u. ⊎_elim (λ h. f (inr (inr (inl h)))) (λ n. n rises) u) v) w
 
     nearly : (j : ℕ) → j < k + 1 → (j ≡ k) ⊎ (j < k)
-    nearly j h = ⊎-elim (λ (q : k ≤ j). inl (omega arith)) inr (le-or-lt k j)
+    nearly j h = ⊎_elim (λ (q : k ≤ j). inl (omega arith)) inr (le_or_lt k j)
 
-    checked-next : Checked l (k + 1) (rank x + 1)
-    checked-next = record {
-      clean = λ j h. ⊎-elim (λ (e : j ≡ k). rw e right) (λ q. C .clean j q) (nearly j h);
-      few = omega (arith, C .few, high-rank);
-      within = omega (arith, low-slot, low-way);
-      after = let e : k + 1 - 1 ≡ k = omega arith in rw e (inr (omega arith, refl, low-way));
+    checked_next : Checked l (k + 1) (rank x + 1)
+    checked_next = record {
+      clean = λ j h. ⊎_elim (λ (e : j ≡ k). rw e right) (λ q. C.clean j q) (nearly j h);
+      few = omega (arith, C.few, high_rank);
+      within = omega (arith, low_slot, low_way);
+      after = let e : k + 1 - 1 ≡ k = omega arith in rw e (inr (omega arith, refl, low_way));
     }
 
 -- where none of n is wrong, the first k are checked
-checked-all : (l : ElementList) (n : ℕ) → ((k : ℕ) → k < n → wrong-entry l k .applies → ⊥) → (k : ℕ) → k ≤ n
+checked_all : (l : ElementList) (n : ℕ) → ((k : ℕ) → k < n → (wrong_entry l k).applies → ⊥) → (k : ℕ) → k ≤ n
     → (least : ℕ) × Checked l k least
-checked-all l n h zero m = (0, checked-start l)
-checked-all l n h (suc k) m =
-    let q = checked-all l n h k (omega arith) in
-    let C = checked-next (q .1) (λ w. h k (omega arith) (is-wrong (q .1) w)) in
+checked_all l n h zero m = (0, checked_start l)
+checked_all l n h (suc k) m =
+    let q = checked_all l n h k (omega arith) in
+    let C = checked_next q.1 (λ w. h k (omega arith) (is_wrong q.1 w)) in
     let e : k + 1 ≡ suc k = omega arith in
-    (rank (l .entry k) + 1, rw e at C)
+    (rank (l.entry k) + 1, rw e at C)
 
 -- so a list has at most two entries a slot
-pub entries-few : (l : ElementList) (n : ℕ) → ((k : ℕ) → k < n → wrong-entry l k .applies → ⊥) → n ≤ 2 * l .hyper
-entries-few l n h = let C = checked-all l n h n (omega arith) .1 in omega (arith, C .few, C .within)
+pub entries_few : (l : ElementList) (n : ℕ) → ((k : ℕ) → k < n → (wrong_entry l k).applies → ⊥) → n ≤ 2 * l.hyper
+entries_few l n h = let C = (checked_all l n h n (omega arith)).1 in omega (arith, C.few, C.within)
 
 -- ---- the first wrong one, from what the code reads of entry k and what this leaves
 
-module _ {l : ElementList} {k least m : ℕ} {x : Place} (q : IsEntry (l .entry k) x) (L : Leaves (l .hyper) least (entryOf x) m)
+module _ {l : ElementList} {k least m : ℕ} {x : Place} (q : IsEntry (l.entry k) x) (L : Leaves l.hyper least (entry_of x) m)
     (C : Checked l k least) where
-  same : Wrong (l .hyper) least (entryOf x) → Wrong (l .hyper) least (l .entry k)
-  same w = rw (q .slot, q .row, q .way) at w
+  same : Wrong l.hyper least (entry_of x) → Wrong l.hyper least (l.entry k)
+  same w = rw (q.slot, q.row, q.way) at w
 
-  pub read-next : m ≢ 0 → Checked l (k + 1) m
-  read-next n = rw (L .next n, q .slot, q .way) (checked-next C (rw (q .slot, q .row, q .way) at (L .right n)))
+  pub read_next : m ≢ 0 → Checked l (k + 1) m
+  read_next n = rw (L.next n, q.slot, q.way) (checked_next C (rw (q.slot, q.row, q.way) at (L.right n)))
 
-  pub read-stop : (n : ℕ) → k < n → m ≡ 0 → FirstWrong l n k
-  read-stop n h z = record { most = omega arith; clean = C .clean; wrong = λ y. is-wrong C (same (L .wrong z)) }
+  pub read_stop : (n : ℕ) → k < n → m ≡ 0 → FirstWrong l n k
+  read_stop n h z = record { most = omega arith; clean = C.clean; wrong = λ y. is_wrong C (same (L.wrong z)) }
 
-pub checked-end : {l : ElementList} {k least : ℕ} (n : ℕ) → Checked l k least → k ≡ n → FirstWrong l n k
-checked-end n C q = record { most = omega arith; clean = C .clean; wrong = λ y. absurd (let z : ⊥ = omega arith in z) }
+pub checked_end : {l : ElementList} {k least : ℕ} (n : ℕ) → Checked l k least → k ≡ n → FirstWrong l n k
+checked_end n C q = record { most = omega arith; clean = C.clean; wrong = λ y. absurd (let z : ⊥ = omega arith in z) }
 
 -- ---- check 31, by the first wrong one
 
 module _ {l : ElementList} {n k : ℕ} (F : FirstWrong l n k) where
-  pub first-few : k ≤ 2 * l .hyper
-  first-few = entries-few l k (F .clean)
+  pub first_few : k ≤ 2 * l.hyper
+  first_few = entries_few l k F.clean
 
-  pub first-stops : k < n → Answers (each n (λ k. wrong-entry l k ∷ [])) 31 k
-  first-stops h = single-stopped (wrong-entry l) n k h (λ z. let y : ⊥ = omega arith in y) (F .clean) (F .wrong h)
+  pub first_stops : k < n → Answers (each n (λ k. wrong_entry l k ∷ [])) 31 k
+  first_stops h = single_stopped (wrong_entry l) n k h (λ z. let y : ⊥ = omega arith in y) F.clean (F.wrong h)
 
-  pub first-none : n ≤ k → Answers (each n (λ k. wrong-entry l k ∷ [])) 0 0
-  first-none h =
-      let none : (j : ℕ) → j < n → wrong-entry l j .applies → ⊥ = λ j i. F .clean j (omega arith) in
-      answered (each n (λ k. wrong-entry l k ∷ [])) (single-none (wrong-entry l) n none)
+  pub first_none : n ≤ k → Answers (each n (λ k. wrong_entry l k ∷ [])) 0 0
+  first_none h =
+      let none : (j : ℕ) → j < n → (wrong_entry l j).applies → ⊥ = λ j i. F.clean j (omega arith) in
+      answered (each n (λ k. wrong_entry l k ∷ [])) (single_none (wrong_entry l) n none)

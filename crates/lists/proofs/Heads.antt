@@ -1,183 +1,183 @@
 -- What the checks of a list say: of a list file, and of a list in memory.
-use mathlib.Core.Path.{_≡_}
-use mathlib.Core.Logic.{inl, inr, ⊎-elim, _≢_}
-use mathlib.Core.List.{List, [], _∷_}
-use Prim.Native.Nat.{ℕ, _+_, _-_, _*_, _%_, _≤_, _<_}
+use mathlib.Core.Path.{◌≡◌}
+use mathlib.Core.Logic.{inl, inr, ⊎_elim, ◌≢◌}
+use mathlib.Core.List.{List, [], ◌∷◌}
+use Prim.Native.Nat.{ℕ, ◌+◌, ◌-◌, ◌*◌, ◌%◌, ◌≤◌, ◌<◌}
 use native.Mathlib.Omega.{arith}
 use lib.ListN.{length}
-use Rattle·numbers.specs.Lists.{each}
-use Rattle·numbers.proofs.Truth.{le-or-lt, limits, equals}
-use Rattle·rules.specs.Bounds.{max-elements, max-slots, max-rows}
-use Rattle·rules.specs.TableFile.{mark, version}
-use Rattle·rules.specs.ElementList.{
+use Rattle.numbers.specs.Lists.{each}
+use Rattle.numbers.proofs.Truth.{le_or_lt, limits, equals}
+use Rattle.rules.specs.Bounds.{max_elements, max_slots, max_rows}
+use Rattle.rules.specs.TableFile.{mark, version}
+use Rattle.rules.specs.ElementList.{
   ElementList,
-  list-mark,
-  list-version,
-  listHeader,
-  entrySize,
-  entryNumbers,
-  fileList,
-  memoryList,
+  list_mark,
+  list_version,
+  list_header,
+  entry_size,
+  entry_numbers,
+  file_list,
+  memory_list,
 }
-use Rattle·rules.specs.Refusals.{Check, Answers, wrong-list, wrong-entry, entry-checks, list-file-checks, list-memory-checks}
-use Rattle·rules.proofs.Answers.{
+use Rattle.rules.specs.Refusals.{Check, Answers, wrong_list, wrong_entry, entry_checks, list_file_checks, list_memory_checks}
+use Rattle.rules.proofs.Answers.{
   None,
   Numbered,
-  none-left,
-  none-single,
-  single-none,
-  single-numbered,
-  numbered-join,
+  none_left,
+  none_single,
+  single_none,
+  single_numbered,
+  numbered_join,
   applied,
   passed,
   stopped,
   joined,
 }
-use Rattle·table.proofs.Faults.{mark-right}
-use Rattle·lists·specs.specs.Entries.{Fit, head-checks}
+use Rattle.table.proofs.Faults.{mark_right}
+use Rattle.lists.specs.Entries.{Fit, head_checks}
 
 -- ---- the bounds and the entries
 
 -- A list that passes 30 and 31.
 pub record Right (l : ElementList) : Type 0 where
-  pub element-low : 1 ≤ l .element
-  pub element-high : l .element ≤ max-elements
-  pub hyper-low : 1 ≤ l .hyper
-  pub hyper-high : l .hyper ≤ max-slots
-  pub entry : (k : ℕ) → k < l .entries → wrong-entry l k .applies → ⊥
+  pub element_low : 1 ≤ l.element
+  pub element_high : l.element ≤ max_elements
+  pub hyper_low : 1 ≤ l.hyper
+  pub hyper_high : l.hyper ≤ max_slots
+  pub entry : (k : ℕ) → k < l.entries → (wrong_entry l k).applies → ⊥
 
 abbrev entries : ElementList → List Check
-entries l = each (l .entries) (λ k. wrong-entry l k ∷ [])
+entries l = each l.entries (λ k. wrong_entry l k ∷ [])
 
-pub none-right-list : (l : ElementList) → None (entry-checks l) → Right l
-unfolding entry-checks None
-none-right-list l a =
-    let e = limits (l .element) 1 max-elements (λ h. a .0 (inl h)) in
-    let h = limits (l .hyper) 1 max-slots (λ h. a .0 (inr h)) in
+pub none_right_list : (l : ElementList) → None (entry_checks l) → Right l
+unfolding entry_checks None
+none_right_list l a =
+    let e = limits l.element 1 max_elements (λ h. a.0 (inl h)) in
+    let h = limits l.hyper 1 max_slots (λ h. a.0 (inr h)) in
     record {
-      element-low = e .0;
-      element-high = e .1;
-      hyper-low = h .0;
-      hyper-high = h .1;
-      entry = none-single (wrong-entry l) (l .entries) (a .1);
+      element_low = e.0;
+      element_high = e.1;
+      hyper_low = h.0;
+      hyper_high = h.1;
+      entry = none_single (wrong_entry l) l.entries a.1;
     }
 
-pub right-list-none : (l : ElementList) → Right l → None (entry-checks l)
-unfolding entry-checks None
-right-list-none l r = (
-  ⊎-elim (λ h. h (r .element-low, r .element-high)) (λ h. h (r .hyper-low, r .hyper-high)),
-  single-none (wrong-entry l) (l .entries) (r .entry),
+pub right_list_none : (l : ElementList) → Right l → None (entry_checks l)
+unfolding entry_checks None
+right_list_none l r = (
+  ⊎_elim (λ h. h (r.element_low, r.element_high)) (λ h. h (r.hyper_low, r.hyper_high)),
+  single_none (wrong_entry l) l.entries r.entry,
 )
 
 -- what fits a list fits its file
-pub right-fits : {l : ElementList} → Right l → Fit (l .entries) (l .entry)
-right-fits {l} r = record {
-  row = λ k h. ⊎-elim (λ z. absurd (r .entry k h (inr (inl z)))) (λ z. omega arith) (le-or-lt max-rows (l .entry k .row));
-  way = λ k h. ⊎-elim (λ z. omega arith) (λ z. absurd (r .entry k h (inr (inr (inl z))))) (le-or-lt (l .entry k .way) 1);
+pub right_fits : {l : ElementList} → Right l → Fit l.entries l.entry
+right_fits {l} r = record {
+  row = λ k h. ⊎_elim (λ z. absurd (r.entry k h (inr (inl z)))) (λ z. omega arith) (le_or_lt max_rows (l.entry k).row);
+  way = λ k h. ⊎_elim (λ z. omega arith) (λ z. absurd (r.entry k h (inr (inr (inl z))))) (le_or_lt (l.entry k).way 1);
 }
 
-entries-numbered : (l : ElementList) → Numbered (entries l)
-entries-numbered l = single-numbered (wrong-entry l) (l .entries) (λ k z. let y : ⊥ = omega arith in y)
+entries_numbered : (l : ElementList) → Numbered (entries l)
+entries_numbered l = single_numbered (wrong_entry l) l.entries (λ k z. let y : ⊥ = omega arith in y)
 
 -- ---- a list file
 
-pub head-numbered : (f : List ℕ) → Numbered (head-checks f)
+pub head_numbered : (f : List ℕ) → Numbered (head_checks f)
 unfolding Numbered
-head-numbered f = omega arith
+head_numbered f = omega arith
 
-pub file-numbered : (f : List ℕ) → Numbered (list-file-checks f)
-unfolding list-file-checks entry-checks
-file-numbered f = numbered-join (head-checks f) (entries (fileList f)) (head-numbered f) (entries-numbered (fileList f))
+pub file_numbered : (f : List ℕ) → Numbered (list_file_checks f)
+unfolding list_file_checks entry_checks
+file_numbered f = numbered_join (head_checks f) (entries (file_list f)) (head_numbered f) (entries_numbered (file_list f))
 
-pub file-stopped : (f : List ℕ) (n p : ℕ) → n ≢ 0 → Answers (head-checks f) n p → Answers (list-file-checks f) n p
-unfolding list-file-checks entry-checks
-file-stopped f n p h a = stopped (head-checks f) (entries (fileList f)) n p h a
+pub file_stopped : (f : List ℕ) (n p : ℕ) → n ≢ 0 → Answers (head_checks f) n p → Answers (list_file_checks f) n p
+unfolding list_file_checks entry_checks
+file_stopped f n p h a = stopped (head_checks f) (entries (file_list f)) n p h a
 
-pub file-joined : (f : List ℕ) (n p : ℕ) → None (head-checks f) → Answers (entries (fileList f)) n p → Answers (list-file-checks f) n p
-unfolding list-file-checks entry-checks
-file-joined f n p a h = joined (head-checks f) (entries (fileList f)) n p a h
+pub file_joined : (f : List ℕ) (n p : ℕ) → None (head_checks f) → Answers (entries (file_list f)) n p → Answers (list_file_checks f) n p
+unfolding list_file_checks entry_checks
+file_joined f n p a h = joined (head_checks f) (entries (file_list f)) n p a h
 
 -- A file that passes 1, 2, 3, 6, 30 and 31.
 pub record ListPassed (f : List ℕ) : Type 0 where
-  pub long : listHeader ≤ length f
-  pub marked : mark f ≡ list-mark
-  pub versioned : version f ≡ list-version
-  pub size : length f ≡ listHeader + entrySize * fileList f .entries
+  pub long : list_header ≤ length f
+  pub marked : mark f ≡ list_mark
+  pub versioned : version f ≡ list_version
+  pub size : length f ≡ list_header + entry_size * (file_list f).entries
 
 -- of its head
-pub head-passed : (f : List ℕ) → None (head-checks f) → ListPassed f
+pub head_passed : (f : List ℕ) → None (head_checks f) → ListPassed f
 unfolding None
-head-passed f a =
-    let l : listHeader ≤ length f = ⊎-elim (λ h. h) (λ h. absurd (a .0 h)) (le-or-lt listHeader (length f)) in
-    let r : (length f - listHeader) % entrySize ≡ 0 = equals _ 0 (a .1 .1 .1 .0) in
+head_passed f a =
+    let l : list_header ≤ length f = ⊎_elim (λ h. h) (λ h. absurd (a.0 h)) (le_or_lt list_header (length f)) in
+    let r : (length f - list_header) % entry_size ≡ 0 = equals _ 0 a.1.1.1.0 in
     record {
       long = l;
-      marked = mark-right f (omega arith) (a .1 .0);
-      versioned = equals (version f) list-version (a .1 .1 .0);
+      marked = mark_right f (omega arith) a.1.0;
+      versioned = equals (version f) list_version a.1.1.0;
       size = omega (arith, r);
     }
 
-pub head-hyper : (f : List ℕ) → None (head-checks f) → fileList f .hyper ≤ max-slots
+pub head_hyper : (f : List ℕ) → None (head_checks f) → (file_list f).hyper ≤ max_slots
 unfolding None
-head-hyper f a = limits (fileList f .hyper) 1 max-slots (λ h. a .1 .1 .1 .1 .0 (inr h)) .1
+head_hyper f a = (limits (file_list f).hyper 1 max_slots (λ h. a.1.1.1.1.0 (inr h))).1
 
-pub file-head : (f : List ℕ) → None (list-file-checks f) → None (head-checks f)
-unfolding list-file-checks entry-checks
-file-head f a = none-left (head-checks f) (entries (fileList f)) a
+pub file_head_lem : (f : List ℕ) → None (list_file_checks f) → None (head_checks f)
+unfolding list_file_checks entry_checks
+file_head_lem f a = none_left (head_checks f) (entries (file_list f)) a
 
-file-rest : (f : List ℕ) → None (list-file-checks f) → None (entry-checks (fileList f))
-unfolding list-file-checks None
-file-rest f a = a .1 .1 .1 .1
+file_rest : (f : List ℕ) → None (list_file_checks f) → None (entry_checks (file_list f))
+unfolding list_file_checks None
+file_rest f a = a.1.1.1.1
 
-pub file-right : (f : List ℕ) → None (list-file-checks f) → Right (fileList f)
-file-right f a = none-right-list (fileList f) (file-rest f a)
+pub file_right : (f : List ℕ) → None (list_file_checks f) → Right (file_list f)
+file_right f a = none_right_list (file_list f) (file_rest f a)
 
-pub passed-none : (f : List ℕ) → ListPassed f → Right (fileList f) → None (list-file-checks f)
-unfolding list-file-checks None
-passed-none f p r = (
-  λ h. let z : ⊥ = omega (arith, p .long) in z,
-  (λ h. h (p .marked), (λ h. h (p .versioned), (λ h. h (omega (arith, p .size)), right-list-none (fileList f) r))),
+pub passed_none : (f : List ℕ) → ListPassed f → Right (file_list f) → None (list_file_checks f)
+unfolding list_file_checks None
+passed_none f p r = (
+  λ h. let z : ⊥ = omega (arith, p.long) in z,
+  (λ h. h p.marked, (λ h. h p.versioned, (λ h. h (omega (arith, p.size)), right_list_none (file_list f) r))),
 )
 
 -- ---- a list in memory
 
-pub memory-numbered : (e h : ℕ) (xs : List ℕ) → Numbered (list-memory-checks e h xs)
-unfolding list-memory-checks entry-checks Numbered
-memory-numbered e h xs = (omega arith, (omega arith, entries-numbered (memoryList e h xs)))
+pub memory_numbered : (e h : ℕ) (xs : List ℕ) → Numbered (list_memory_checks e h xs)
+unfolding list_memory_checks entry_checks Numbered
+memory_numbered e h xs = (omega arith, (omega arith, entries_numbered (memory_list e h xs)))
 
 module _ (e h : ℕ) (xs : List ℕ) where
-  pub memory-right : None (list-memory-checks e h xs) → Right (memoryList e h xs)
-  unfolding list-memory-checks None
-  memory-right a = none-right-list (memoryList e h xs) (a .1)
+  pub memory_right : None (list_memory_checks e h xs) → Right (memory_list e h xs)
+  unfolding list_memory_checks None
+  memory_right a = none_right_list (memory_list e h xs) a.1
 
-  pub memory-whole : None (list-memory-checks e h xs) → length xs ≡ entryNumbers * memoryList e h xs .entries
-  unfolding list-memory-checks None
-  memory-whole a = let r : length xs % entryNumbers ≡ 0 = equals _ 0 (a .0) in omega (arith, r)
+  pub memory_whole : None (list_memory_checks e h xs) → length xs ≡ entry_numbers * (memory_list e h xs).entries
+  unfolding list_memory_checks None
+  memory_whole a = let r : length xs % entry_numbers ≡ 0 = equals _ 0 a.0 in omega (arith, r)
 
-  pub right-memory : length xs ≡ entryNumbers * memoryList e h xs .entries → Right (memoryList e h xs) → None (list-memory-checks e h xs)
-  unfolding list-memory-checks None
-  right-memory s r = (λ h. h (omega (arith, s)), right-list-none (memoryList e h xs) r)
+  pub right_memory : length xs ≡ entry_numbers * (memory_list e h xs).entries → Right (memory_list e h xs) → None (list_memory_checks e h xs)
+  unfolding list_memory_checks None
+  right_memory s r = (λ h. h (omega (arith, s)), right_list_none (memory_list e h xs) r)
 
   -- 6 refuses; 30 does; the entries decide
-  pub memory-part : (n p : ℕ) → length xs % entryNumbers ≢ 0 → (n ≡ 6) × (p ≡ 0) → Answers (list-memory-checks e h xs) n p
-  unfolding list-memory-checks
-  memory-part n p l q = applied _ _ n p l (q .0) (q .1)
+  pub memory_part : (n p : ℕ) → length xs % entry_numbers ≢ 0 → (n ≡ 6) × (p ≡ 0) → Answers (list_memory_checks e h xs) n p
+  unfolding list_memory_checks
+  memory_part n p l q = applied _ _ n p l q.0 q.1
 
-  module _ (w : length xs % entryNumbers ≡ 0) where
-    pub memory-bounds : (n p : ℕ) → n ≢ 0 → Answers (wrong-list (memoryList e h xs) ∷ []) n p → Answers (list-memory-checks e h xs) n p
-    unfolding list-memory-checks entry-checks
-    memory-bounds n p z a = passed _ _ n p (λ q. q w) (stopped (wrong-list (memoryList e h xs) ∷ []) (entries (memoryList e h xs)) n p z a)
+  module _ (w : length xs % entry_numbers ≡ 0) where
+    pub memory_bounds : (n p : ℕ) → n ≢ 0 → Answers (wrong_list (memory_list e h xs) ∷ []) n p → Answers (list_memory_checks e h xs) n p
+    unfolding list_memory_checks entry_checks
+    memory_bounds n p z a = passed _ _ n p (λ q. q w) (stopped (wrong_list (memory_list e h xs) ∷ []) (entries (memory_list e h xs)) n p z a)
 
-    pub memory-entries : (n p : ℕ) → None (wrong-list (memoryList e h xs) ∷ []) → Answers (entries (memoryList e h xs)) n p
-        → Answers (list-memory-checks e h xs) n p
-    unfolding list-memory-checks entry-checks
-    memory-entries n p z a = passed _ _ n p (λ q. q w) (joined (wrong-list (memoryList e h xs) ∷ []) (entries (memoryList e h xs)) n p z a)
+    pub memory_entries : (n p : ℕ) → None (wrong_list (memory_list e h xs) ∷ []) → Answers (entries (memory_list e h xs)) n p
+        → Answers (list_memory_checks e h xs) n p
+    unfolding list_memory_checks entry_checks
+    memory_entries n p z a = passed _ _ n p (λ q. q w) (joined (wrong_list (memory_list e h xs) ∷ []) (entries (memory_list e h xs)) n p z a)
 
 -- 30 alone
-pub bounds-numbered : (l : ElementList) → Numbered (wrong-list l ∷ [])
+pub bounds_numbered : (l : ElementList) → Numbered (wrong_list l ∷ [])
 unfolding Numbered
-bounds-numbered l = omega arith
+bounds_numbered l = omega arith
 
-pub bounds-hyper : (l : ElementList) → None (wrong-list l ∷ []) → l .hyper ≤ max-slots
+pub bounds_hyper : (l : ElementList) → None (wrong_list l ∷ []) → l.hyper ≤ max_slots
 unfolding None
-bounds-hyper l a = limits (l .hyper) 1 max-slots (λ h. a .0 (inr h)) .1
+bounds_hyper l a = (limits l.hyper 1 max_slots (λ h. a.0 (inr h))).1

@@ -2,44 +2,40 @@
 --
 --   IsHead l r         r is what list l says of itself before its entries
 --   IsEntry x r        r is the entry x
---   entryOf r          the entry that r is
+--   entry_of r          the entry that r is
 --   rank x             twice the slot and the way: entries in order have ascending ranks
 --   Wrong h least x    entry x can't stand in a list of h slots where the entries before it leave ranks from `least` on
 --   Leaves h least x r r is 0 where x is wrong so; else the ranks from r on are left to the entries after x
 --   FirstWrong l n r   r is the first of n entries of list l to which check 31 applies, and n where there is none
 --   Fit n g            rows and ways of n entries fit a byte
---   head-checks f      1, 2, 3, 6 and 30 of a list file: all before its entries
+--   head_checks f      1, 2, 3, 6 and 30 of a list file: all before its entries
 --   told e h g         a list of which the element, the hyperperiod and the entries are told
-use mathlib.Core.Path.{_≡_}
-use mathlib.Core.Logic.{_⊎_, _≢_}
-use mathlib.Core.List.{List, [], _∷_}
-use Prim.Native.Nat.{ℕ, _+_, _-_, _*_, _%_, _≤_, _<_}
-use lib.ListN.{length}
-use Rattle·rules.specs.Bounds.{max-rows}
-use Rattle·rules.specs.TableFile.{mark, version}
-use Rattle·rules.specs.ElementList.{Entry, ElementList, move, list-mark, list-version, listHeader, entrySize, fileList}
-use Rattle·rules.specs.Refusals.{Check, refuse, wrong-list, wrong-entry}
-use Rattle·lists·specs.specs.declared.Head.{Head}
-use Rattle·lists·specs.specs.declared.Entry.{Entry as Place}
+use Rattle.std.specs.Prelude.{◌≡◌, ◌⊎◌, ◌≢◌, List, [], ◌∷◌, ℕ, ◌+◌, ◌-◌, ◌*◌, ◌%◌, ◌≤◌, ◌<◌, length}
+use Rattle.rules.specs.Bounds.{max_rows}
+use Rattle.rules.specs.TableFile.{mark, version}
+use Rattle.rules.specs.ElementList.{Entry, ElementList, move, list_mark, list_version, list_header, entry_size, file_list}
+use Rattle.rules.specs.Refusals.{Check, refuse, wrong_list, wrong_entry}
+use Rattle.lists.specs.declared.Head.{Head}
+use Rattle.lists.specs.declared.Entry.{Entry as Place}
 
 pub record IsHead (l : ElementList) (r : Head) : Type 0 where
-  pub element : r .element ≡ l .element
-  pub hyper : r .hyper ≡ l .hyper
-  pub entries : r .entries ≡ l .entries
+  pub element : r.element ≡ l.element
+  pub hyper : r.hyper ≡ l.hyper
+  pub entries : r.entries ≡ l.entries
 
-abbrev pub entryOf : Place → Entry
-entryOf r = move (r .slot) (r .row) (r .way)
+abbrev pub entry_of : Place → Entry
+entry_of r = move r.slot r.row r.way
 
 pub record IsEntry (x : Entry) (r : Place) : Type 0 where
-  pub slot : r .slot ≡ x .slot
-  pub row : r .row ≡ x .row
-  pub way : r .way ≡ x .way
+  pub slot : r.slot ≡ x.slot
+  pub row : r.row ≡ x.row
+  pub way : r.way ≡ x.way
 
 abbrev pub rank : Entry → ℕ
-rank x = 2 * x .slot + x .way
+rank x = 2 * x.slot + x.way
 
 abbrev pub Wrong : (h least : ℕ) → Entry → Type 0
-Wrong h least x = (h ≤ x .slot) ⊎ (max-rows ≤ x .row) ⊎ (1 < x .way) ⊎ (rank x < least)
+Wrong h least x = (h ≤ x.slot) ⊎ (max_rows ≤ x.row) ⊎ (1 < x.way) ⊎ (rank x < least)
 
 abbrev pub told : (element hyper : ℕ) → (ℕ → Entry) → ElementList
 told element hyper g = record { element = element; hyper = hyper; entries = 0; entry = g }
@@ -51,14 +47,14 @@ pub record Leaves (h least : ℕ) (x : Entry) (r : ℕ) : Type 0 where
 
 pub record FirstWrong (l : ElementList) (n r : ℕ) : Type 0 where
   pub most : r ≤ n
-  pub clean : (k : ℕ) → k < r → wrong-entry l k .applies → ⊥
-  pub wrong : r < n → wrong-entry l r .applies
+  pub clean : (k : ℕ) → k < r → (wrong_entry l k).applies → ⊥
+  pub wrong : r < n → (wrong_entry l r).applies
 
 pub record Fit (n : ℕ) (g : ℕ → Entry) : Type 0 where
-  pub row : (k : ℕ) → k < n → g k .row < 256
-  pub way : (k : ℕ) → k < n → g k .way < 256
+  pub row : (k : ℕ) → k < n → (g k).row < 256
+  pub way : (k : ℕ) → k < n → (g k).way < 256
 
-abbrev pub head-checks : List ℕ → List Check
-head-checks f =
-    refuse 1 0 (length f < listHeader) ∷ refuse 2 0 (mark f ≢ list-mark) ∷ refuse 3 0 (version f ≢ list-version)
-    ∷ refuse 6 0 ((length f - listHeader) % entrySize ≢ 0) ∷ wrong-list (fileList f) ∷ []
+abbrev pub head_checks : List ℕ → List Check
+head_checks f =
+    refuse 1 0 (length f < list_header) ∷ refuse 2 0 (mark f ≢ list_mark) ∷ refuse 3 0 (version f ≢ list_version)
+    ∷ refuse 6 0 ((length f - list_header) % entry_size ≢ 0) ∷ wrong_list (file_list f) ∷ []

@@ -1,36 +1,34 @@
 // Lists of the moves of one element (#101): their reader, from a list file to numbers in memory, and their writer.
-use table::Answer;
-use table::Table;
-use table::put16;
-use table::read16;
-ghost use mathlib.Core.Path.{_≡_};
-ghost use mathlib.Core.List.{[], _∷_, _++_};
-ghost use Prim.Native.Nat.{_+_, _*_, _<_, _≤_};
-ghost use lib.ListN.{length, take};
-ghost use lib.Seq.{sets};
-ghost use Rattle·numbers.specs.Decides.{Decides};
-ghost use Rattle·numbers.specs.Lists.{each};
-ghost use Rattle·rules.specs.Bounds.{max-slots};
-ghost use Rattle·rules.specs.TableFile.{mark};
-ghost use Rattle·rules.specs.ElementList.{
+#![tactic(auto)]
+
+ghost use Rattle.std.specs.Prelude.{◌≡◌, [], ◌∷◌, ◌++◌, ◌+◌, ◌*◌, ◌<◌, ◌≤◌, length, take};
+ghost use Rattle.std.proofs.lemmas.List.Edits.{sets};
+ghost use Rattle.numbers.specs.Decides.{Decides};
+ghost use Rattle.numbers.specs.Lists.{each};
+ghost use Rattle.rules.specs.Bounds.{max_slots};
+ghost use Rattle.rules.specs.TableFile.{mark};
+ghost use Rattle.rules.specs.ElementList.{
   ElementList,
   move,
-  list-mark,
-  listHeader,
-  entrySize,
-  entryNumbers,
-  fileEntry,
-  memoryEntry,
-  inMemory,
-  inFile,
-  fileHead,
-  fileList,
+  list_mark,
+  list_header,
+  entry_size,
+  entry_numbers,
+  file_entry,
+  memory_entry,
+  in_memory,
+  in_file,
+  file_head,
+  file_list,
 };
-ghost use Rattle·rules.specs.Refusals.{Answers, wrong-list, wrong-entry, list-file-checks, list-memory-checks};
-ghost use Rattle·rules.specs.Calls.{lent, ListRead, ListWritten};
-ghost use Rattle·lists·specs.specs.Entries.{IsHead, IsEntry, entryOf, Leaves, FirstWrong, Fit, told, head-checks};
+ghost use Rattle.rules.specs.Refusals.{Answers, wrong_list, wrong_entry, list_file_checks, list_memory_checks};
+ghost use Rattle.rules.specs.Calls.{lent, ListRead, ListWritten};
+ghost use Rattle.lists.specs.Entries.{IsHead, IsEntry, entry_of, Leaves, FirstWrong, Fit, told, head_checks};
+
+use table::{Answer, Table, put16, read16};
 
 // What stands before the entries: the element, the hyperperiod, and how many entries follow.
+#[derive(Clone, Copy)]
 pub struct Head {
     pub element: usize,
     pub hyper: usize,
@@ -59,8 +57,8 @@ impl Head {
 
     // What a file that is long enough says of its list.
     pub fn of(file: &[u8]) -> Head
-        requires { ⌜ listHeader ≤ length (now file) ⌝ }
-        ensures { λ r. ⌜ IsHead (fileList (now (file .entry))) r ⌝ }
+        requires { list_header ≤ length file.now }
+        ensures { IsHead (file_list file.now) result }
     {
         Head {
             element: byte_wide(file[Head::ELEMENT_AT]) as usize,
@@ -71,6 +69,7 @@ impl Head {
 }
 
 // One move: its slot, its row, and its way.
+#[derive(Clone, Copy)]
 pub struct Entry {
     pub slot: u16,
     pub row: u16,
@@ -84,13 +83,13 @@ impl Entry {
 }
 
 fn byte_wide(x: u8) -> u16
-    ensures { λ r. ⌜ r ≡ x ⌝ }
+    ensures { result ≡ x }
 {
     x as u16
 }
 
 fn wide(x: u16) -> u64
-    ensures { λ r. ⌜ r ≡ x ⌝ }
+    ensures { result ≡ x }
 {
     x as u64
 }
@@ -99,8 +98,8 @@ fn wide(x: u16) -> u64
 
 // Entry `k` of a list file that holds it.
 fn entry_in(file: &[u8], k: usize) -> Entry
-    requires { ⌜ listHeader + entrySize * (k + 1) ≤ length (now file) ⌝ }
-    ensures { λ r. ⌜ IsEntry (fileEntry (now (file .entry)) k) r ⌝ }
+    requires { list_header + entry_size * (k + 1) ≤ length file.now }
+    ensures { IsEntry (file_entry file.now k) result }
 {
     let at = Head::BYTES + Head::ENTRY_BYTES * k;
     Entry {
@@ -112,8 +111,8 @@ fn entry_in(file: &[u8], k: usize) -> Entry
 
 // Entry `k` of a slice of numbers that holds it.
 fn entry_of(numbers: &[u16], k: usize) -> Entry
-    requires { ⌜ entryNumbers * (k + 1) ≤ length (now numbers) ⌝ }
-    ensures { λ r. ⌜ IsEntry (memoryEntry (now (numbers .entry)) k) r ⌝ }
+    requires { entry_numbers * (k + 1) ≤ length numbers.now }
+    ensures { IsEntry (memory_entry numbers.now k) result }
 {
     let at = Head::ENTRY_NUMBERS * k;
     Entry {
@@ -125,8 +124,8 @@ fn entry_of(numbers: &[u16], k: usize) -> Entry
 
 // The numbers of an entry, from `at` on.
 pub fn put_numbers(entry: Entry, at: usize, out: &mut [u16])
-    requires { ⌜ at + entryNumbers ≤ length (now out) ⌝ }
-    ensures { λ _. ⌜ now (out .exit) ≡ sets (now (out .entry)) at (inMemory (entryOf entry)) ⌝ }
+    requires { at + entry_numbers ≤ length out.old }
+    ensures { out.new ≡ sets out.old at (in_memory (entry_of entry)) }
 {
     out[at] = entry.slot;
     out[at + 1] = entry.row;
@@ -135,8 +134,8 @@ pub fn put_numbers(entry: Entry, at: usize, out: &mut [u16])
 
 // The bytes of an entry, from `at` on.
 pub fn put_bytes(entry: Entry, at: usize, out: &mut [u8])
-    requires { ⌜ (at + entrySize ≤ length (now out)) × (entry .row < 256) × (entry .way < 256) ⌝ }
-    ensures { λ _. ⌜ now (out .exit) ≡ sets (now (out .entry)) at (inFile (entryOf entry)) ⌝ }
+    requires { (at + entry_size ≤ length out.old) × (entry.row < 256) × (entry.way < 256) }
+    ensures { out.new ≡ sets out.old at (in_file (entry_of entry)) }
 {
     put16(entry.slot, at, out);
     out[at + 2] = entry.row as u8;
@@ -145,8 +144,8 @@ pub fn put_bytes(entry: Entry, at: usize, out: &mut [u8])
 
 // The bytes before the first entry.
 pub fn put_head(element: u8, hyper: u16, out: &mut [u8])
-    requires { ⌜ listHeader ≤ length (now out) ⌝ }
-    ensures { λ _. ⌜ now (out .exit) ≡ sets (now (out .entry)) 0 (fileHead element hyper) ⌝ }
+    requires { list_header ≤ length out.old }
+    ensures { out.new ≡ sets out.old 0 (file_head element hyper) }
 {
     table::put_start(Head::MARK, Head::VERSION, out);
     out[Head::ELEMENT_AT] = element;
@@ -156,7 +155,7 @@ pub fn put_head(element: u8, hyper: u16, out: &mut [u8])
 // ---- checks
 
 fn in_range(x: u64, most: u64) -> bool
-    ensures { λ r. ⌜ Decides ((1 ≤ x) × (x ≤ most)) r ⌝ }
+    ensures { Decides ((1 ≤ x) × (x ≤ most)) result }
 {
     if x == 0 {
         return false;
@@ -166,7 +165,7 @@ fn in_range(x: u64, most: u64) -> bool
 
 // Check 30.
 fn bounds_fault(element: u64, hyper: u64) -> u32
-    ensures { λ r. ⌜ Answers (wrong-list (told element hyper (λ k. move 0 0 0)) ∷ []) r 0 ⌝ }
+    ensures { Answers (wrong_list (told element hyper (λ k. move 0 0 0)) ∷ []) result 0 }
 {
     if !in_range(element, Table::ELEMENTS as u64) {
         return Answer::WRONG_LIST;
@@ -180,7 +179,7 @@ fn bounds_fault(element: u64, hyper: u64) -> u32
 // What an entry leaves to those after it: twice its slot and its way, and 1, from which on theirs stand. 0 where check 31 applies to the
 // entry itself, to which those before it leave what stands from `least` on.
 fn least_after(hyper: u64, least: u64, entry: Entry) -> u64
-    ensures { λ r. ⌜ Leaves hyper least (entryOf entry) r ⌝ }
+    ensures { Leaves hyper least (entry_of entry) result }
 {
     if wide(entry.slot) >= hyper {
         return 0;
@@ -200,8 +199,8 @@ fn least_after(hyper: u64, least: u64, entry: Entry) -> u64
 
 // The first entry of a list file to which check 31 applies, of `entries` that it holds; `entries` where there is none.
 fn first_wrong_in(file: &[u8], hyper: u64, entries: usize) -> usize
-    requires { ⌜ listHeader + entrySize * entries ≤ length (now file) ⌝ }
-    ensures { λ r. ⌜ FirstWrong (told 0 hyper (fileEntry (now (file .entry)))) entries r ⌝ }
+    requires { list_header + entry_size * entries ≤ length file.now }
+    ensures { FirstWrong (told 0 hyper (file_entry file.now)) entries result }
 {
     let mut least: u64 = 0;
     let mut k: usize = 0;
@@ -217,8 +216,8 @@ fn first_wrong_in(file: &[u8], hyper: u64, entries: usize) -> usize
 
 // The same of a slice of numbers.
 fn first_wrong_of(numbers: &[u16], hyper: u64, entries: usize) -> usize
-    requires { ⌜ entryNumbers * entries ≤ length (now numbers) ⌝ }
-    ensures { λ r. ⌜ FirstWrong (told 0 hyper (memoryEntry (now (numbers .entry)))) entries r ⌝ }
+    requires { entry_numbers * entries ≤ length numbers.now }
+    ensures { FirstWrong (told 0 hyper (memory_entry numbers.now)) entries result }
 {
     let mut least: u64 = 0;
     let mut k: usize = 0;
@@ -234,9 +233,9 @@ fn first_wrong_of(numbers: &[u16], hyper: u64, entries: usize) -> usize
 
 // Check 31, from the first entry of `entries` to which it applies. That one can stand past all that a list has room for.
 fn check_entries(first: usize, entries: usize) -> Answer
-    requires { ⌜ first ≤ 2 * max-slots ⌝ }
-    ensures { λ r. ⌜ ((l : ElementList) → FirstWrong l entries first
-        → Answers (each entries (λ k. wrong-entry l k ∷ [])) (r .number) (r .place)) ⌝ }
+    requires { first ≤ 2 * max_slots }
+    ensures { (l : ElementList) → FirstWrong l entries first
+        → Answers (each entries (λ k. wrong_entry l k ∷ [])) result.number result.place }
 {
     if first < entries {
         return Answer {
@@ -249,7 +248,7 @@ fn check_entries(first: usize, entries: usize) -> Answer
 
 // Checks 1, 2, 3, 6 and 30 of a list file.
 fn head_fault(file: &[u8]) -> u32
-    ensures { λ r. ⌜ Answers (head-checks (now (file .entry))) r 0 ⌝ }
+    ensures { Answers (head_checks file.now) result 0 }
 {
     if file.len() < Head::BYTES {
         return Answer::SHORT_FILE;
@@ -269,7 +268,7 @@ fn head_fault(file: &[u8]) -> u32
 
 // Checks 1, 2, 3, 6, 30 and 31 of a list file.
 fn check_file(file: &[u8]) -> Answer
-    ensures { λ r. ⌜ Answers (list-file-checks (now (file .entry))) (r .number) (r .place) ⌝ }
+    ensures { Answers (list_file_checks file.now) result.number result.place }
 {
     let number = head_fault(file);
     if number != Answer::DONE {
@@ -284,7 +283,7 @@ fn check_file(file: &[u8]) -> Answer
 
 // Checks 6, 30 and 31 of a slice of numbers.
 fn check_numbers(element: u64, hyper: u64, numbers: &[u16]) -> Answer
-    ensures { λ r. ⌜ Answers (list-memory-checks element hyper (now (numbers .entry))) (r .number) (r .place) ⌝ }
+    ensures { Answers (list_memory_checks element hyper numbers.now) result.number result.place }
 {
     if numbers.len() % Head::ENTRY_NUMBERS != 0 {
         return Answer::at(Answer::WRONG_LENGTH, 0);
@@ -301,8 +300,8 @@ fn check_numbers(element: u64, hyper: u64, numbers: &[u16]) -> Answer
 
 // The numbers of all entries of a list file that holds them, at the front of `out`.
 fn put_all_numbers(file: &[u8], entries: usize, out: &mut [u16])
-    requires { ⌜ (listHeader + entrySize * entries ≤ length (now file)) × (entryNumbers * entries ≤ length (now out)) ⌝ }
-    ensures { λ _. ⌜ now (out .exit) ≡ lent (each entries (λ k. inMemory (fileEntry (now (file .entry)) k))) (now (out .entry)) ⌝ }
+    requires { (list_header + entry_size * entries ≤ length file.now) × (entry_numbers * entries ≤ length out.old) }
+    ensures { out.new ≡ lent (each entries (λ k. in_memory (file_entry file.now k))) out.old }
 {
     let mut k: usize = 0;
     while k < entries {
@@ -312,13 +311,14 @@ fn put_all_numbers(file: &[u8], entries: usize, out: &mut [u16])
 }
 
 // What the reader returns beside the numbers that it fills in.
+#[derive(Clone, Copy)]
 pub struct Reading {
     pub answer: Answer,
     pub head: Head,
 }
 
 fn refuse_read(answer: Answer) -> Reading
-    ensures { λ r. ⌜ (r .answer ≡ answer) × (r .head .element ≡ 0) × (r .head .hyper ≡ 0) × (r .head .entries ≡ 0) ⌝ }
+    ensures { (result.answer ≡ answer) × (result.head.element ≡ 0) × (result.head.hyper ≡ 0) × (result.head.entries ≡ 0) }
 {
     Reading {
         answer: answer,
@@ -332,8 +332,8 @@ fn refuse_read(answer: Answer) -> Reading
 
 // The reader: checks 1, 2, 3, 6, 30, 31, then 17. Fills the front of `out` with three numbers an entry.
 pub fn read(file: &[u8], out: &mut [u16]) -> Reading
-    ensures { λ r. ⌜ ListRead (now (file .entry)) (now (out .entry)) (now (out .exit))
-        (r .answer .number) (r .answer .place) (r .head .element) (r .head .hyper) (r .head .entries) ⌝ }
+    ensures { ListRead file.now out.old out.new
+        result.answer.number result.answer.place result.head.element result.head.hyper result.head.entries }
 {
     let answer = check_file(file);
     if answer.number != Answer::DONE {
@@ -354,11 +354,11 @@ pub fn read(file: &[u8], out: &mut [u16]) -> Reading
 
 // The bytes of all entries of a slice of numbers that are right, past the header.
 fn put_all_bytes(numbers: &[u16], entries: usize, out: &mut [u8])
-    requires { ⌜ (entryNumbers * entries ≤ length (now numbers)) × (listHeader + entrySize * entries ≤ length (now out))
-        × Fit entries (memoryEntry (now numbers)) ⌝ }
-    ensures { λ _. ⌜ now (out .exit) ≡
-        lent (take listHeader (now (out .entry)) ++ each entries (λ k. inFile (memoryEntry (now (numbers .entry)) k)))
-        (now (out .entry)) ⌝ }
+    requires { (entry_numbers * entries ≤ length numbers.now) × (list_header + entry_size * entries ≤ length out.old)
+        × Fit entries (memory_entry numbers.now) }
+    ensures { out.new ≡
+        lent (take list_header out.old ++ each entries (λ k. in_file (memory_entry numbers.now k)))
+        out.old }
 {
     let mut k: usize = 0;
     while k < entries {
@@ -373,7 +373,7 @@ fn put_all_bytes(numbers: &[u16], entries: usize, out: &mut [u8])
 
 // The writer: checks 6, 30, 31, then 17. Fills the front of `out` with the bytes of the list file.
 pub fn write(element: u64, hyper: u64, numbers: &[u16], out: &mut [u8]) -> Answer
-    ensures { λ r. ⌜ ListWritten element hyper (now (numbers .entry)) (now (out .entry)) (now (out .exit)) (r .number) (r .place) ⌝ }
+    ensures { ListWritten element hyper numbers.now out.old out.new result.number result.place }
 {
     let answer = check_numbers(element, hyper, numbers);
     if answer.number != Answer::DONE {

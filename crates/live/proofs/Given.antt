@@ -1,32 +1,32 @@
 -- The file of a live table's rows is a table that passes 1 to 9, 18 and 11.
-use mathlib.Core.Path.{_≡_, refl, sym, ap, subst, _∙_}
-use mathlib.Core.Logic.{inl, inr, ⊎-elim}
-use mathlib.Core.Bool.{Bool, _&&_}
+use mathlib.Core.Path.{◌≡◌, refl, sym, ap, subst, ◌∙◌}
+use mathlib.Core.Logic.{inl, inr, ⊎_elim}
+use mathlib.Core.Bool.{Bool, ◌&&◌}
 use mathlib.Core.List.{List}
-use Prim.Native.Nat.{ℕ, zero, suc, _≤_, _<_, _∣_, max}
-use native.Mathlib.Nat.{le-of-dvd, not-suc-le-zero}
+use Prim.Native.Nat.{ℕ, zero, suc, ◌≤◌, ◌<◌, ◌∣◌, max}
+use native.Mathlib.Nat.{le_of_dvd, not-suc-le-zero}
 use native.Mathlib.Omega.{arith}
-use lib.Dec.{T, eqb, ltb, ltb→lt}
+use lib.Dec.{T, eqb, ltb→lt}
 use lib.ListN.{length}
-use Rattle·numbers.specs.Finite.{sum, count, any}
-use Rattle·numbers.specs.Divisors.{lcm}
-use Rattle·numbers.proofs.Truth.{fst, decide, le-or-lt, is-true, is-false}
-use Rattle·numbers.proofs.Finite.{least, only-true, only-false, count-mono}
-use Rattle·numbers.proofs.Divisors.{Positive, lcm-divides, lcm-multiple}
-use Rattle·rules.specs.Bounds.{max-rows, max-slots}
-use Rattle·rules.specs.Bus.{Labelled, pasted}
-use Rattle·rules.specs.TableFile.{table-mark, ringsOf, fileTable, fileLabelled, memoryLabelled, numbers, bytes}
-use Rattle·rules.specs.Loads.{hyperperiod}
-use Rattle·rules.specs.Refusals.{Answers, pasted-row, file-checks, pasted-checks, given-checks, version-checks}
-use Rattle·rules.specs.Live.{Live, InOrder, Seated, places, held, placeOf, commonOf, common, present, rows-file-checks, Filed}
-use Rattle·rules.proofs.Answers.{None, Numbered, answered, none-join, single-none}
-use Rattle·rules.proofs.Calls.{call-none}
-use Rattle·round_trip.proofs.RoundTrip.{bytes-alike, memory-back, writer-numbered, written-none, written-back, written-passes}
-use Rattle·live·proofs.proofs.Sums.{one-positive}
-use Rattle·live·proofs.proofs.Kept.{pasted-by, of-three}
-use Rattle·live·proofs.proofs.Order.{common-positive}
-use Rattle·live·specs.specs.FilePromises.{Rows-are-given}
-use Rattle·live·proofs.proofs.Present.{place-of-count, present-told}
+use Rattle.numbers.specs.Finite.{sum, count}
+use Rattle.numbers.specs.Divisors.{lcm}
+use Rattle.numbers.proofs.Truth.{fst, decide, le_or_lt, is_true, is_false}
+use Rattle.numbers.proofs.Finite.{least, only_true, only_false, count_mono}
+use Rattle.numbers.proofs.Divisors.{Positive, lcm_divides, lcm_multiple}
+use Rattle.rules.specs.Bounds.{max_rows, max_slots}
+use Rattle.rules.specs.Bus.{Labelled, pasted}
+use Rattle.rules.specs.TableFile.{table_mark, rings_of, file_table, memory_labelled, numbers, bytes}
+use Rattle.rules.specs.Loads.{hyperperiod}
+use Rattle.rules.specs.Refusals.{Answers, pasted_row, file_checks, pasted_checks, given_checks, version_checks}
+use Rattle.rules.specs.Live.{Live, InOrder, held, place_of, common_of, common, present, rows_file_checks}
+use Rattle.rules.proofs.Answers.{None, Numbered, answered, none_join, single_none}
+use Rattle.rules.proofs.Calls.{call_none}
+use Rattle.round_trip.proofs.RoundTrip.{bytes_alike, memory_back, writer_numbered, written_none, written_back, written_passes}
+use Rattle.live.proofs.Sums.{one_positive}
+use Rattle.live.proofs.Kept.{pasted_by, of_three}
+use Rattle.live.proofs.Order.{common_positive}
+use Rattle.live.specs.FilePromises.{RowsAreGiven}
+use Rattle.live.proofs.Present.{place_of_count, present_told}
 
 -- ---- the place of a row
 
@@ -36,37 +36,37 @@ module _ (h : ℕ → Bool) where
   unfolding sum
   nth zero j l = absurd (not-suc-le-zero l)
   nth (suc n) j l =
-      ⊎-elim
-      (λ (m : j < count n h). let z = nth n j m in (z .0, omega (arith, z .1), z .2, z .3))
+      ⊎_elim
+      (λ (m : j < count n h). let z = nth n j m in (z.0, omega (arith, z.1), z.2, z.3))
       (λ (m : count n h ≤ j).
-      ⊎-elim
-      (λ (t : T (h n)). (n, omega arith, t, omega (arith, only-true (h n) 1 (is-true (h n) t))))
-      (λ f. absurd (let z : ⊥ = omega (arith, only-false (h n) 1 (is-false (h n) f)) in z))
+      ⊎_elim
+      (λ (t : T (h n)). (n, omega arith, t, omega (arith, only_true (h n) 1 (is_true (h n) t))))
+      (λ f. absurd (let z : ⊥ = omega (arith, only_false (h n) 1 (is_false (h n) f)) in z))
       (decide (h n)))
-      (⊎-elim (λ m. inr m) (λ m. inl m) (le-or-lt (count n h) j))
+      (⊎_elim (λ m. inr m) (λ m. inl m) (le_or_lt (count n h) j))
 
   pub record Stands (j : ℕ) : Type 0 where
-    pub within : placeOf h j < max-rows
-    pub holds : T (h (placeOf h j))
-    pub before : count (placeOf h j) h ≡ j
+    pub within : place_of h j < max_rows
+    pub holds : T (h (place_of h j))
+    pub before : count (place_of h j) h ≡ j
 
-  pub stands : (j : ℕ) → j < count max-rows h → Stands j
+  pub stands : (j : ℕ) → j < count max_rows h → Stands j
   stands j l =
-      let z = nth max-rows j l in
-      let e : placeOf h j ≡ z .0 = ap (placeOf h) (sym (z .3)) ∙ place-of-count h (z .0) (z .1) (z .2) in
-      record { within = rw e (z .1); holds = rw e (z .2); before = ap (λ (i : ℕ). count i h) e ∙ z .3 }
+      let z = nth max_rows j l in
+      let e : place_of h j ≡ z.0 = ap (place_of h) (sym z.3) ∙ place_of_count h z.0 z.1 z.2 in
+      record { within = rw e z.1; holds = rw e z.2; before = ap (λ (i : ℕ). count i h) e ∙ z.3 }
 
   -- rows stand in the order of their places
-  pub in-turn : (j k : ℕ) → k < j → Stands j → Stands k → placeOf h k < placeOf h j
-  in-turn j k l S R =
-      ⊎-elim
-      (λ (m : placeOf h j ≤ placeOf h k). absurd (let z : ⊥ = omega (
+  pub in_turn : (j k : ℕ) → k < j → Stands j → Stands k → place_of h k < place_of h j
+  in_turn j k l S R =
+      ⊎_elim
+      (λ (m : place_of h j ≤ place_of h k). absurd (let z : ⊥ = omega (
         arith,
-        count-mono (placeOf h j) (placeOf h k) h m,
-        S .before,
-        R .before,
+        count_mono (place_of h j) (place_of h k) h m,
+        S.before,
+        R.before,
       ) in z))
-      (λ m. m) (le-or-lt (placeOf h j) (placeOf h k))
+      (λ m. m) (le_or_lt (place_of h j) (place_of h k))
 
 -- ---- the rows present
 
@@ -75,91 +75,91 @@ module _ (l : Live) (O : InOrder l) where
   t = present l
 
   -- no row is there twice
-  apart : (j k : ℕ) → j < t .table .rows → k < j → t .table .first k ≡ t .table .first j → t .table .second k ≡ t .table .second j
-      → t .table .period k ≡ t .table .period j → ⊥
+  apart : (j k : ℕ) → j < t.table.rows → k < j → t.table.first k ≡ t.table.first j → t.table.second k ≡ t.table.second j
+      → t.table.period k ≡ t.table.period j → ⊥
   apart j k m n f s p =
       let S = stands (held l) j m in
       let R = stands (held l) k (omega arith) in
-      O .rows .single (placeOf (held l) j) (S .within) (S .holds)
-      (pasted-by l (in-turn (held l) j k n S R) f s p)
+      O.rows.single (place_of (held l) j) S.within S.holds
+      (pasted_by l (in_turn (held l) j k n S R) f s p)
 
-  period-low : (j : ℕ) → j < t .table .rows → 0 < t .table .period j
-  period-low j m = ltb→lt 0 (t .table .period j) (stands (held l) j m .holds)
+  period_low : (j : ℕ) → j < t.table.rows → 0 < t.table.period j
+  period_low j m = ltb→lt 0 (t.table.period j) (stands (held l) j m).holds
 
-  period-divides : (j : ℕ) → j < t .table .rows → t .table .period j ∣ common l
-  unfolding commonOf
-  period-divides j m =
-      let z : max 1 (t .table .period j) ∣ lcm max-rows (λ i. max 1 (l .period i)) =
-      lcm-multiple max-rows (λ i. max 1 (l .period i)) (one-positive (l .period)) (placeOf (held l) j) (stands (held l) j m .within) in
-      let e : max 1 (t .table .period j) ≡ t .table .period j = omega (arith, period-low j m) in
+  period_divides : (j : ℕ) → j < t.table.rows → t.table.period j ∣ common l
+  unfolding common_of
+  period_divides j m =
+      let z : max 1 (t.table.period j) ∣ lcm max_rows (λ i. max 1 (l.period i)) =
+      lcm_multiple max_rows (λ i. max 1 (l.period i)) (one_positive l.period) (place_of (held l) j) (stands (held l) j m).within in
+      let e : max 1 (t.table.period j) ≡ t.table.period j = omega (arith, period_low j m) in
       rw e at z
 
 -- ---- the file
 
 module _ (v : ℕ) (l : Live) (O : InOrder l) where
   abbrev M : ℕ
-  M = present l .table .elements
+  M = (present l).table.elements
 
   abbrev n : ℕ
-  n = present l .table .rows
+  n = (present l).table.rows
 
   abbrev xs : List ℕ
   xs = numbers (present l)
 
   abbrev s : Labelled
-  s = memoryLabelled M n xs
+  s = memory_labelled M n xs
 
   abbrev f : List ℕ
   f = bytes v s
 
-  module _ (a : None (version-checks 1 v M n xs)) where
-    few : fileTable f .rows ≡ n
-    few = written-back 1 v M n xs (inl refl) a .rows
+  module _ (a : None (version_checks 1 v M n xs)) where
+    few : (file_table f).rows ≡ n
+    few = (written_back 1 v M n xs (inl refl) a).rows
 
-    first-is : (j : ℕ) → j < n → fileTable f .first j ≡ present l .table .first j
-    first-is j m = written-back 1 v M n xs (inl refl) a .first j m ∙ memory-back (present l) (present-told l) .first j m
+    first_is : (j : ℕ) → j < n → (file_table f).first j ≡ (present l).table.first j
+    first_is j m = (written_back 1 v M n xs (inl refl) a).first j m ∙ (memory_back (present l) (present_told l)).first j m
 
-    second-is : (j : ℕ) → j < n → fileTable f .second j ≡ present l .table .second j
-    second-is j m = written-back 1 v M n xs (inl refl) a .second j m ∙ memory-back (present l) (present-told l) .second j m
+    second_is : (j : ℕ) → j < n → (file_table f).second j ≡ (present l).table.second j
+    second_is j m = (written_back 1 v M n xs (inl refl) a).second j m ∙ (memory_back (present l) (present_told l)).second j m
 
-    period-is : (j : ℕ) → j < n → fileTable f .period j ≡ present l .table .period j
-    period-is j m = written-back 1 v M n xs (inl refl) a .period j m ∙ memory-back (present l) (present-told l) .period j m
+    period_is : (j : ℕ) → j < n → (file_table f).period j ≡ (present l).table.period j
+    period_is j m = (written_back 1 v M n xs (inl refl) a).period j m ∙ (memory_back (present l) (present_told l)).period j m
 
-    unpasted : (j : ℕ) → j < fileTable f .rows → T (pasted (fileTable f) j) → ⊥
+    unpasted : (j : ℕ) → j < (file_table f).rows → T (pasted (file_table f) j) → ⊥
     unfolding pasted
     unpasted j m p =
         let k = least j _ p in
         let i : j < n = omega (arith, few) in
-        let h : k .0 < n = omega (arith, k .1) in
-        let same = eqb (fileTable f .first (k .0)) (fileTable f .first j) && eqb (fileTable f .second (k .0)) (fileTable f .second j)
-        && eqb (fileTable f .period (k .0)) (fileTable f .period j) in
-        let e = of-three (fst same (eqb (fileTable f .way (k .0)) (fileTable f .way j)) (k .2)) in
-        apart l O j (k .0) i (k .1) (sym (first-is (k .0) h) ∙ e .0 ∙ first-is j i) (sym (second-is (k .0) h) ∙ e .1 ∙ second-is j i)
-        (sym (period-is (k .0) h) ∙ e .2 ∙ period-is j i)
+        let h : k.0 < n = omega (arith, k.1) in
+        let same = eqb ((file_table f).first k.0) ((file_table f).first j) && eqb ((file_table f).second k.0) ((file_table f).second j)
+        && eqb ((file_table f).period k.0) ((file_table f).period j) in
+        let e = of_three (fst same (eqb ((file_table f).way k.0) ((file_table f).way j)) k.2) in
+        apart l O j k.0 i k.1 (sym (first_is k.0 h) ∙ e.0 ∙ first_is j i) (sym (second_is k.0 h) ∙ e.1 ∙ second_is j i)
+        (sym (period_is k.0 h) ∙ e.2 ∙ period_is j i)
 
-    given : Answers (given-checks f) 0 0
-    unfolding given-checks pasted-checks
+    given : Answers (given_checks f) 0 0
+    unfolding given_checks pasted_checks
     given =
-        answered (given-checks f)
-        (none-join (file-checks f) _ (written-passes 1 v M n xs (inl refl) a)
-        (single-none (pasted-row (fileTable f)) (fileTable f .rows) unpasted))
+        answered (given_checks f)
+        (none_join (file_checks f) _ (written_passes 1 v M n xs (inl refl) a)
+        (single_none (pasted_row (file_table f)) (file_table f).rows unpasted))
 
-    short : hyperperiod (fileTable f) ≤ max-slots
+    short : hyperperiod (file_table f) ≤ max_slots
     unfolding hyperperiod
     short =
-        let low : Positive (fileTable f .rows) (fileTable f .period) =
-        λ j m. let i : j < n = omega (arith, few) in omega (arith, period-is j i, period-low l O j i) in
-        let d = lcm-divides (fileTable f .rows) (fileTable f .period) low (common l)
-        (λ j m. let i : j < n = omega (arith, few) in rw (period-is j i) (period-divides l O j i)) in
-        omega (arith, le-of-dvd (common-positive (l .period)) d, O .denominator, O .short)
+        let low : Positive (file_table f).rows (file_table f).period =
+        λ j m. let i : j < n = omega (arith, few) in omega (arith, period_is j i, period_low l O j i) in
+        let d = lcm_divides (file_table f).rows (file_table f).period low (common l)
+        (λ j m. let i : j < n = omega (arith, few) in rw (period_is j i) (period_divides l O j i)) in
+        omega (arith, le_of_dvd (common_positive l.period) d, O.denominator, O.short)
 
-pub rows-are-given : Rows-are-given
-unfolding Numbered None ringsOf
-rows-are-given v l was now place O c =
+pub rows_are_given : RowsAreGiven
+unfolding Numbered None rings_of
+rows_are_given v l was now place O c =
     let t : Labelled = present l in
-    let none : None (rows-file-checks v l (length was)) =
-    call-none {p = place} (omega arith, writer-numbered table-mark v (t .table .elements) (t .table .rows) (numbers t) (length was)) c in
-    let a = written-none table-mark v (t .table .elements) (t .table .rows) (numbers t) (length was) (none .1) .1 in
-    subst (λ (f : List ℕ). Answers (given-checks f) 0 0 × (hyperperiod (fileTable f) ≤ max-slots))
-    (bytes-alike v (memory-back t (present-told l)))
+    let none : None (rows_file_checks v l (length was)) =
+    call_none {p = place} (omega arith, writer_numbered table_mark v t.table.elements t.table.rows (numbers t) (length was)) c in
+    let a = (written_none table_mark v t.table.elements t.table.rows (numbers t) (length was) none.1).1 in
+    subst (λ (f : List ℕ). Answers (given_checks f) 0 0 × (hyperperiod (file_table f) ≤ max_slots))
+    (bytes_alike v (memory_back t (present_told l)))
     (given v l O a, short v l O a)

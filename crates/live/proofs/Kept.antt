@@ -1,90 +1,90 @@
 -- A live table that keeps the rules keeps them through every call.
-use mathlib.Core.Path.{_≡_, refl, sym, ap, _∙_}
-use mathlib.Core.Logic.{_⊎_, inl, inr, ⊎-elim, _≢_}
-use mathlib.Core.Bool.{Bool, true, _&&_, cond}
-use Prim.Native.Nat.{ℕ, _≤_, _<_, _∣_, max}
-use native.Mathlib.Nat.{le-of-dvd, one-dvd}
-use native.Mathlib.Decide.{ℕ-discrete}
+use mathlib.Core.Path.{◌≡◌, refl, sym, ap, ◌∙◌}
+use mathlib.Core.Logic.{◌⊎◌, inl, inr, ⊎_elim, ◌≢◌}
+use mathlib.Core.Bool.{Bool, true, ◌&&◌, cond}
+use Prim.Native.Nat.{ℕ, ◌≤◌, ◌<◌, ◌∣◌, max}
+use native.Mathlib.Nat.{le_of_dvd, one-dvd}
+use native.Mathlib.Decide.{ℕ_discrete}
 use native.Mathlib.Omega.{arith}
 use lib.Dec.{T, eqb, ltb, eqb→eq, ltb→lt, lt→ltb}
-use Rattle·numbers.specs.Finite.{every, only}
-use Rattle·numbers.specs.Divisors.{lcm}
-use Rattle·numbers.proofs.Truth.{fst, snd, both, is-true, is-false, eqb-of, limits}
-use Rattle·numbers.proofs.Finite.{least, any-of, only-false, only-zero, sum-zero}
-use Rattle·numbers.proofs.Divisors.{lcm-same, lcm-divides, lcm-multiple, lcm-positive}
-use Rattle·rules.specs.Bounds.{max-elements, max-rows, max-slots}
-use Rattle·rules.specs.Bus.{Table, pasted}
-use Rattle·rules.specs.Refusals.{Answers, faults}
-use Rattle·rules.specs.Live.{Live, Entry, Blank, Seated, InOrder, Made, Added, Removed, Reached, made, added, removed}
-use Rattle·rules.specs.Live.{vacant, places, held, free, common, commonOf, sumOver, empty, but, placed, put, alone}
-use Rattle·rules.specs.Live.{repeated, add-checks, remove-checks}
-use Rattle·rules.proofs.Answers.{None, Numbered, none-of, answered}
-use Rattle·rules.proofs.Calls.{call-none}
-use Rattle·table.specs.Sound.{SoundRow}
-use Rattle·table.proofs.Faults.{faults-numbered, row-sound, row-none}
-use Rattle·live·proofs.proofs.Sums.{one-positive}
-use Rattle·live·specs.specs.Promises.{Stays-in-order, Sums-afresh}
+use Rattle.numbers.specs.Finite.{every, only}
+use Rattle.numbers.specs.Divisors.{lcm}
+use Rattle.numbers.proofs.Truth.{fst, snd, both, is_true, is_false, eqb_of, limits}
+use Rattle.numbers.proofs.Finite.{least, any_of, only_false, only_zero, sum_zero}
+use Rattle.numbers.proofs.Divisors.{lcm_same, lcm_divides, lcm_multiple, lcm_positive}
+use Rattle.rules.specs.Bounds.{max_elements, max_rows, max_slots}
+use Rattle.rules.specs.Bus.{Table, pasted}
+use Rattle.rules.specs.Refusals.{Answers, faults}
+use Rattle.rules.specs.Live.{Live, Entry, Blank, Seated, InOrder, Made, Added, Removed, Reached, made, added, removed}
+use Rattle.rules.specs.Live.{vacant, places, held, free, common, common_of, sum_over, empty, but, placed, put, alone}
+use Rattle.rules.specs.Live.{repeated, add_checks, remove_checks}
+use Rattle.rules.proofs.Answers.{None, Numbered, none_of, answered}
+use Rattle.rules.proofs.Calls.{call_none}
+use Rattle.table.specs.Sound.{SoundRow}
+use Rattle.table.proofs.Faults.{faults_numbered, row_sound, row_none}
+use Rattle.live.proofs.Sums.{one_positive}
+use Rattle.live.specs.Promises.{StaysInOrder, SumsAfresh}
 
 -- ---- one number of a column changed
 
-pub but-same : (g : ℕ → ℕ) (k x : ℕ) → but g k x k ≡ x
-but-same g k x = ap (λ (b : Bool). cond b x (g k)) (is-true (eqb k k) (eqb-of k k refl))
+pub but_same : (g : ℕ → ℕ) (k x : ℕ) → but g k x k ≡ x
+but_same g k x = ap (λ (b : Bool). cond b x (g k)) (is_true (eqb k k) (eqb_of k k refl))
 
-pub but-other : (g : ℕ → ℕ) (k x i : ℕ) → i ≢ k → but g k x i ≡ g i
-but-other g k x i n = ap (λ (b : Bool). cond b x (g i)) (is-false (eqb i k) (λ t. n (eqb→eq i k t)))
+pub but_other : (g : ℕ → ℕ) (k x i : ℕ) → i ≢ k → but g k x i ≡ g i
+but_other g k x i n = ap (λ (b : Bool). cond b x (g i)) (is_false (eqb i k) (λ t. n (eqb→eq i k t)))
 
 -- ---- rows with the same ends and period
 
-pub three-of : {a b c x y z : ℕ} → a ≡ x → b ≡ y → c ≡ z → T (eqb a x && eqb b y && eqb c z)
-three-of {a} {b} {c} {x} {y} {z} e f g =
-    both (eqb a x && eqb b y) (eqb c z) (both (eqb a x) (eqb b y) (eqb-of a x e) (eqb-of b y f)) (eqb-of c z g)
+pub three_of : {a b c x y z : ℕ} → a ≡ x → b ≡ y → c ≡ z → T (eqb a x && eqb b y && eqb c z)
+three_of {a} {b} {c} {x} {y} {z} e f g =
+    both (eqb a x && eqb b y) (eqb c z) (both (eqb a x) (eqb b y) (eqb_of a x e) (eqb_of b y f)) (eqb_of c z g)
 
-pub of-three : {a b c x y z : ℕ} → T (eqb a x && eqb b y && eqb c z) → (a ≡ x) × (b ≡ y) × (c ≡ z)
-of-three {a} {b} {c} {x} {y} {z} t =
+pub of_three : {a b c x y z : ℕ} → T (eqb a x && eqb b y && eqb c z) → (a ≡ x) × (b ≡ y) × (c ≡ z)
+of_three {a} {b} {c} {x} {y} {z} t =
     let q = fst (eqb a x && eqb b y) (eqb c z) t in
     (eqb→eq a x (fst (eqb a x) (eqb b y) q), eqb→eq b y (snd (eqb a x) (eqb b y) q), eqb→eq c z (snd (eqb a x && eqb b y) (eqb c z) t))
 
 -- all rows run on the one ring
 module _ (l : Live) where
-  pub pasted-by : {i j : ℕ} → j < i → l .first j ≡ l .first i → l .second j ≡ l .second i → l .period j ≡ l .period i
+  pub pasted_by : {i j : ℕ} → j < i → l.first j ≡ l.first i → l.second j ≡ l.second i → l.period j ≡ l.period i
       → T (pasted (places l) i)
   unfolding pasted
-  pasted-by {i} {j} h f s p =
-      any-of i _ j h
-      (both (eqb (l .first j) (l .first i) && eqb (l .second j) (l .second i) && eqb (l .period j) (l .period i)) true (three-of f s p) tt)
+  pasted_by {i} {j} h f s p =
+      any_of i _ j h
+      (both (eqb (l.first j) (l.first i) && eqb (l.second j) (l.second i) && eqb (l.period j) (l.period i)) true (three_of f s p) tt)
 
-  by-pasted : (i : ℕ) → T (pasted (places l) i)
-      → (j : ℕ) × (j < i) × ((l .first j ≡ l .first i) × (l .second j ≡ l .second i) × (l .period j ≡ l .period i))
+  by_pasted : (i : ℕ) → T (pasted (places l) i)
+      → (j : ℕ) × (j < i) × ((l.first j ≡ l.first i) × (l.second j ≡ l.second i) × (l.period j ≡ l.period i))
   unfolding pasted
-  by-pasted i t =
+  by_pasted i t =
       let w = least i _ t in
-      let j = w .0 in
-      let same = eqb (l .first j) (l .first i) && eqb (l .second j) (l .second i) && eqb (l .period j) (l .period i) in
-      (j, w .1, of-three (fst same true (w .2)))
+      let j = w.0 in
+      let same = eqb (l.first j) (l.first i) && eqb (l.second j) (l.second i) && eqb (l.period j) (l.period i) in
+      (j, w.1, of_three (fst same true w.2))
 
 -- ---- rows that pass 7 to 9
 
 -- the same row in another table
-sound-as : {t u : Table} {i j : ℕ} → u .elements ≡ t .elements → u .rings ≡ t .rings → u .way j ≡ t .way i → u .cost j ≡ t .cost i
-    → u .period j ≡ t .period i → u .first j ≡ t .first i → u .second j ≡ t .second i → SoundRow t i → SoundRow u j
-sound-as {t} {u} {i} {j} e r w c p f s S = record {
-  first-low = rw f (S .first-low);
-  first-high = rw (f, e) (S .first-high);
-  second-low = rw s (S .second-low);
-  second-high = rw (s, e) (S .second-high);
-  ends-differ = λ q. S .ends-differ (sym f ∙ q ∙ s);
-  period-low = rw p (S .period-low);
-  period-high = rw p (S .period-high);
-  cost-low = rw c (S .cost-low);
-  cost-high = rw (c, p) (S .cost-high);
-  way-known = rw (r, w) (S .way-known);
+sound_as : {t u : Table} {i j : ℕ} → u.elements ≡ t.elements → u.rings ≡ t.rings → u.way j ≡ t.way i → u.cost j ≡ t.cost i
+    → u.period j ≡ t.period i → u.first j ≡ t.first i → u.second j ≡ t.second i → SoundRow t i → SoundRow u j
+sound_as {t} {u} {i} {j} e r w c p f s S = record {
+  first_low = rw f S.first_low;
+  first_high = rw (f, e) S.first_high;
+  second_low = rw s S.second_low;
+  second_high = rw (s, e) S.second_high;
+  ends_differ = λ q. S.ends_differ (sym f ∙ q ∙ s);
+  period_low = rw p S.period_low;
+  period_high = rw p S.period_high;
+  cost_low = rw c S.cost_low;
+  cost_high = rw (c, p) S.cost_high;
+  way_known = rw (r, w) S.way_known;
 }
 
 pub passes : (t : Table) (i : ℕ) → SoundRow t i → Answers (faults t i) 0 0
-passes t i S = answered (faults t i) (row-none t i S)
+passes t i S = answered (faults t i) (row_none t i S)
 
 pub passed : (t : Table) (i : ℕ) → Answers (faults t i) 0 0 → SoundRow t i
-passed t i A = row-sound t i (none-of (faults t i) 0 (faults-numbered t i) A)
+passed t i A = row_sound t i (none_of (faults t i) 0 (faults_numbered t i) A)
 
 -- ---- a row put in a place
 
@@ -95,86 +95,86 @@ Allowed l e = (e ≡ vacant) ⊎ SoundRow (alone l e) 0
 -- and that is not there yet
 pub record Welcome (l : Live) (e : Entry) : Type 0 where
   pub allowed : Allowed l e
-  pub new : (i : ℕ) → i < max-rows → l .first i ≡ e .first → l .second i ≡ e .second → l .period i ≡ e .period → 0 < e .period → ⊥
+  pub new : (i : ℕ) → i < max_rows → l.first i ≡ e.first → l.second i ≡ e.second → l.period i ≡ e.period → 0 < e.period → ⊥
 
 module _ {l : Live} (S : Seated l) (k : ℕ) {e : Entry} (A : Allowed l e) where
   abbrev after : Live
   after = put l k e
 
-  put-here : Blank after k ⊎ Answers (faults (places after) k) 0 0
-  put-here =
-      ⊎-elim
+  put_here : Blank after k ⊎ Answers (faults (places after) k) 0 0
+  put_here =
+      ⊎_elim
       (λ (v : e ≡ vacant). inl (record {
-        cost = but-same (l .cost) k _ ∙ ap (λ (x : Entry). x .cost) v;
-        period = but-same (l .period) k _ ∙ ap (λ (x : Entry). x .period) v;
-        first = but-same (l .first) k _ ∙ ap (λ (x : Entry). x .first) v;
-        second = but-same (l .second) k _ ∙ ap (λ (x : Entry). x .second) v;
-        label = but-same (l .label) k _ ∙ ap (λ (x : Entry). x .label) v;
+        cost = but_same l.cost k _ ∙ ap (λ (x : Entry). x.cost) v;
+        period = but_same l.period k _ ∙ ap (λ (x : Entry). x.period) v;
+        first = but_same l.first k _ ∙ ap (λ (x : Entry). x.first) v;
+        second = but_same l.second k _ ∙ ap (λ (x : Entry). x.second) v;
+        label = but_same l.label k _ ∙ ap (λ (x : Entry). x.label) v;
       }))
       (λ (R : SoundRow (alone l e) 0). inr (passes (places after) k
-      (sound-as {t = alone l e} {u = places after} {i = 0} {j = k} refl refl refl (but-same (l .cost) k _) (but-same (l .period) k _)
-      (but-same (l .first) k _) (but-same (l .second) k _) R)))
+      (sound_as {t = alone l e} {u = places after} {i = 0} {j = k} refl refl refl (but_same l.cost k _) (but_same l.period k _)
+      (but_same l.first k _) (but_same l.second k _) R)))
       A
 
-  pub put-place : (i : ℕ) → i < max-rows → Blank after i ⊎ Answers (faults (places after) i) 0 0
-  put-place i h = go (ℕ-discrete i k)
+  pub put_place : (i : ℕ) → i < max_rows → Blank after i ⊎ Answers (faults (places after) i) 0 0
+  put_place i h = go (ℕ_discrete i k)
     where
       go : Dec (i ≡ k) → Blank after i ⊎ Answers (faults (places after) i) 0 0
-      go (yes q) = rw q put-here
+      go (yes q) = rw q put_here
       go (no n) =
-          ⊎-elim
+          ⊎_elim
           (λ (B : Blank l i). inl (record {
-            cost = but-other (l .cost) k _ i n ∙ B .cost;
-            period = but-other (l .period) k _ i n ∙ B .period;
-            first = but-other (l .first) k _ i n ∙ B .first;
-            second = but-other (l .second) k _ i n ∙ B .second;
-            label = but-other (l .label) k _ i n ∙ B .label;
+            cost = but_other l.cost k _ i n ∙ B.cost;
+            period = but_other l.period k _ i n ∙ B.period;
+            first = but_other l.first k _ i n ∙ B.first;
+            second = but_other l.second k _ i n ∙ B.second;
+            label = but_other l.label k _ i n ∙ B.label;
           }))
           (λ (B : Answers (faults (places l) i) 0 0). inr (passes (places after) i
-          (sound-as {t = places l} {u = places after} {i = i} {j = i} refl refl refl (but-other (l .cost) k _ i n)
-          (but-other (l .period) k _ i n) (but-other (l .first) k _ i n) (but-other (l .second) k _ i n) (passed (places l) i B))))
-          (S .place i h)
+          (sound_as {t = places l} {u = places after} {i = i} {j = i} refl refl refl (but_other l.cost k _ i n)
+          (but_other l.period k _ i n) (but_other l.first k _ i n) (but_other l.second k _ i n) (passed (places l) i B))))
+          (S.place i h)
 
 module _ {l : Live} (S : Seated l) (k : ℕ) {e : Entry} (W : Welcome l e) where
   abbrev m : Live
   m = put l k e
 
   -- two rows of m with the same ends and period
-  put-twice : (i j : ℕ) → i < max-rows → j < i → m .first j ≡ m .first i → m .second j ≡ m .second i → m .period j ≡ m .period i
-      → 0 < m .period i → ⊥
-  put-twice i j h lt f s p held′ = go (ℕ-discrete i k) (ℕ-discrete j k)
+  put_twice : (i j : ℕ) → i < max_rows → j < i → m.first j ≡ m.first i → m.second j ≡ m.second i → m.period j ≡ m.period i
+      → 0 < m.period i → ⊥
+  put_twice i j h lt f s p held' = go (ℕ_discrete i k) (ℕ_discrete j k)
     where
       go : Dec (i ≡ k) → Dec (j ≡ k) → ⊥
       go (yes q) d =
           let n : j ≢ k = λ z. omega (arith, q, z, lt) in
-          W .new j (omega arith)
-          (sym (but-other (l .first) k _ j n) ∙ f ∙ ap (m .first) q ∙ but-same (l .first) k _)
-          (sym (but-other (l .second) k _ j n) ∙ s ∙ ap (m .second) q ∙ but-same (l .second) k _)
-          (sym (but-other (l .period) k _ j n) ∙ p ∙ ap (m .period) q ∙ but-same (l .period) k _)
-          (omega (arith, held′, ap (m .period) q ∙ but-same (l .period) k _))
+          W.new j (omega arith)
+          (sym (but_other l.first k _ j n) ∙ f ∙ ap m.first q ∙ but_same l.first k _)
+          (sym (but_other l.second k _ j n) ∙ s ∙ ap m.second q ∙ but_same l.second k _)
+          (sym (but_other l.period k _ j n) ∙ p ∙ ap m.period q ∙ but_same l.period k _)
+          (omega (arith, held', ap m.period q ∙ but_same l.period k _))
       go (no n) (yes q) =
-          let z : l .period i ≡ e .period =
-          sym (but-other (l .period) k _ i n) ∙ sym p ∙ ap (m .period) q ∙ but-same (l .period) k _ in
-          W .new i h
-          (sym (but-other (l .first) k _ i n) ∙ sym f ∙ ap (m .first) q ∙ but-same (l .first) k _)
-          (sym (but-other (l .second) k _ i n) ∙ sym s ∙ ap (m .second) q ∙ but-same (l .second) k _)
+          let z : l.period i ≡ e.period =
+          sym (but_other l.period k _ i n) ∙ sym p ∙ ap m.period q ∙ but_same l.period k _ in
+          W.new i h
+          (sym (but_other l.first k _ i n) ∙ sym f ∙ ap m.first q ∙ but_same l.first k _)
+          (sym (but_other l.second k _ i n) ∙ sym s ∙ ap m.second q ∙ but_same l.second k _)
           z
-          (omega (arith, held′, but-other (l .period) k (e .period) i n, z))
+          (omega (arith, held', but_other l.period k e.period i n, z))
       go (no n) (no o) =
-          S .single i h (lt→ltb 0 (l .period i) (omega (arith, held′, but-other (l .period) k (e .period) i n)))
-          (pasted-by l lt (sym (but-other (l .first) k _ j o) ∙ f ∙ but-other (l .first) k _ i n)
-          (sym (but-other (l .second) k _ j o) ∙ s ∙ but-other (l .second) k _ i n)
-          (sym (but-other (l .period) k _ j o) ∙ p ∙ but-other (l .period) k _ i n))
+          S.single i h (lt→ltb 0 (l.period i) (omega (arith, held', but_other l.period k e.period i n)))
+          (pasted_by l lt (sym (but_other l.first k _ j o) ∙ f ∙ but_other l.first k _ i n)
+          (sym (but_other l.second k _ j o) ∙ s ∙ but_other l.second k _ i n)
+          (sym (but_other l.period k _ j o) ∙ p ∙ but_other l.period k _ i n))
 
-  put-single : (i : ℕ) → i < max-rows → T (held m i) → T (pasted (places m) i) → ⊥
-  put-single i h t p =
-      let q = by-pasted m i p in
-      put-twice i (q .0) h (q .1) (q .2 .0) (q .2 .1) (q .2 .2) (ltb→lt 0 _ t)
+  put_single : (i : ℕ) → i < max_rows → T (held m i) → T (pasted (places m) i) → ⊥
+  put_single i h t p =
+      let q = by_pasted m i p in
+      put_twice i q.0 h q.1 q.2.0 q.2.1 q.2.2 (ltb→lt 0 _ t)
 
-  pub put-in-order : common (placed l k e) ≤ max-slots → InOrder m
-  unfolding sumOver
-  put-in-order c = record {
-    rows = record { low = S .low; high = S .high; place = put-place S k (W .allowed); single = put-single };
+  pub put_in_order : common (placed l k e) ≤ max_slots → InOrder m
+  unfolding sum_over
+  put_in_order c = record {
+    rows = record { low = S.low; high = S.high; place = put_place S k W.allowed; single = put_single };
     denominator = refl;
     short = c;
     sums = λ s h. refl;
@@ -182,120 +182,120 @@ module _ {l : Live} (S : Seated l) (k : ℕ) {e : Entry} (W : Welcome l e) where
 
 -- ---- a row removed
 
-pub vacant-welcome : (l : Live) → Welcome l vacant
-vacant-welcome l = record { allowed = inl refl; new = λ i h f s p z. omega (arith, z) }
+pub vacant_welcome : (l : Live) → Welcome l vacant
+vacant_welcome l = record { allowed = inl refl; new = λ i h f s p z. omega (arith, z) }
 
 -- the denominator of fewer rows divides it
-fewer-divides : (p : ℕ → ℕ) (k i : ℕ) → i < max-rows → max 1 (but p k 0 i) ∣ commonOf p
-unfolding commonOf
-fewer-divides p k i h = go (ℕ-discrete i k)
+fewer_divides : (p : ℕ → ℕ) (k i : ℕ) → i < max_rows → max 1 (but p k 0 i) ∣ common_of p
+unfolding common_of
+fewer_divides p k i h = go (ℕ_discrete i k)
   where
-    go : Dec (i ≡ k) → max 1 (but p k 0 i) ∣ lcm max-rows (λ i. max 1 (p i))
-    go (yes q) = rw (ap (but p k 0) q ∙ but-same p k 0) (one-dvd _)
-    go (no n) = rw (but-other p k 0 i n) (lcm-multiple max-rows _ (one-positive p) i h)
+    go : Dec (i ≡ k) → max 1 (but p k 0 i) ∣ lcm max_rows (λ i. max 1 (p i))
+    go (yes q) = rw (ap (but p k 0) q ∙ but_same p k 0) (one-dvd _)
+    go (no n) = rw (but_other p k 0 i n) (lcm_multiple max_rows _ (one_positive p) i h)
 
-pub fewer-common : (p : ℕ → ℕ) (k : ℕ) → commonOf (but p k 0) ≤ commonOf p
-unfolding commonOf
-fewer-common p k =
-    le-of-dvd (lcm-positive max-rows _ (one-positive p))
-    (lcm-divides max-rows (λ i. max 1 (but p k 0 i)) (one-positive (but p k 0)) _ (fewer-divides p k))
+pub fewer_common : (p : ℕ → ℕ) (k : ℕ) → common_of (but p k 0) ≤ common_of p
+unfolding common_of
+fewer_common p k =
+    le_of_dvd (lcm_positive max_rows _ (one_positive p))
+    (lcm_divides max_rows (λ i. max 1 (but p k 0 i)) (one_positive (but p k 0)) _ (fewer_divides p k))
 
-pub removed-in-order : {l : Live} → InOrder l → (k : ℕ) → InOrder (put l k vacant)
-removed-in-order {l} O k =
-    put-in-order (O .rows) k (vacant-welcome l) (omega (arith, fewer-common (l .period) k, O .denominator, O .short))
+pub removed_in_order : {l : Live} → InOrder l → (k : ℕ) → InOrder (put l k vacant)
+removed_in_order {l} O k =
+    put_in_order O.rows k (vacant_welcome l) (omega (arith, fewer_common l.period k, O.denominator, O.short))
 
 -- ---- a row added
 
 -- a row that 18 doesn't refuse
-pub not-repeated : (l : Live) (e : Entry) → (T (repeated l e) → ⊥) → (i : ℕ) → i < max-rows → l .first i ≡ e .first
-    → l .second i ≡ e .second → l .period i ≡ e .period → 0 < e .period → ⊥
+pub not_repeated : (l : Live) (e : Entry) → (T (repeated l e) → ⊥) → (i : ℕ) → i < max_rows → l.first i ≡ e.first
+    → l.second i ≡ e.second → l.period i ≡ e.period → 0 < e.period → ⊥
 unfolding repeated
-not-repeated l e n i h f s p z =
-    n (any-of max-rows _ i h (three-of f s p))
+not_repeated l e n i h f s p z =
+    n (any_of max_rows _ i h (three_of f s p))
 
 -- ---- a new one
 
-blank-common : commonOf (λ i. 0) ≡ 1
-unfolding commonOf
-blank-common = lcm-same max-rows (λ i. max 1 0) 1 (omega arith) (omega arith) (λ i l. refl)
+blank_common : common_of (λ i. 0) ≡ 1
+unfolding common_of
+blank_common = lcm_same max_rows (λ i. max 1 0) 1 (omega arith) (omega arith) (λ i l. refl)
 
-blank-sum : (M d s : ℕ) → sumOver d (empty M) s ≡ 0
-unfolding sumOver
-blank-sum M d s =
-    ap (λ (x : ℕ). only (ltb s M) x) (sum-zero max-rows _ (λ i h. only-false _ _ refl)) ∙ only-zero (ltb s M)
+blank_sum : (M d s : ℕ) → sum_over d (empty M) s ≡ 0
+unfolding sum_over
+blank_sum M d s =
+    ap (λ (x : ℕ). only (ltb s M) x) (sum_zero max_rows _ (λ i h. only_false _ _ refl)) ∙ only_zero (ltb s M)
 
-pub new-in-order : (M : ℕ) → 2 ≤ M → M ≤ max-elements → InOrder (empty M)
-new-in-order M a b = record {
+pub new_in_order : (M : ℕ) → 2 ≤ M → M ≤ max_elements → InOrder (empty M)
+new_in_order M a b = record {
   rows = record {
     low = a;
     high = b;
     place = λ i h. inl (record { cost = refl; period = refl; first = refl; second = refl; label = refl });
     single = λ i h t p. omega (arith, ltb→lt 0 0 t);
   };
-  denominator = sym blank-common;
+  denominator = sym blank_common;
   short = omega arith;
-  sums = λ s h. sym (blank-sum M _ s);
+  sums = λ s h. sym (blank_sum M _ s);
 }
 
 -- ---- the promises
 
-pub add-numbered : (l : Live) (e : Entry) → Numbered (add-checks l e)
+pub add_numbered : (l : Live) (e : Entry) → Numbered (add_checks l e)
 unfolding Numbered
-add-numbered l e = omega arith
+add_numbered l e = omega arith
 
-pub remove-numbered : (l : Live) (k : ℕ) → Numbered (remove-checks l k)
+pub remove_numbered : (l : Live) (k : ℕ) → Numbered (remove_checks l k)
 unfolding Numbered
-remove-numbered l k = omega arith
+remove_numbered l k = omega arith
 
-made-in-order : (M : ℕ) (m : Live) → Made M m 0 0 → InOrder m
+made_in_order : (M : ℕ) (m : Live) → Made M m 0 0 → InOrder m
 unfolding Answers
-made-in-order M m c =
-    let r : (2 ≤ M) × (M ≤ max-elements) =
-    ⊎-elim (λ w. absurd (let z : 0 ≡ 4 = w .1 in omega (arith, z))) (λ w. limits M 2 max-elements (w .0)) (c .answers) in
-    rw (c .done refl) (new-in-order M (r .0) (r .1))
+made_in_order M m c =
+    let r : (2 ≤ M) × (M ≤ max_elements) =
+    ⊎_elim (λ w. absurd (let z : 0 ≡ 4 = w.1 in omega (arith, z))) (λ w. limits M 2 max_elements w.0) c.answers in
+    rw (c.done refl) (new_in_order M r.0 r.1)
 
 -- what an addition that no check refuses may count on
 pub record Addable (l : Live) (e : Entry) : Type 0 where
   pub order : InOrder l
   pub welcome : Welcome l e
-  pub room : T (every max-rows (held l)) → ⊥
-  pub short : common (placed l (free l) e) ≤ max-slots
+  pub room : T (every max_rows (held l)) → ⊥
+  pub short : common (placed l (free l) e) ≤ max_slots
 
-pub addable : (l : Live) (e : Entry) → InOrder l → None (add-checks l e) → Addable l e
+pub addable : (l : Live) (e : Entry) → InOrder l → None (add_checks l e) → Addable l e
 unfolding None
 addable l e O n = record {
   order = O;
   welcome = record {
-    allowed = inr (row-sound (alone l e) 0 (n .1 .0, (n .1 .1 .0, (n .1 .1 .1 .0, (n .1 .1 .1 .1 .0, tt)))));
-    new = not-repeated l e (n .1 .1 .1 .1 .1 .0);
+    allowed = inr (row_sound (alone l e) 0 (n.1.0, (n.1.1.0, (n.1.1.1.0, (n.1.1.1.1.0, tt)))));
+    new = not_repeated l e n.1.1.1.1.1.0;
   };
-  room = n .1 .1 .1 .1 .1 .1 .0;
-  short = omega (arith, n .1 .1 .1 .1 .1 .1 .1 .0);
+  room = n.1.1.1.1.1.1.0;
+  short = omega (arith, n.1.1.1.1.1.1.1.0);
 }
 
-added-in-order : (l m : Live) (e : Entry) (number place taken : ℕ) → InOrder l → Added l e m number place taken → InOrder m
-added-in-order l m e number place taken O c = go (ℕ-discrete number 0)
+added_in_order : (l m : Live) (e : Entry) (number place taken : ℕ) → InOrder l → Added l e m number place taken → InOrder m
+added_in_order l m e number place taken O c = go (ℕ_discrete number 0)
   where
     go : Dec (number ≡ 0) → InOrder m
     go (yes z) =
-        let A = addable l e O (call-none {p = place} (add-numbered l e) (rw z at c)) in
-        rw (c .done z .1) (put-in-order (O .rows) (free l) (A .welcome) (A .short))
-    go (no z) = rw (c .refused z .1) O
+        let A = addable l e O (call_none {p = place} (add_numbered l e) (rw z at c)) in
+        rw (c.done z).1 (put_in_order O.rows (free l) A.welcome A.short)
+    go (no z) = rw (c.refused z).1 O
 
-taken-out-in-order : (l m : Live) (k number place : ℕ) → InOrder l → Removed l k m number place → InOrder m
-taken-out-in-order l m k number place O c = go (ℕ-discrete number 0)
+taken_out_in_order : (l m : Live) (k number place : ℕ) → InOrder l → Removed l k m number place → InOrder m
+taken_out_in_order l m k number place O c = go (ℕ_discrete number 0)
   where
     go : Dec (number ≡ 0) → InOrder m
-    go (yes z) = rw (c .done z) (removed-in-order O k)
-    go (no z) = rw (c .refused z) O
+    go (yes z) = rw (c.done z) (removed_in_order O k)
+    go (no z) = rw (c.refused z) O
 
-pub stays-in-order : Stays-in-order
-stays-in-order = record { made = made-in-order; added = added-in-order; removed = taken-out-in-order }
+pub stays_in_order : StaysInOrder
+stays_in_order = record { made = made_in_order; added = added_in_order; removed = taken_out_in_order }
 
-reached-in-order : (l : Live) → Reached l → InOrder l
-reached-in-order m (made {M} c) = stays-in-order .made M m c
-reached-in-order m (added {l} e number place taken r c) = stays-in-order .added l m e number place taken (reached-in-order l r) c
-reached-in-order m (removed {l} k number place r c) = stays-in-order .removed l m k number place (reached-in-order l r) c
+reached_in_order : (l : Live) → Reached l → InOrder l
+reached_in_order m (made {M} c) = stays_in_order.made M m c
+reached_in_order m (added {l} e number place taken r c) = stays_in_order.added l m e number place taken (reached_in_order l r) c
+reached_in_order m (removed {l} k number place r c) = stays_in_order.removed l m k number place (reached_in_order l r) c
 
-pub sums-afresh : Sums-afresh
-sums-afresh l r = let O = reached-in-order l r in (O .denominator, O .sums)
+pub sums_afresh : SumsAfresh
+sums_afresh l r = let O = reached_in_order l r in (O.denominator, O.sums)

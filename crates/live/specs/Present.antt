@@ -1,19 +1,17 @@
 -- The rows present of a live table, from the columns of its places.
 --
---   presentIn cost .. label              the table of the rows present
+--   present_in cost .. label              the table of the rows present
 --   PutPresent cost .. label was now n   its numbers stand at the front of a slice that held `was`, and n is how many rows it has
-use mathlib.Core.Path.{_≡_}
-use mathlib.Core.List.{List}
-use Prim.Native.Nat.{ℕ}
-use Rattle·rules.specs.Bus.{Labelled}
-use Rattle·rules.specs.TableFile.{numbers}
-use Rattle·rules.specs.Calls.{lent}
-use Rattle·rules.specs.Live.{present}
-use Rattle·live·specs.specs.Tally.{columnLive}
+use Rattle.std.specs.Prelude.{◌≡◌, List, ℕ}
+use Rattle.rules.specs.Bus.{Labelled}
+use Rattle.rules.specs.TableFile.{numbers}
+use Rattle.rules.specs.Calls.{lent}
+use Rattle.rules.specs.Live.{present}
+use Rattle.live.specs.Tally.{column_live}
 
-abbrev pub presentIn : (cost period first second label : List ℕ) → Labelled
-presentIn cost period first second label = present (columnLive 0 cost period first second label)
+abbrev pub present_in : (cost period first second label : List ℕ) → Labelled
+present_in cost period first second label = present (column_live 0 cost period first second label)
 
 pub record PutPresent (cost period first second label was now : List ℕ) (n : ℕ) : Type 0 where
-  pub rows : n ≡ presentIn cost period first second label .table .rows
-  pub holds : now ≡ lent (numbers (presentIn cost period first second label)) was
+  pub rows : n ≡ (present_in cost period first second label).table.rows
+  pub holds : now ≡ lent (numbers (present_in cost period first second label)) was

@@ -1,73 +1,70 @@
 -- The code's live table, as #109's.
 --
---   liveOf l           the live table l
---   entryOf e          an entry that is to be put in a place
---   rowOf e            its row on the one ring
+--   live_of l           the live table l
+--   entry_of e          an entry that is to be put in a place
+--   row_of e            its row on the one ring
 --   blank M d          a live table with no rows
 --   unchanged l n      the answer of a call refused with number n: the live table it was given
 --   NewSeat M e        e passes 7 to 9 on a ring of M, or is zeros
 --   PutIn l k e r      r is l with e in place k, and with the sums over r's denominator, which is 0 where it would be above 4096
-use mathlib.Core.Path.{_≡_}
-use mathlib.Core.Logic.{_⊎_}
-use Prim.Native.Nat.{ℕ}
-use lib.ListN.{length, set, replicate}
-use Rattle·numbers.specs.Lists.{at}
-use Rattle·rules.specs.Bounds.{max-elements, max-rows}
-use Rattle·rules.specs.Bus.{clockwise}
-use Rattle·rules.specs.Live as rules
-use Rattle·table.specs.declared.Row.{Row}
-use Rattle·table.specs.Rows.{single}
-use Rattle·table.specs.Sound.{SoundRow}
-use Rattle·time.specs.Time.{Capped}
-use Rattle·live·specs.specs.Seats.{Zeros}
-use Rattle·live·specs.specs.declared.Live.{Live}
-use Rattle·live·specs.specs.declared.Entry.{Entry}
-use Rattle·live·specs.specs.declared.Changed.{Changed}
+use Rattle.std.specs.Prelude.{◌≡◌, ◌⊎◌, ℕ, length, set, replicate}
+use Rattle.numbers.specs.Lists.{at}
+use Rattle.rules.specs.Bounds.{max_elements, max_rows}
+use Rattle.rules.specs.Bus.{clockwise}
+use Rattle.rules.specs.Live as rules
+use Rattle.table.specs.declared.Row.{Row}
+use Rattle.table.specs.Rows.{single}
+use Rattle.table.specs.Sound.{SoundRow}
+use Rattle.time.specs.Time.{Capped}
+use Rattle.live.specs.Seats.{Zeros}
+use Rattle.live.specs.declared.Live.{Live}
+use Rattle.live.specs.declared.Entry.{Entry}
+use Rattle.live.specs.declared.Changed.{Changed}
 
-abbrev pub liveOf : Live → rules.Live
-liveOf l = record {
-  elements = l .elements;
-  cost = at (l .cost);
-  period = at (l .period);
-  first = at (l .first);
-  second = at (l .second);
-  label = at (l .label);
-  denominator = l .denominator;
-  sum = at (l .sums);
+abbrev pub live_of : Live → rules.Live
+live_of l = record {
+  elements = l.elements;
+  cost = at l.cost;
+  period = at l.period;
+  first = at l.first;
+  second = at l.second;
+  label = at l.label;
+  denominator = l.denominator;
+  sum = at l.sums;
 }
 
-abbrev pub entryOf : Entry → rules.Entry
-entryOf e = record { cost = e .cost; period = e .period; first = e .first; second = e .second; label = e .label }
+abbrev pub entry_of : Entry → rules.Entry
+entry_of e = record { cost = e.cost; period = e.period; first = e.first; second = e.second; label = e.label }
 
-abbrev pub rowOf : Entry → Row
-rowOf e =
-    record { cost = e .cost; period = e .period; first = e .first; second = e .second; way = clockwise; label = e .label }
+abbrev pub row_of : Entry → Row
+row_of e =
+    record { cost = e.cost; period = e.period; first = e.first; second = e.second; way = clockwise; label = e.label }
 
 abbrev pub blank : ℕ → ℕ → Live
 blank M d = record {
   elements = M;
-  cost = replicate max-rows 0;
-  period = replicate max-rows 0;
-  first = replicate max-rows 0;
-  second = replicate max-rows 0;
-  label = replicate max-rows 0;
+  cost = replicate max_rows 0;
+  period = replicate max_rows 0;
+  first = replicate max_rows 0;
+  second = replicate max_rows 0;
+  label = replicate max_rows 0;
   denominator = d;
-  sums = replicate max-elements 0;
+  sums = replicate max_elements 0;
 }
 
 abbrev pub unchanged : Live → ℕ → Changed
 unchanged l n = record { answer = record { number = n; place = 0 }; taken = 0; live = l }
 
 abbrev pub NewSeat : ℕ → Entry → Type 0
-NewSeat M e = SoundRow (single M 1 (rowOf e)) 0 ⊎ Zeros (rowOf e)
+NewSeat M e = SoundRow (single M 1 (row_of e)) 0 ⊎ Zeros (row_of e)
 
 pub record PutIn (l : Live) (k : ℕ) (e : Entry) (r : Live) : Type 0 where
-  pub elements : r .elements ≡ l .elements
-  pub cost : r .cost ≡ set (l .cost) k (e .cost)
-  pub period : r .period ≡ set (l .period) k (e .period)
-  pub first : r .first ≡ set (l .first) k (e .first)
-  pub second : r .second ≡ set (l .second) k (e .second)
-  pub label : r .label ≡ set (l .label) k (e .label)
-  pub denominator : Capped (rules.common (liveOf r)) (r .denominator)
-  pub sums : at (r .sums) ≡ rules.sumOver (r .denominator) (liveOf r)
-  pub size : length (r .sums) ≡ max-elements
+  pub elements : r.elements ≡ l.elements
+  pub cost : r.cost ≡ set l.cost k e.cost
+  pub period : r.period ≡ set l.period k e.period
+  pub first : r.first ≡ set l.first k e.first
+  pub second : r.second ≡ set l.second k e.second
+  pub label : r.label ≡ set l.label k e.label
+  pub denominator : Capped (rules.common (live_of r)) r.denominator
+  pub sums : at r.sums ≡ rules.sum_over r.denominator (live_of r)
+  pub size : length r.sums ≡ max_elements

@@ -1,14 +1,13 @@
 // The rows present of a live table as a table file (#109), so that verdict and plan can be asked of them.
+ghost use Rattle.std.specs.Prelude.{◌*◌, ◌≤◌, length};
+ghost use Rattle.rules.specs.Bounds.{max_rows};
+ghost use Rattle.rules.specs.TableFile.{row_numbers};
+ghost use Rattle.rules.specs.Live.{Filed};
+ghost use Rattle.live.specs.State.{live_of};
+ghost use Rattle.live.specs.Present.{PutPresent};
+
 use crate::Live;
-use table::Answer;
-use table::Table;
-ghost use Prim.Native.Nat.{_*_, _≤_};
-ghost use lib.ListN.{length};
-ghost use Rattle·rules.specs.Bounds.{max-rows};
-ghost use Rattle·rules.specs.TableFile.{rowNumbers};
-ghost use Rattle·rules.specs.Live.{Filed};
-ghost use Rattle·live·specs.specs.State.{liveOf};
-ghost use Rattle·live·specs.specs.Present.{PutPresent};
+use table::{Answer, Table};
 
 // The numbers of the rows present, in the order of their places, at the front of `out`; how many rows they are.
 fn put_present<'a>(
@@ -19,9 +18,9 @@ fn put_present<'a>(
     label: &'a [u16; Table::ROWS],
     out: &mut [u16],
 ) -> usize
-    requires { ⌜ rowNumbers * max-rows ≤ length (now out) ⌝ }
-    ensures { λ r. ⌜ PutPresent (now (cost .entry)) (now (period .entry)) (now (first .entry)) (now (second .entry)) (now (label .entry))
-        (now (out .entry)) (now (out .exit)) r ⌝ }
+    requires { row_numbers * max_rows ≤ length out.old }
+    ensures { PutPresent cost.now period.now first.now second.now label.now
+        out.old out.new result }
 {
     let mut rows: usize = 0;
     let mut i: usize = 0;
@@ -41,7 +40,7 @@ fn put_present<'a>(
 
 // The rows present, written as a table file in the version that is told: 15, then the writer's refusals. 5 says that there are no rows.
 pub fn write_file(live: Live, version: u64, out: &mut [u8]) -> Answer
-    ensures { λ r. ⌜ Filed version (liveOf live) (now (out .entry)) (now (out .exit)) (r .number) (r .place) ⌝ }
+    ensures { Filed version (live_of live) out.old out.new result.number result.place }
 {
     if !Live::is_in_order(live) {
         return Answer::at(Answer::OFF_STATE, 0);

@@ -3,28 +3,27 @@
 //
 // Every call first looks whether the live table that it is handed keeps the rules, which works denominator and sums out afresh. So a change
 // works them out afresh too, by the same functions, and nothing is carried along that could drift.
+#![tactic(auto)]
+
 mod files;
 mod seats;
 mod tally;
 
+ghost use Rattle.std.specs.Prelude.{◌≡◌, not, cond, ℕ, ◌<◌, ltb};
+ghost use Rattle.numbers.specs.Decides.{Decides};
+ghost use Rattle.numbers.specs.Finite.{lowest};
+ghost use Rattle.numbers.specs.Lists.{at};
+ghost use Rattle.rules.specs.Bounds.{max_elements, max_rows};
+ghost use Rattle.rules.specs.Live.{InOrder};
+ghost use Rattle.live.specs.State.{live_of, row_of, NewSeat, PutIn, unchanged};
+ghost use Rattle.live.specs.Answers.{NewAnswer, AddAnswer, RemoveAnswer};
+
 pub use files::write_file;
-use table::Answer;
-use table::Row;
-use table::Table;
-ghost use mathlib.Core.Path.{_≡_};
-ghost use mathlib.Core.Bool.{not, cond};
-ghost use Prim.Native.Nat.{ℕ, _<_};
-ghost use lib.Dec.{ltb};
-ghost use Rattle·numbers.specs.Decides.{Decides};
-ghost use Rattle·numbers.specs.Finite.{lowest};
-ghost use Rattle·numbers.specs.Lists.{at};
-ghost use Rattle·rules.specs.Bounds.{max-elements, max-rows};
-ghost use Rattle·rules.specs.Live.{InOrder};
-ghost use Rattle·live·specs.specs.State.{liveOf, rowOf, NewSeat, PutIn, unchanged};
-ghost use Rattle·live·specs.specs.Answers.{NewAnswer, AddAnswer, RemoveAnswer};
+use table::{Answer, Row, Table};
 
 // The sum of segment s + 1 stands at s.
 #[repr(C)]
+#[derive(Clone, Copy)]
 pub struct Live {
     pub elements: usize,
     pub cost: [u16; Table::ROWS],
@@ -37,6 +36,7 @@ pub struct Live {
 }
 
 // A row that is to be put in a place, with its label. A live table has one ring, so no direction is told.
+#[derive(Clone, Copy)]
 pub struct Entry {
     pub cost: u16,
     pub period: u16,
@@ -46,7 +46,7 @@ pub struct Entry {
 }
 
 fn clockwise(entry: Entry) -> Row
-    ensures { λ r. ⌜ r ≡ rowOf entry ⌝ }
+    ensures { result ≡ row_of entry }
 {
     Row {
         cost: entry.cost,
@@ -59,6 +59,7 @@ fn clockwise(entry: Entry) -> Row
 }
 
 // What a call answers: number and place, the place that a row has taken, and the live table after it.
+#[derive(Clone, Copy)]
 pub struct Changed {
     pub answer: Answer,
     pub taken: u32,
@@ -66,7 +67,7 @@ pub struct Changed {
 }
 
 fn are_same<'a>(a: &'a [u64; Table::ELEMENTS], b: &'a [u64; Table::ELEMENTS]) -> bool
-    ensures { λ r. ⌜ Decides ((s : ℕ) → s < max-elements → at (now (a .entry)) s ≡ at (now (b .entry)) s) r ⌝ }
+    ensures { Decides ((s : ℕ) → s < max_elements → at a.now s ≡ at b.now s) result }
 {
     let mut s: usize = 0;
     while s < Table::ELEMENTS {
@@ -80,7 +81,7 @@ fn are_same<'a>(a: &'a [u64; Table::ELEMENTS], b: &'a [u64; Table::ELEMENTS]) ->
 
 // The lowest free place, 64 where all hold rows.
 fn lowest_free(period: &[u16; Table::ROWS]) -> usize
-    ensures { λ r. ⌜ r ≡ lowest max-rows (λ i. not (ltb 0 (at (now (period .entry)) i))) ⌝ }
+    ensures { result ≡ lowest max_rows (λ i. not (ltb 0 (at period.now i))) }
 {
     let mut i: usize = 0;
     while i < Table::ROWS {
@@ -94,7 +95,7 @@ fn lowest_free(period: &[u16; Table::ROWS]) -> usize
 
 // The number of the first of two refusals that applies, else 0.
 fn earlier_of(first: bool, number: u32, second: bool, other: u32) -> u32
-    ensures { λ r. ⌜ r ≡ cond first number (cond second other 0) ⌝ }
+    ensures { result ≡ cond first number (cond second other 0) }
 {
     if first {
         return number;
@@ -108,7 +109,7 @@ fn earlier_of(first: bool, number: u32, second: bool, other: u32) -> u32
 impl Live {
     // No rows. A denominator of 0 is no live table's.
     fn blank(elements: usize, denominator: u64) -> Live
-        ensures { λ r. ⌜ r ≡ Rattle·live·specs.specs.State.blank elements denominator ⌝ }
+        ensures { result ≡ Rattle.live.specs.State.blank elements denominator }
     {
         Live {
             elements: elements,
@@ -124,7 +125,7 @@ impl Live {
 
     // It keeps the rules: any other is off.
     pub fn is_in_order(self) -> bool
-        ensures { λ r. ⌜ Decides (InOrder (liveOf self)) r ⌝ }
+        ensures { Decides (InOrder (live_of self)) result }
     {
         let live = self;
         if !seats::are_seated(
@@ -157,8 +158,8 @@ impl Live {
 
     // Place `k` holds the entry, and denominator and sums are worked out afresh. The denominator is 0 where it would be above 4096.
     fn put(self, k: usize, entry: Entry) -> Live
-        requires { ⌜ (k < max-rows) × InOrder (liveOf self) × NewSeat (self .elements) entry ⌝ }
-        ensures { λ r. ⌜ PutIn self k entry r ⌝ }
+        requires { (k < max_rows) × InOrder (live_of self) × NewSeat self.elements entry }
+        ensures { PutIn self k entry result }
     {
         let mut cost = self.cost;
         let mut period = self.period;
@@ -186,7 +187,7 @@ impl Live {
 
     // A refusal hands back the very live table.
     fn refused(self, number: u32) -> Changed
-        ensures { λ r. ⌜ r ≡ unchanged self number ⌝ }
+        ensures { result ≡ unchanged self number }
     {
         Changed {
             answer: Answer::at(number, 0),
@@ -197,7 +198,7 @@ impl Live {
 
     // A live table of a ring of `elements`, with no rows; nothing but zeros where it is refused.
     pub fn new(elements: usize) -> Changed
-        ensures { λ r. ⌜ NewAnswer elements r ⌝ }
+        ensures { NewAnswer elements result }
     {
         if elements < 2 {
             return Live::refused(Live::blank(0, 0), Answer::WRONG_ELEMENTS);
@@ -214,7 +215,7 @@ impl Live {
 
     // An entry is put in the lowest free place.
     pub fn add(self, entry: Entry) -> Changed
-        ensures { λ r. ⌜ AddAnswer self entry r ⌝ }
+        ensures { AddAnswer self entry result }
     {
         let live = self;
         if !Live::is_in_order(live) {
@@ -245,7 +246,7 @@ impl Live {
 
     // The row in place `k` is removed, and the place is free again.
     pub fn remove(self, k: usize) -> Changed
-        ensures { λ r. ⌜ RemoveAnswer self k r ⌝ }
+        ensures { RemoveAnswer self k result }
     {
         let live = self;
         if !Live::is_in_order(live) {

@@ -1,27 +1,22 @@
 // Whether the places of a live table are as they should be (#109): each is free or holds a row that the bus allows, and no row stands there
 // twice. Only comparisons are made, so any numbers may be handed in.
-use table::Answer;
-use table::Row;
-use table::Table;
-ghost use mathlib.Core.Path.{_≡_};
-ghost use mathlib.Core.Bool.{_&&_};
-ghost use mathlib.Core.Logic.{_⊎_};
-ghost use Prim.Native.Nat.{ℕ, _≤_, _<_};
-ghost use lib.Dec.{T, ltb};
-ghost use Rattle·numbers.specs.Decides.{Decides};
-ghost use Rattle·numbers.specs.Finite.{any};
-ghost use Rattle·numbers.specs.Lists.{at};
-ghost use Rattle·rules.specs.Bounds.{max-rows};
-ghost use Rattle·rules.specs.Bus.{pasted};
-ghost use Rattle·rules.specs.Refusals.{Answers, faults};
-ghost use Rattle·rules.specs.Live.{Seated};
-ghost use Rattle·table.specs.Rows.{single};
-ghost use Rattle·live·specs.specs.Tally.{columnLive, columnPlaces};
-ghost use Rattle·live·specs.specs.Seats.{Zeros, Seat, equal};
+ghost use Rattle.std.specs.Prelude.{◌≡◌, ◌&&◌, ◌⊎◌, ℕ, ◌≤◌, ◌<◌, T, ltb};
+ghost use Rattle.numbers.specs.Decides.{Decides};
+ghost use Rattle.numbers.specs.Finite.{any};
+ghost use Rattle.numbers.specs.Lists.{at};
+ghost use Rattle.rules.specs.Bounds.{max_rows};
+ghost use Rattle.rules.specs.Bus.{pasted};
+ghost use Rattle.rules.specs.Refusals.{Answers, faults};
+ghost use Rattle.rules.specs.Live.{Seated};
+ghost use Rattle.table.specs.Rows.{single};
+ghost use Rattle.live.specs.Tally.{column_live, column_places};
+ghost use Rattle.live.specs.Seats.{Zeros, Seat, equal};
+
+use table::{Answer, Row, Table};
 
 // A free place holds zeros, the label too.
 fn is_free(row: Row) -> bool
-    ensures { λ r. ⌜ Decides (Zeros row) r ⌝ }
+    ensures { Decides (Zeros row) result }
 {
     if row.cost != 0 {
         return false;
@@ -39,7 +34,7 @@ fn is_free(row: Row) -> bool
 }
 
 fn is_seat(elements: usize, row: Row) -> bool
-    ensures { λ r. ⌜ Decides (Zeros row ⊎ Answers (faults (single elements 1 row) 0) 0 0) r ⌝ }
+    ensures { Decides (Zeros row ⊎ Answers (faults (single elements 1 row) 0) 0 0) result }
 {
     if is_free(row) {
         return true;
@@ -56,10 +51,10 @@ fn are_seats<'a>(
     second: &'a [u8; Table::ROWS],
     label: &'a [u16; Table::ROWS],
 ) -> bool
-    ensures { λ r. ⌜ Decides ((i : ℕ) → i < max-rows
+    ensures { Decides ((i : ℕ) → i < max_rows
         → Seat
-        (columnLive elements (now (cost .entry)) (now (period .entry)) (now (first .entry)) (now (second .entry)) (now (label .entry))) i)
-        r ⌝ }
+        (column_live elements cost.now period.now first.now second.now label.now) i)
+        result }
 {
     let mut i: usize = 0;
     while i < Table::ROWS {
@@ -82,8 +77,8 @@ fn is_equal<'a>(
     j: usize,
     row: Row,
 ) -> bool
-    requires { ⌜ j < max-rows ⌝ }
-    ensures { λ r. ⌜ r ≡ equal (at (now (period .entry))) (at (now (first .entry))) (at (now (second .entry))) row j ⌝ }
+    requires { j < max_rows }
+    ensures { result ≡ equal (at period.now) (at first.now) (at second.now) row j }
 {
     if table::end_at(first, j) != row.first as usize {
         return false;
@@ -102,8 +97,8 @@ pub fn has_row<'a>(
     second: &'a [u8; Table::ROWS],
     row: Row,
 ) -> bool
-    requires { ⌜ count ≤ max-rows ⌝ }
-    ensures { λ r. ⌜ r ≡ any count (equal (at (now (period .entry))) (at (now (first .entry))) (at (now (second .entry))) row) ⌝ }
+    requires { count ≤ max_rows }
+    ensures { result ≡ any count (equal (at period.now) (at first.now) (at second.now) row) }
 {
     let mut j: usize = 0;
     while j < count {
@@ -123,10 +118,10 @@ fn is_repeated<'a>(
     second: &'a [u8; Table::ROWS],
     i: usize,
 ) -> bool
-    requires { ⌜ i < max-rows ⌝ }
-    ensures { λ r. ⌜ ((elements : ℕ) → r ≡ (ltb 0 (at (now (period .entry)) i)
+    requires { i < max_rows }
+    ensures { (elements : ℕ) → result ≡ (ltb 0 (at period.now i)
         && pasted
-        (columnPlaces elements (now (cost .entry)) (now (period .entry)) (now (first .entry)) (now (second .entry))) i)) ⌝ }
+        (column_places elements cost.now period.now first.now second.now) i) }
 {
     if table::slots_at(period, i) == 0 {
         return false;
@@ -147,10 +142,10 @@ fn are_single<'a>(
     first: &'a [u8; Table::ROWS],
     second: &'a [u8; Table::ROWS],
 ) -> bool
-    ensures { λ r. ⌜ ((elements : ℕ) → Decides ((i : ℕ) → i < max-rows → T (ltb 0 (at (now (period .entry)) i))
+    ensures { (elements : ℕ) → Decides ((i : ℕ) → i < max_rows → T (ltb 0 (at period.now i))
         → T (pasted
-        (columnPlaces elements (now (cost .entry)) (now (period .entry)) (now (first .entry)) (now (second .entry))) i) → ⊥)
-        r) ⌝ }
+        (column_places elements cost.now period.now first.now second.now) i) → ⊥)
+        result }
 {
     let mut i: usize = 0;
     while i < Table::ROWS {
@@ -171,10 +166,10 @@ pub fn are_seated<'a>(
     second: &'a [u8; Table::ROWS],
     label: &'a [u16; Table::ROWS],
 ) -> bool
-    ensures { λ r. ⌜ Decides
+    ensures { Decides
         (Seated
-        (columnLive elements (now (cost .entry)) (now (period .entry)) (now (first .entry)) (now (second .entry)) (now (label .entry))))
-        r ⌝ }
+        (column_live elements cost.now period.now first.now second.now label.now))
+        result }
 {
     if elements < 2 {
         return false;

@@ -1,22 +1,19 @@
 // What a live table keeps beside its rows, worked out afresh from its 64 places (#109): the denominator, and the load sum of each segment
 // over it. A free place holds zeros.
-use table::Row;
-use table::Table;
-ghost use mathlib.Core.Path.{_≡_};
-ghost use mathlib.Core.List.{List};
-ghost use Prim.Native.Nat.{ℕ, _≤_, _<_, max};
-ghost use lib.ListN.{length};
-ghost use Rattle·numbers.specs.Lists.{at};
-ghost use Rattle·rules.specs.Bounds.{max-elements, max-rows, max-slots};
-ghost use Rattle·rules.specs.Live.{commonOf, sumOver};
-ghost use Rattle·table.specs.Rows.{single};
-ghost use Rattle·table.specs.Columns.{ByRow};
-ghost use Rattle·table.specs.Sound.{SoundRow};
-ghost use Rattle·time.specs.Time.{Capped};
-ghost use Rattle·live·specs.specs.Tally.{columnLive, columnPlaces, Passing, segmentLoad};
+ghost use Rattle.std.specs.Prelude.{◌≡◌, List, ℕ, ◌≤◌, ◌<◌, max, length};
+ghost use Rattle.numbers.specs.Lists.{at};
+ghost use Rattle.rules.specs.Bounds.{max_elements, max_rows, max_slots};
+ghost use Rattle.rules.specs.Live.{common_of, sum_over};
+ghost use Rattle.table.specs.Rows.{single};
+ghost use Rattle.table.specs.Columns.{ByRow};
+ghost use Rattle.table.specs.Sound.{SoundRow};
+ghost use Rattle.time.specs.Time.{Capped};
+ghost use Rattle.live.specs.Tally.{column_live, column_places, Passing, segment_load};
+
+use table::{Row, Table};
 
 fn at_least_one(x: u16) -> u16
-    ensures { λ r. ⌜ r ≡ max 1 x ⌝ }
+    ensures { result ≡ max 1 x }
 {
     if x == 0 {
         return 1;
@@ -26,7 +23,7 @@ fn at_least_one(x: u16) -> u16
 
 // The periods, and 1 for a free place, which is no multiple of anything more.
 fn counted(period: &[u16; Table::ROWS]) -> [u16; Table::ROWS]
-    ensures { λ r. ⌜ ByRow max-rows (λ i. max 1 (at (now (period .entry)) i)) r ⌝ }
+    ensures { ByRow max_rows (λ i. max 1 (at period.now i)) result }
 {
     let mut all = [0u16; Table::ROWS];
     let mut i: usize = 0;
@@ -39,8 +36,8 @@ fn counted(period: &[u16; Table::ROWS]) -> [u16; Table::ROWS]
 
 // The least common multiple of the periods present, or 0 where it is above 4096.
 pub fn denominator_of(period: &[u16; Table::ROWS]) -> u64
-    requires { ⌜ ((i : ℕ) → i < max-rows → at (now period) i ≤ max-slots) ⌝ }
-    ensures { λ r. ⌜ Capped (commonOf (at (now (period .entry)))) r ⌝ }
+    requires { (i : ℕ) → i < max_rows → at period.now i ≤ max_slots }
+    ensures { Capped (common_of (at period.now)) result }
 {
     let all = counted(period);
     time::hyperperiod_of(Table::ROWS, &all)
@@ -48,8 +45,8 @@ pub fn denominator_of(period: &[u16; Table::ROWS]) -> u64
 
 // What a row of the one ring, or a free place, adds to the load of segment s + 1, in units of 1 / d.
 fn load_of(elements: usize, d: u64, row: Row, s: usize) -> u64
-    requires { ⌜ (elements ≤ max-elements) × (d ≤ max-slots) × (s < elements) × (0 < row .period → SoundRow (single elements 1 row) 0) ⌝ }
-    ensures { λ r. ⌜ (r ≡ segmentLoad d (single elements 1 row) s 0) × (r ≤ max-slots) ⌝ }
+    requires { (elements ≤ max_elements) × (d ≤ max_slots) × (s < elements) × (0 < row.period → SoundRow (single elements 1 row) 0) }
+    ensures { (result ≡ segment_load d (single elements 1 row) s 0) × (result ≤ max_slots) }
 {
     if row.period == 0 {
         return 0;
@@ -71,10 +68,10 @@ fn sum_of<'a>(
     second: &'a [u8; Table::ROWS],
     s: usize,
 ) -> u64
-    requires { ⌜ (d ≤ max-slots) × (s < elements)
-        × Passing (columnPlaces elements (now cost) (now period) (now first) (now second)) ⌝ }
-    ensures { λ r. ⌜ ((label : List ℕ) → r
-        ≡ sumOver d (columnLive elements (now (cost .entry)) (now (period .entry)) (now (first .entry)) (now (second .entry)) label) s) ⌝ }
+    requires { (d ≤ max_slots) × (s < elements)
+        × Passing (column_places elements cost.now period.now first.now second.now) }
+    ensures { (label : List ℕ) → result
+        ≡ sum_over d (column_live elements cost.now period.now first.now second.now label) s }
 {
     let mut total: u64 = 0;
     let mut i: usize = 0;
@@ -100,10 +97,10 @@ pub fn sums_of<'a>(
     first: &'a [u8; Table::ROWS],
     second: &'a [u8; Table::ROWS],
 ) -> [u64; Table::ELEMENTS]
-    requires { ⌜ (d ≤ max-slots) × Passing (columnPlaces elements (now cost) (now period) (now first) (now second)) ⌝ }
-    ensures { λ r. ⌜ (length r ≡ max-elements)
-        × ((label : List ℕ) → at r
-        ≡ sumOver d (columnLive elements (now (cost .entry)) (now (period .entry)) (now (first .entry)) (now (second .entry)) label)) ⌝ }
+    requires { (d ≤ max_slots) × Passing (column_places elements cost.now period.now first.now second.now) }
+    ensures { (length result ≡ max_elements)
+        × ((label : List ℕ) → at result
+        ≡ sum_over d (column_live elements cost.now period.now first.now second.now label)) }
 {
     let mut sums = [0u64; Table::ELEMENTS];
     let mut s: usize = 0;

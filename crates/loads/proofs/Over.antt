@@ -1,28 +1,28 @@
 -- The rows over a set, as an exclusive or of those that start and end at the nodes before it has them.
 --
---   over-next    one node more
---   over-is      the rows that start before a node and don't end before it
---   over-set     past the node of a set they are the set's rows
-use mathlib.Core.Path.{_≡_, refl, sym, ap, ap₂, _∙_}
-use mathlib.Core.Bool.{Bool, true, false, not, _&&_, cond}
+--   over_next    one node more
+--   over_is      the rows that start before a node and don't end before it
+--   over_set     past the node of a set they are the set's rows
+use mathlib.Core.Path.{◌≡◌, refl, sym, ap, ap₂, ◌∙◌}
+use mathlib.Core.Bool.{Bool, true, false, not, ◌&&◌, cond}
 use mathlib.Core.List.{List}
-use Prim.Native.Nat.{ℕ, zero, suc, _≤_, _<_}
-use native.Mathlib.Decide.{decLt, ℕ-discrete}
+use Prim.Native.Nat.{ℕ, zero, suc, ◌≤◌, ◌<◌}
+use native.Mathlib.Decide.{dec_lt, ℕ_discrete}
 use native.Mathlib.Omega.{arith}
-use lib.Bits.{bitXor}
+use lib.Bits.{bit_xor}
 use lib.Dec.{eqb, ltb, leb}
-use borrow.Author.Tests.{eq-eqb, ne-eqb, lt-ltb, le-ltb, le-leb, lt-leb}
-use Rattle·numbers.specs.Lists.{at}
-use Rattle·numbers.specs.Word.{bit}
-use Rattle·numbers.proofs.Word.{bit-zero}
-use Rattle·loads·proofs.proofs.Words.{bit-xor}
-use Rattle·loads·specs.specs.Loads.{inSet, last}
-use Rattle·loads·specs.specs.State.{over, Ends}
+use borrow.Author.Tests.{eq-eqb, ne_eqb, lt-ltb, le-ltb, le-leb, lt-leb}
+use Rattle.numbers.specs.Lists.{at}
+use Rattle.numbers.specs.Word.{bit}
+use Rattle.numbers.proofs.Word.{bit_zero}
+use Rattle.loads.proofs.Words.{bit_xor_lem}
+use Rattle.loads.specs.Loads.{in_set, last}
+use Rattle.loads.specs.State.{over, Ends}
 
 -- one node more
-pub over-next : (out into : ℕ → ℕ) (k w : ℕ) → w ≡ over out into k → bitXor (bitXor w (out k)) (into k) ≡ over out into (suc k)
+pub over_next : (out into : ℕ → ℕ) (k w : ℕ) → w ≡ over out into k → bit_xor (bit_xor w (out k)) (into k) ≡ over out into (suc k)
 unfolding over
-over-next out into k w e = ap (λ (v : ℕ). bitXor (bitXor v (out k)) (into k)) e
+over_next out into k w e = ap (λ (v : ℕ). bit_xor (bit_xor v (out k)) (into k)) e
 
 -- a row from node a to node h, seen from node k
 abbrev lies : (a h k : ℕ) → Bool
@@ -37,15 +37,15 @@ module _ (a h k : ℕ) (l : a < h) where
   Next = toggled (eqb h k) (toggled (eqb a k) (lies a h k)) ≡ lies a h (suc k)
 
   next : Next
-  next = go (decLt a k) (decLt h k) (ℕ-discrete a k) (ℕ-discrete h k)
+  next = go (dec_lt a k) (dec_lt h k) (ℕ_discrete a k) (ℕ_discrete h k)
     where
       go : Dec (a < k) → Dec (h < k) → Dec (a ≡ k) → Dec (h ≡ k) → Next
       go (yes p) (yes q) r s =
           rw (
             lt-ltb a k p,
             lt-leb k h q,
-            ne-eqb a k (omega arith),
-            ne-eqb h k (omega arith),
+            ne_eqb a k (omega arith),
+            ne_eqb h k (omega arith),
             lt-leb (suc k) h (omega arith),
             lt-ltb a (suc k) (omega arith),
           ) refl
@@ -53,7 +53,7 @@ module _ (a h k : ℕ) (l : a < h) where
           rw (
             lt-ltb a k p,
             le-leb k h (omega arith),
-            ne-eqb a k (omega arith),
+            ne_eqb a k (omega arith),
             eq-eqb h k s,
             lt-leb (suc k) h (omega arith),
             lt-ltb a (suc k) (omega arith),
@@ -62,8 +62,8 @@ module _ (a h k : ℕ) (l : a < h) where
           rw (
             lt-ltb a k p,
             le-leb k h (omega arith),
-            ne-eqb a k (omega arith),
-            ne-eqb h k s,
+            ne_eqb a k (omega arith),
+            ne_eqb h k s,
             le-leb (suc k) h (omega arith),
             lt-ltb a (suc k) (omega arith),
           ) refl
@@ -71,30 +71,30 @@ module _ (a h k : ℕ) (l : a < h) where
           rw (
             le-ltb a k (omega arith),
             eq-eqb a k r,
-            ne-eqb h k (omega arith),
+            ne_eqb h k (omega arith),
             le-leb (suc k) h (omega arith),
             lt-ltb a (suc k) (omega arith),
           ) refl
       go (no p) q (no r) s =
-          rw (le-ltb a k (omega arith), ne-eqb a k r, ne-eqb h k (omega arith), le-ltb a (suc k) (omega arith)) refl
+          rw (le-ltb a k (omega arith), ne_eqb a k r, ne_eqb h k (omega arith), le-ltb a (suc k) (omega arith)) refl
 
 module _ {n K : ℕ} {tail head out into : List ℕ} (E : Ends n K tail head out into) where
   spans : (i : ℕ) → i < n → at tail i < at head i
-  spans i l = omega (arith, E .spans .row i l, E .heads i l)
+  spans i l = omega (arith, E.spans.row i l, E.heads i l)
 
-  over-is : (k i : ℕ) → k ≤ suc K → bit (over (at out) (at into) k) i ≡ (ltb i n && lies (at tail i) (at head i) k)
+  over_is : (k i : ℕ) → k ≤ suc K → bit (over (at out) (at into) k) i ≡ (ltb i n && lies (at tail i) (at head i) k)
   unfolding over
-  over-is zero i m = bit-zero i ∙ sym (rw (le-ltb (at tail i) 0 (omega arith)) (none (ltb i n)))
+  over_is zero i m = bit_zero i ∙ sym (rw (le-ltb (at tail i) 0 (omega arith)) (none (ltb i n)))
     where
       none : (b : Bool) → (b && false) ≡ false
       none true = refl
       none false = refl
-  over-is (suc k) i m =
-      bit-xor (bitXor (over (at out) (at into) k) (at out k)) (at into k) i
-      ∙ ap₂ toggled (E .wired .ending k i (omega arith))
-      (bit-xor (over (at out) (at into) k) (at out k) i
-      ∙ ap₂ toggled (E .wired .starting k i (omega arith)) (over-is k i (omega arith)))
-      ∙ go (decLt i n)
+  over_is (suc k) i m =
+      bit_xor_lem (bit_xor (over (at out) (at into) k) (at out k)) (at into k) i
+      ∙ ap₂ toggled (E.wired.ending k i (omega arith))
+      (bit_xor_lem (over (at out) (at into) k) (at out k) i
+      ∙ ap₂ toggled (E.wired.starting k i (omega arith)) (over_is k i (omega arith)))
+      ∙ go (dec_lt i n)
     where
       go : Dec (i < n)
           → toggled (ltb i n && eqb (at head i) k)
@@ -103,8 +103,8 @@ module _ {n K : ℕ} {tail head out into : List ℕ} (E : Ends n K tail head out
       go (yes l) = rw (lt-ltb i n l) (next (at tail i) (at head i) k (spans i l))
       go (no l) = rw (le-ltb i n (omega arith)) refl
 
-  pub over-set : (k i : ℕ) → k < K → bit (over (at out) (at into) (suc k)) i ≡ (ltb i n && inSet (at tail) (last head) k i)
-  over-set k i m = over-is (suc k) i (omega arith) ∙ go (decLt i n)
+  pub over_set : (k i : ℕ) → k < K → bit (over (at out) (at into) (suc k)) i ≡ (ltb i n && in_set (at tail) (last head) k i)
+  over_set k i m = over_is (suc k) i (omega arith) ∙ go (dec_lt i n)
     where
       starts : Dec (k < at tail i) → ltb (at tail i) (suc k) ≡ leb (at tail i) k
       starts (yes d) = le-ltb (at tail i) (suc k) (omega arith) ∙ sym (lt-leb (at tail i) k d)
@@ -114,7 +114,7 @@ module _ {n K : ℕ} {tail head out into : List ℕ} (E : Ends n K tail head out
       ends p (yes d) = le-leb (suc k) (at head i) d ∙ sym (le-leb k (last head i) (omega arith))
       ends p (no d) = lt-leb (suc k) (at head i) (omega arith) ∙ sym (lt-leb k (last head i) (omega arith))
 
-      go : Dec (i < n) → (ltb i n && lies (at tail i) (at head i) (suc k)) ≡ (ltb i n && inSet (at tail) (last head) k i)
+      go : Dec (i < n) → (ltb i n && lies (at tail i) (at head i) (suc k)) ≡ (ltb i n && in_set (at tail) (last head) k i)
       go (yes l) =
-          ap₂ (λ (b c : Bool). ltb i n && (b && c)) (starts (decLt k (at tail i))) (ends (E .heads i l) (decLt k (at head i)))
+          ap₂ (λ (b c : Bool). ltb i n && (b && c)) (starts (dec_lt k (at tail i))) (ends (E.heads i l) (dec_lt k (at head i)))
       go (no l) = rw (le-ltb i n (omega arith)) refl

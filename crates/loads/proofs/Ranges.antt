@@ -1,10 +1,10 @@
 -- Only one pair of arrays holds each row's nodes.
-use mathlib.Core.Path.{_≡_}
+use mathlib.Core.Path.{◌≡◌}
 use mathlib.Core.List.{List}
 use Prim.Native.Nat.{ℕ}
-use Rattle·table.proofs.ByRow.{by-row-only}
-use Rattle·loads·specs.specs.Ranges.{Ranged}
+use Rattle.table.proofs.ByRow.{by_row_only}
+use Rattle.loads.specs.Ranges.{Ranged}
 
-pub ranged-only : {n K : ℕ} {ws tail head tail' head' : List ℕ} → Ranged n K ws tail head → Ranged n K ws tail' head'
+pub ranged_only : {n K : ℕ} {ws tail head tail' head' : List ℕ} → Ranged n K ws tail head → Ranged n K ws tail' head'
     → (tail ≡ tail') × (head ≡ head')
-ranged-only R Q = (by-row-only (R .lowest) (Q .lowest), by-row-only (R .highest) (Q .highest))
+ranged_only R Q = (by_row_only R.lowest Q.lowest, by_row_only R.highest Q.highest)

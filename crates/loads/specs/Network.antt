@@ -1,16 +1,13 @@
 -- Networks: arcs between nodes, and the amounts that the arcs carry.
 --
 --   Net                arcs by number: arc e leads from node tail e to node head e and carries from low e to high e
---   nodes-most        how many nodes there are at most
+--   nodes_most        how many nodes there are at most
 --   Circulation G x    with amounts x, as much leaves every set of nodes as enters it
 --   Within G x         every arc carries an amount within its bounds
 --   Put f k v g        g is f with v at k
-use mathlib.Core.Path.{_≡_}
-use mathlib.Core.Bool.{Bool}
-use mathlib.Core.Logic.{_≢_}
-use Prim.Native.Nat.{ℕ, _+_, _≤_, _<_}
-use Rattle·numbers.specs.Finite.{sumIn}
-use Rattle·rules.specs.Bounds.{max-elements}
+use Rattle.std.specs.Prelude.{◌≡◌, Bool, ◌≢◌, ℕ, ◌+◌, ◌≤◌, ◌<◌}
+use Rattle.numbers.specs.Finite.{sum_in}
+use Rattle.rules.specs.Bounds.{max_elements}
 
 pub record Net : Type 0 where
   pub arcs : ℕ
@@ -19,14 +16,14 @@ pub record Net : Type 0 where
   pub low : ℕ → ℕ
   pub high : ℕ → ℕ
 
-abbrev pub nodes-most : ℕ
-nodes-most = max-elements + 1
+abbrev pub nodes_most : ℕ
+nodes_most = max_elements + 1
 
 abbrev pub Circulation : Net → (ℕ → ℕ) → Type 0
-Circulation G x = (r : ℕ → Bool) → sumIn (G .arcs) (λ e. r (G .tail e)) x ≡ sumIn (G .arcs) (λ e. r (G .head e)) x
+Circulation G x = (r : ℕ → Bool) → sum_in G.arcs (λ e. r (G.tail e)) x ≡ sum_in G.arcs (λ e. r (G.head e)) x
 
 abbrev pub Within : Net → (ℕ → ℕ) → Type 0
-Within G x = (e : ℕ) → e < G .arcs → (G .low e ≤ x e) × (x e ≤ G .high e)
+Within G x = (e : ℕ) → e < G.arcs → (G.low e ≤ x e) × (x e ≤ G.high e)
 
 abbrev pub Put : (ℕ → ℕ) → ℕ → ℕ → (ℕ → ℕ) → Type 0
 Put f k v g = (g k ≡ v) × ((w : ℕ) → w ≢ k → g w ≡ f w)

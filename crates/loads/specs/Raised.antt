@@ -4,9 +4,8 @@
 --   Best G i x          no circulation within the bounds that agrees with x below arc i has more on arc i
 --   Raised G i x x'     arc i is raised
 --   Settled n G x       every arc below n is raised: of all circulations within the bounds, x is the greatest in the order of arcs
-use mathlib.Core.Path.{_≡_}
-use Prim.Native.Nat.{ℕ, _+_, _≤_, _<_}
-use Rattle·loads·specs.specs.Network.{Net, Circulation, Within}
+use Rattle.std.specs.Prelude.{◌≡◌, ℕ, ◌+◌, ◌≤◌, ◌<◌}
+use Rattle.loads.specs.Network.{Net, Circulation, Within}
 
 pub record Pushed (G : Net) (i : ℕ) (x x' : ℕ → ℕ) : Type 0 where
   pub circ : Circulation G x'

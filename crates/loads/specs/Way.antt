@@ -19,33 +19,29 @@
 --   Takes may lower upper e on   `on` says whether arc e may change and can go from lower to upper
 --   Shown n K G may x tail head A   the words in A are the arcs of G that can take one more or one less
 --   Sought n G may x s t w r   a search: there is a way from s to t that toggles w, or a shut set of nodes that has s and not t
-use mathlib.Core.Path.{_≡_}
-use mathlib.Core.Bool.{Bool, true, false, _&&_, _||_}
-use mathlib.Core.Logic.{_⊎_}
-use Prim.Native.Nat.{ℕ, suc, _+_, _-_, _≤_, _<_}
-use lib.Dec.{eqb, ltb}
-use Rattle·numbers.specs.Finite.{sumIn, only}
-use Rattle·numbers.specs.Word.{bit}
-use Rattle·rules.specs.Bounds.{max-rows}
-use Rattle·loads·specs.specs.Network.{nodes-most, Net}
-use Rattle·loads·specs.specs.declared.flow.Arcs.{Arcs}
+use Rattle.std.specs.Prelude.{◌≡◌, Bool, true, false, ◌&&◌, ◌||◌, ◌⊎◌, ℕ, suc, ◌+◌, ◌-◌, ◌≤◌, ◌<◌, eqb, ltb}
+use Rattle.numbers.specs.Finite.{sum_in, only}
+use Rattle.numbers.specs.Word.{bit}
+use Rattle.rules.specs.Bounds.{max_rows}
+use Rattle.loads.specs.Network.{nodes_most, Net}
+use Rattle.loads.specs.declared.flow.Arcs.{Arcs}
 
 -- ---- ways
 
 pub record Stride (G : Net) (may seen : ℕ → Bool) (x x' : ℕ → ℕ) (e : ℕ) : Type 0 where
   pub free : may e ≡ true
-  pub begins : seen (G .tail e) ≡ true
-  pub ends : seen (G .head e) ≡ true
-  pub one : ((x' e ≡ x e + 1) × (x e < G .high e)) ⊎ ((x e ≡ x' e + 1) × (G .low e < x e))
+  pub begins : seen (G.tail e) ≡ true
+  pub ends : seen (G.head e) ≡ true
+  pub one : ((x' e ≡ x e + 1) × (x e < G.high e)) ⊎ ((x e ≡ x' e + 1) × (G.low e < x e))
 
 pub record Way (G : Net) (may seen : ℕ → Bool) (x x' : ℕ → ℕ) (s v : ℕ) : Type 0 where
   pub owed : (r : ℕ → Bool)
-      → sumIn (G .arcs) (λ e. r (G .tail e)) x' + only (r v) 1 ≡ sumIn (G .arcs) (λ e. r (G .head e)) x' + only (r s) 1
-  pub arc : (e : ℕ) → e < G .arcs → (x' e ≡ x e) ⊎ Stride G may seen x x' e
+      → sum_in G.arcs (λ e. r (G.tail e)) x' + only (r v) 1 ≡ sum_in G.arcs (λ e. r (G.head e)) x' + only (r s) 1
+  pub arc : (e : ℕ) → e < G.arcs → (x' e ≡ x e) ⊎ Stride G may seen x x' e
 
 pub record Shut (G : Net) (may seen : ℕ → Bool) (x : ℕ → ℕ) : Type 0 where
-  pub ahead : (e : ℕ) → e < G .arcs → may e ≡ true → seen (G .tail e) ≡ true → seen (G .head e) ≡ false → G .high e ≤ x e
-  pub back : (e : ℕ) → e < G .arcs → may e ≡ true → seen (G .head e) ≡ true → seen (G .tail e) ≡ false → x e ≤ G .low e
+  pub ahead : (e : ℕ) → e < G.arcs → may e ≡ true → seen (G.tail e) ≡ true → seen (G.head e) ≡ false → G.high e ≤ x e
+  pub back : (e : ℕ) → e < G.arcs → may e ≡ true → seen (G.head e) ≡ true → seen (G.tail e) ≡ false → x e ≤ G.low e
 
 pub record Toggled (n w : ℕ) (x x' : ℕ → ℕ) : Type 0 where
   pub inside : (e : ℕ) → e < n → bit w e ≡ true → x' e ≡ 1 - x e
@@ -61,8 +57,8 @@ pub record WaysFrom (n : ℕ) (G : Net) (may : ℕ → Bool) (x : ℕ → ℕ) (
   pub way : (v : ℕ) → bit seen v ≡ true → (x' : ℕ → ℕ) × Way G may (bit seen) x x' s v × Toggled n (by v) x x'
 
 pub record Done (G : Net) (may : ℕ → Bool) (x : ℕ → ℕ) (seen done : ℕ) : Type 0 where
-  pub ahead : (e : ℕ) → e < G .arcs → may e ≡ true → bit done (G .tail e) ≡ true → bit seen (G .head e) ≡ false → G .high e ≤ x e
-  pub back : (e : ℕ) → e < G .arcs → may e ≡ true → bit done (G .head e) ≡ true → bit seen (G .tail e) ≡ false → x e ≤ G .low e
+  pub ahead : (e : ℕ) → e < G.arcs → may e ≡ true → bit done (G.tail e) ≡ true → bit seen (G.head e) ≡ false → G.high e ≤ x e
+  pub back : (e : ℕ) → e < G.arcs → may e ≡ true → bit done (G.head e) ≡ true → bit seen (G.tail e) ≡ false → x e ≤ G.low e
 
 pub record Visited (n : ℕ) (go : ℕ → Bool) (far : ℕ → ℕ) (way seen seen' : ℕ) (by by' : ℕ → ℕ) : Type 0 where
   pub kept : (v : ℕ) → bit seen v ≡ true → (bit seen' v ≡ true) × (by' v ≡ by v)
@@ -80,29 +76,29 @@ abbrev pub ByNode : (n K : ℕ) (end words : ℕ → ℕ) → Type 0
 ByNode n K end words = (v i : ℕ) → v ≤ K → bit (words v) i ≡ (ltb i n && eqb (end i) v)
 
 pub record Wired (n K : ℕ) (tail head out into : ℕ → ℕ) : Type 0 where
-  pub few-rows : n ≤ max-rows
-  pub few-nodes : K < nodes-most
+  pub few_rows : n ≤ max_rows
+  pub few_nodes : K < nodes_most
   pub ends : (i : ℕ) → i < n → (tail i ≤ K) × (head i ≤ K)
   pub starting : ByNode n K tail out
   pub ending : ByNode n K head into
 
 pub record Narrow (K : ℕ) (A : Arcs) : Type 0 where
-  pub more : (v : ℕ) → bit (A .more) v ≡ true → (0 < v) × (v ≤ K)
-  pub less : (v : ℕ) → bit (A .less) v ≡ true → v < K
+  pub more : (v : ℕ) → bit A.more v ≡ true → (0 < v) × (v ≤ K)
+  pub less : (v : ℕ) → bit A.less v ≡ true → v < K
 
 pub record Takes (may : ℕ → Bool) (lower upper : ℕ → ℕ) (e : ℕ) (on : Bool) : Type 0 where
   pub can : on ≡ true → (may e ≡ true) × (lower e < upper e)
   pub cannot : on ≡ false → may e ≡ true → upper e ≤ lower e
 
 pub record Shown (n K : ℕ) (G : Net) (may : ℕ → Bool) (x tail head : ℕ → ℕ) (A : Arcs) : Type 0 where
-  pub arcs : G .arcs ≡ n + K
-  pub rows : (i : ℕ) → i < n → (G .tail i ≡ tail i) × (G .head i ≡ head i)
-  pub sets : (k : ℕ) → k < K → (G .tail (n + k) ≡ suc k) × (G .head (n + k) ≡ k)
-  pub up : (i : ℕ) → i < n → Takes may x (G .high) i (bit (A .up) i)
-  pub down : (i : ℕ) → i < n → Takes may (G .low) x i (bit (A .down) i)
-  pub more : (k : ℕ) → k < K → Takes may x (G .high) (n + k) (bit (A .more) (suc k))
-  pub less : (k : ℕ) → k < K → Takes may (G .low) x (n + k) (bit (A .less) k)
-  pub digits : (i : ℕ) → i < n → (x i ≤ 1) × (G .high i ≤ 1)
+  pub arcs : G.arcs ≡ n + K
+  pub rows : (i : ℕ) → i < n → (G.tail i ≡ tail i) × (G.head i ≡ head i)
+  pub sets : (k : ℕ) → k < K → (G.tail (n + k) ≡ suc k) × (G.head (n + k) ≡ k)
+  pub up : (i : ℕ) → i < n → Takes may x G.high i (bit A.up i)
+  pub down : (i : ℕ) → i < n → Takes may G.low x i (bit A.down i)
+  pub more : (k : ℕ) → k < K → Takes may x G.high (n + k) (bit A.more (suc k))
+  pub less : (k : ℕ) → k < K → Takes may G.low x (n + k) (bit A.less k)
+  pub digits : (i : ℕ) → i < n → (x i ≤ 1) × (G.high i ≤ 1)
 
 pub record Sought (n : ℕ) (G : Net) (may : ℕ → Bool) (x : ℕ → ℕ) (s t w : ℕ) (r : Bool) : Type 0 where
   pub found : r ≡ true → (seen : ℕ → Bool) × (x' : ℕ → ℕ) × Way G may seen x x' s t × Toggled n w x x'

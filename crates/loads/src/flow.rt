@@ -10,22 +10,20 @@
 //   walked back: an exclusive or toggles it.
 // - Where no way is found, the nodes reached are a closed set, whose arcs all stand at a bound. So an arc into it carries the most that it
 //   can.
+ghost use Rattle.std.specs.Prelude.{◌≡◌, Bool, true, ◌≢◌, ℕ, ◌+◌, ◌-◌, ◌<◌, ◌≤◌, length};
+ghost use Rattle.numbers.specs.Lists.{at};
+ghost use Rattle.numbers.specs.Word.{bit};
+ghost use Rattle.loads.specs.Network.{nodes_most, Net, Circulation};
+ghost use Rattle.loads.specs.Way.{Wired, Narrow, Shown, Visited, Entered, Sought};
+
 use table::Table;
-ghost use mathlib.Core.Path.{_≡_};
-ghost use mathlib.Core.Bool.{Bool, true};
-ghost use mathlib.Core.Logic.{_≢_};
-ghost use Prim.Native.Nat.{ℕ, _+_, _-_, _<_, _≤_};
-ghost use lib.ListN.{length};
-ghost use Rattle·numbers.specs.Lists.{at};
-ghost use Rattle·numbers.specs.Word.{bit};
-ghost use Rattle·loads·specs.specs.Network.{nodes-most, Net, Circulation};
-ghost use Rattle·loads·specs.specs.Way.{Wired, Narrow, Shown, Visited, Entered, Sought};
 
 // A line of so many sets has one node more.
 pub const NODES: usize = Table::ELEMENTS + 1;
 
 // What can be taken: `up` and `down` are the rows that can carry one more and one less, `more` the sets that can carry one more, by the
 // node where they start, and `less` the sets that can carry one less, by the node where they end.
+#[derive(Clone, Copy)]
 pub struct Arcs {
     pub up: u64,
     pub down: u64,
@@ -34,6 +32,7 @@ pub struct Arcs {
 }
 
 // Whether there is a way, and the rows that are toggled on it.
+#[derive(Clone, Copy)]
 pub struct Outcome {
     pub found: bool,
     pub rows: u64,
@@ -41,16 +40,16 @@ pub struct Outcome {
 
 // The first digit in which two words differ.
 pub fn pick(v: u64, w: u64) -> usize
-    requires { ⌜ v ≢ w ⌝ }
-    ensures { λ r. ⌜ (r < 64) × (bit v r ≢ bit w r) × ((j : ℕ) → j < r → bit v j ≡ bit w j) ⌝ }
+    requires { v ≢ w }
+    ensures { (result < 64) × (bit v result ≢ bit w result) × ((j : ℕ) → j < result → bit v j ≡ bit w j) }
 {
     u64::trailing_zeros(v ^ w) as usize
 }
 
 // The nodes seen, with node p, which is reached by a way that toggles w unless it was seen before.
 fn reach(p: usize, w: u64, seen: u64, by: &mut [u64; NODES]) -> u64
-    requires { ⌜ (p < nodes-most) × (length (now by) ≡ nodes-most) ⌝ }
-    ensures { λ r. ⌜ (length (now (by .exit)) ≡ nodes-most) × Entered true p w seen r (at (now (by .entry))) (at (now (by .exit))) ⌝ }
+    requires { (p < nodes_most) × (length by.old ≡ nodes_most) }
+    ensures { (length by.new ≡ nodes_most) × Entered true p w seen result (at by.old) (at by.new) }
 {
     if (seen >> p) % 2 == 1 {
         return seen;
@@ -61,9 +60,9 @@ fn reach(p: usize, w: u64, seen: u64, by: &mut [u64; NODES]) -> u64
 
 // The nodes seen, with the far ends of the rows in a word, each by the way and the row itself.
 fn visit(far: &[u8; Table::ROWS], rows: u64, way: u64, seen: u64, by: &mut [u64; NODES]) -> u64
-    requires { ⌜ ((i : ℕ) → bit rows i ≡ true → at (now far) i < nodes-most) × (length (now by) ≡ nodes-most) ⌝ }
-    ensures { λ r. ⌜ (length (now (by .exit)) ≡ nodes-most)
-        × Visited 64 (bit rows) (at (now (far .entry))) way seen r (at (now (by .entry))) (at (now (by .exit))) ⌝ }
+    requires { ((i : ℕ) → bit rows i ≡ true → at far.now i < nodes_most) × (length by.old ≡ nodes_most) }
+    ensures { (length by.new ≡ nodes_most)
+        × Visited 64 (bit rows) (at far.now) way seen result (at by.old) (at by.new) }
 {
     let mut all = seen;
     let mut done: u64 = 0;
@@ -78,9 +77,9 @@ fn visit(far: &[u8; Table::ROWS], rows: u64, way: u64, seen: u64, by: &mut [u64;
 
 // The nodes seen, with the one before u where the set that leads there can carry one more.
 fn step_down(more: u64, u: usize, way: u64, seen: u64, by: &mut [u64; NODES]) -> u64
-    requires { ⌜ (u < nodes-most) × (bit more u ≡ true → 0 < u) × (length (now by) ≡ nodes-most) ⌝ }
-    ensures { λ r. ⌜ (length (now (by .exit)) ≡ nodes-most)
-        × Entered (bit more u) (u - 1) way seen r (at (now (by .entry))) (at (now (by .exit))) ⌝ }
+    requires { (u < nodes_most) × (bit more u ≡ true → 0 < u) × (length by.old ≡ nodes_most) }
+    ensures { (length by.new ≡ nodes_most)
+        × Entered (bit more u) (u - 1) way seen result (at by.old) (at by.new) }
 {
     if (more >> u) % 2 == 0 {
         return seen;
@@ -90,9 +89,9 @@ fn step_down(more: u64, u: usize, way: u64, seen: u64, by: &mut [u64; NODES]) ->
 
 // The nodes seen, with the one after u where the set that leads from there can carry one less.
 fn step_up(less: u64, u: usize, way: u64, seen: u64, by: &mut [u64; NODES]) -> u64
-    requires { ⌜ (u < nodes-most) × (bit less u ≡ true → u + 1 < nodes-most) × (length (now by) ≡ nodes-most) ⌝ }
-    ensures { λ r. ⌜ (length (now (by .exit)) ≡ nodes-most)
-        × Entered (bit less u) (u + 1) way seen r (at (now (by .entry))) (at (now (by .exit))) ⌝ }
+    requires { (u < nodes_most) × (bit less u ≡ true → u + 1 < nodes_most) × (length by.old ≡ nodes_most) }
+    ensures { (length by.new ≡ nodes_most)
+        × Entered (bit less u) (u + 1) way seen result (at by.old) (at by.new) }
 {
     if (less >> u) % 2 == 0 {
         return seen;
@@ -111,13 +110,13 @@ pub fn find_way(
     s: usize,
     t: usize,
 ) -> Outcome
-    requires { ⌜ ((n : ℕ) × (K : ℕ) × Wired n K (at (now tail)) (at (now head)) (at (now out)) (at (now into)) × Narrow K arcs
-        × (s ≤ K) × (t ≤ K)) ⌝ }
-    ensures { λ r. ⌜ ((n K : ℕ) (G : Net) (may : ℕ → Bool) (x : ℕ → ℕ)
-        → Wired n K (at (now (tail .entry))) (at (now (head .entry))) (at (now (out .entry))) (at (now (into .entry)))
+    requires { (n : ℕ) × (K : ℕ) × Wired n K (at tail.now) (at head.now) (at out.now) (at into.now) × Narrow K arcs
+        × (s ≤ K) × (t ≤ K) }
+    ensures { (n K : ℕ) (G : Net) (may : ℕ → Bool) (x : ℕ → ℕ)
+        → Wired n K (at tail.now) (at head.now) (at out.now) (at into.now)
         → Narrow K arcs → s ≤ K → t ≤ K
-        → Shown n K G may x (at (now (tail .entry))) (at (now (head .entry))) arcs → Circulation G x
-        → Sought n G may x s t (r .rows) (r .found)) ⌝ }
+        → Shown n K G may x (at tail.now) (at head.now) arcs → Circulation G x
+        → Sought n G may x s t result.rows result.found }
 {
     let mut by = [0u64; NODES];
     let mut seen = 1u64 << s;

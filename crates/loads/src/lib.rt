@@ -8,35 +8,35 @@
 // - Sets that are too low are mended by ways (`flow`). There is one as long as some set is too low, since the parts themselves are a
 //   circulation within the bounds, only not a whole one.
 // - Then each row in turn is rounded up where there is a way by the rows after it. So the loads are the greatest in the order of rows.
+#![tactic(auto)]
+
 mod flow;
 mod nodes;
 
+ghost use Rattle.std.specs.Prelude.{◌≡◌, ◌&&◌, not, ℕ, suc, ◌^◌, ◌<◌, ◌≤◌, eqb};
+ghost use Rattle.std.specs.Int.Bits.{bit_and, bit_or, bit_xor};
+ghost use Rattle.std.specs.Int.Count.{ones};
+ghost use Rattle.numbers.specs.Finite.{only};
+ghost use Rattle.numbers.specs.Lists.{at};
+ghost use Rattle.numbers.specs.Word.{bit};
+ghost use Rattle.rules.specs.Bounds.{max_elements, max_slots};
+ghost use Rattle.rules.specs.Interval.{Greatest};
+ghost use Rattle.loads.specs.Raised.{Raised};
+ghost use Rattle.loads.specs.Loads.{part_most, digit, last, none, Qualified};
+ghost use Rattle.loads.specs.Line.{line, carried};
+ghost use Rattle.loads.specs.State.{Compared, over, Asked, State, Mended, Turn};
+
 use flow::Arcs;
-pub use flow::NODES;
-pub use flow::pick;
+pub use flow::{NODES, pick};
 pub use nodes::lay;
 use table::Table;
-ghost use mathlib.Core.Path.{_≡_};
-ghost use mathlib.Core.Bool.{_&&_, not};
-ghost use Prim.Native.Nat.{ℕ, suc, _^_, _<_, _≤_};
-ghost use lib.Bits.{bitAnd, bitOr, bitXor};
-ghost use lib.Count.{ones};
-ghost use lib.Dec.{eqb};
-ghost use Rattle·numbers.specs.Finite.{only};
-ghost use Rattle·numbers.specs.Lists.{at};
-ghost use Rattle·numbers.specs.Word.{bit};
-ghost use Rattle·rules.specs.Bounds.{max-elements, max-slots};
-ghost use Rattle·rules.specs.Interval.{Greatest};
-ghost use Rattle·loads·specs.specs.Raised.{Raised};
-ghost use Rattle·loads·specs.specs.Loads.{part-most, digit, last, none, Qualified};
-ghost use Rattle·loads·specs.specs.Line.{line, carried};
-ghost use Rattle·loads·specs.specs.State.{Compared, over, Asked, State, Mended, Turn};
 
 const ROWS: usize = Table::ROWS;
 
 const SETS: usize = Table::ELEMENTS;
 
 // How many rows and sets there are, and h.
+#[derive(Clone, Copy)]
 pub struct Size {
     pub rows: usize,
     pub sets: usize,
@@ -47,8 +47,8 @@ pub struct Size {
 
 // The word with q, where `on` says so.
 pub fn mark(w: u64, q: usize, on: bool) -> u64
-    requires { ⌜ q < 64 ⌝ }
-    ensures { λ r. ⌜ r ≡ bitOr w (only on (2 ^ q)) ⌝ }
+    requires { q < 64 }
+    ensures { result ≡ bit_or w (only on (2 ^ q)) }
 {
     if on {
         return w | (1u64 << q);
@@ -58,6 +58,7 @@ pub fn mark(w: u64, q: usize, on: bool) -> u64
 
 // The rows that are not whole and those that are rounded up; and of the sets, those that can take one more (by the node after them), those
 // that can do with one less, and those that are too low.
+#[derive(Clone, Copy)]
 pub struct Sides {
     pub parted: u64,
     pub top: u64,
@@ -75,10 +76,10 @@ pub fn compare(
     parted: u64,
     top: u64,
 ) -> Sides
-    requires { ⌜ (size .sets ≤ max-elements) × (size .hyper ≤ max-slots) × ((k : ℕ) → k < size .sets → at (now sum) k ≤ part-most) ⌝ }
-    ensures { λ r. ⌜ (r .parted ≡ parted) × (r .top ≡ top)
-        × Compared (size .sets) (size .hyper) (λ k. ones (bitAnd top (over (at (now (out .entry))) (at (now (into .entry))) (suc k))))
-        (at (now (sum .entry))) (r .more) (r .less) (r .low) ⌝ }
+    requires { (size.sets ≤ max_elements) × (size.hyper ≤ max_slots) × ((k : ℕ) → k < size.sets → at sum.now k ≤ part_most) }
+    ensures { (result.parted ≡ parted) × (result.top ≡ top)
+        × Compared size.sets size.hyper (λ k. ones (bit_and top (over (at out.now) (at into.now) (suc k))))
+        (at sum.now) result.more result.less result.low }
 {
     let h = size.hyper;
     let mut rows: u64 = 0;
@@ -114,14 +115,14 @@ pub fn mend(
     size: Size,
     start: Sides,
 ) -> Sides
-    requires { ⌜ ((f : ℕ → ℕ)
-        × Asked (size .rows) (size .sets) (size .hyper) (now tail) (now head) (now out) (now into) (now sum) f
-        × State (size .rows) (size .sets) (size .hyper) (now tail) (now head) f start) ⌝ }
-    ensures { λ r. ⌜ ((f : ℕ → ℕ)
-        → Asked (size .rows) (size .sets) (size .hyper) (now (tail .entry)) (now (head .entry)) (now (out .entry)) (now (into .entry))
-        (now (sum .entry)) f
-        → State (size .rows) (size .sets) (size .hyper) (now (tail .entry)) (now (head .entry)) f start
-        → Mended (size .rows) (size .sets) (size .hyper) (now (tail .entry)) (now (head .entry)) f r) ⌝ }
+    requires { (f : ℕ → ℕ)
+        × Asked size.rows size.sets size.hyper tail.now head.now out.now into.now sum.now f
+        × State size.rows size.sets size.hyper tail.now head.now f start }
+    ensures { (f : ℕ → ℕ)
+        → Asked size.rows size.sets size.hyper tail.now head.now out.now into.now
+        sum.now f
+        → State size.rows size.sets size.hyper tail.now head.now f start
+        → Mended size.rows size.sets size.hyper tail.now head.now f result }
 {
     let mut s = start;
     let mut low = s.low;
@@ -144,8 +145,8 @@ pub fn mend(
 
 // The word without row i.
 fn without(w: u64, i: usize) -> u64
-    requires { ⌜ i < 64 ⌝ }
-    ensures { λ r. ⌜ ((j : ℕ) → bit r j ≡ (bit w j && not (eqb j i))) ⌝ }
+    requires { i < 64 }
+    ensures { (j : ℕ) → bit result j ≡ (bit w j && not (eqb j i)) }
 {
     if (w >> i) % 2 == 1 {
         return w ^ (1u64 << i);
@@ -164,12 +165,12 @@ fn seek(
     later: u64,
     i: usize,
 ) -> u64
-    requires { ⌜ ((n : ℕ) × (K : ℕ) × (h : ℕ) × (f : ℕ → ℕ) × Turn n K h (now tail) (now head) (now out) (now into) f s later i) ⌝ }
-    ensures { λ r. ⌜ ((n K h : ℕ) (f : ℕ → ℕ)
-        → Turn n K h (now (tail .entry)) (now (head .entry)) (now (out .entry)) (now (into .entry)) f s later i
-        → Raised (line n K (at (now (tail .entry))) (last (now (head .entry))) h f) i
-        (carried n (at (now (tail .entry))) (last (now (head .entry))) (digit (s .top)))
-        (carried n (at (now (tail .entry))) (last (now (head .entry))) (digit (bitXor (s .top) r)))) ⌝ }
+    requires { (n : ℕ) × (K : ℕ) × (h : ℕ) × (f : ℕ → ℕ) × Turn n K h tail.now head.now out.now into.now f s later i }
+    ensures { (n K h : ℕ) (f : ℕ → ℕ)
+        → Turn n K h tail.now head.now out.now into.now f s later i
+        → Raised (line n K (at tail.now) (last head.now) h f) i
+        (carried n (at tail.now) (last head.now) (digit s.top))
+        (carried n (at tail.now) (last head.now) (digit (bit_xor s.top result))) }
 {
     if ((s.parted ^ s.top) >> i) % 2 == 0 {
         return 0;
@@ -200,15 +201,15 @@ pub fn raise_rows(
     size: Size,
     start: Sides,
 ) -> u64
-    requires { ⌜ ((f : ℕ → ℕ)
-        × Asked (size .rows) (size .sets) (size .hyper) (now tail) (now head) (now out) (now into) (now sum) f
-        × Mended (size .rows) (size .sets) (size .hyper) (now tail) (now head) f start) ⌝ }
-    ensures { λ r. ⌜ ((f : ℕ → ℕ)
-        → Asked (size .rows) (size .sets) (size .hyper) (now (tail .entry)) (now (head .entry)) (now (out .entry)) (now (into .entry))
-        (now (sum .entry)) f
-        → Mended (size .rows) (size .sets) (size .hyper) (now (tail .entry)) (now (head .entry)) f start
-        → Greatest (size .rows)
-        (Qualified (size .rows) (size .sets) (at (now (tail .entry))) (last (now (head .entry))) (size .hyper) f none) (digit r)) ⌝ }
+    requires { (f : ℕ → ℕ)
+        × Asked size.rows size.sets size.hyper tail.now head.now out.now into.now sum.now f
+        × Mended size.rows size.sets size.hyper tail.now head.now f start }
+    ensures { (f : ℕ → ℕ)
+        → Asked size.rows size.sets size.hyper tail.now head.now out.now into.now
+        sum.now f
+        → Mended size.rows size.sets size.hyper tail.now head.now f start
+        → Greatest size.rows
+        (Qualified size.rows size.sets (at tail.now) (last head.now) size.hyper f none) (digit result) }
 {
     let mut s = start;
     let mut later = s.parted;

@@ -1,26 +1,24 @@
 // The nodes between sets, laid out once for a table's intervals: where each row starts and ends, and the rows of each node.
+ghost use Rattle.std.specs.Prelude.{◌≡◌, ℕ, suc, ◌≤◌, ◌<◌, ltb, length, replicate};
+ghost use Rattle.numbers.specs.Lists.{at};
+ghost use Rattle.numbers.specs.Word.{bit};
+ghost use Rattle.rules.specs.Bounds.{max_elements, max_rows};
+ghost use Rattle.table.specs.Columns.{ByRow};
+ghost use Rattle.loads.specs.Network.{nodes_most};
+ghost use Rattle.loads.specs.Way.{ByNode};
+ghost use Rattle.loads.specs.Ranges.{lowest_set, highest_set, Marked};
+ghost use Rattle.loads.specs.NodesOf.{NodesOf};
+
 use crate::flow;
 use crate::flow::NODES;
 use table::Table;
-ghost use mathlib.Core.Path.{_≡_};
-ghost use Prim.Native.Nat.{ℕ, suc, _≤_, _<_};
-ghost use lib.Dec.{ltb};
-ghost use lib.ListN.{length, replicate};
-ghost use Rattle·numbers.specs.Lists.{at};
-ghost use Rattle·numbers.specs.Word.{bit};
-ghost use Rattle·rules.specs.Bounds.{max-elements, max-rows};
-ghost use Rattle·table.specs.Columns.{ByRow};
-ghost use Rattle·loads·specs.specs.Network.{nodes-most};
-ghost use Rattle·loads·specs.specs.Way.{ByNode};
-ghost use Rattle·loads·specs.specs.Ranges.{lowestSet, highestSet, Marked};
-ghost use Rattle·loads·specs.specs.NodesOf.{NodesOf};
 
 // ---- the sets of each row
 
 // All of so many rows.
 fn all_rows(rows: usize) -> u64
-    requires { ⌜ rows ≤ max-rows ⌝ }
-    ensures { λ r. ⌜ ((i : ℕ) → bit r i ≡ ltb i rows) ⌝ }
+    requires { rows ≤ max_rows }
+    ensures { (i : ℕ) → bit result i ≡ ltb i rows }
 {
     if rows == Table::ROWS {
         return 0xffff_ffff_ffff_ffff;
@@ -30,8 +28,8 @@ fn all_rows(rows: usize) -> u64
 
 // Writes v for each row in a word.
 fn put(rows: u64, v: u8, to: &mut [u8; Table::ROWS])
-    requires { ⌜ length (now to) ≡ max-rows ⌝ }
-    ensures { λ _. ⌜ Marked rows v (now (to .entry)) (now (to .exit)) ⌝ }
+    requires { length to.old ≡ max_rows }
+    ensures { Marked rows v to.old to.new }
 {
     let mut done: u64 = 0;
     while done != rows {
@@ -50,9 +48,9 @@ fn put_starts(
     tail: &mut [u8; Table::ROWS],
     out: &mut [u64; NODES],
 )
-    requires { ⌜ (rows ≤ max-rows) × (sets ≤ max-elements) × (now tail ≡ replicate max-rows 0) × (now out ≡ replicate nodes-most 0) ⌝ }
-    ensures { λ _. ⌜ ByRow rows (lowestSet sets (now (words .entry))) (now (tail .exit))
-        × ByNode rows max-elements (at (now (tail .exit))) (at (now (out .exit))) ⌝ }
+    requires { (rows ≤ max_rows) × (sets ≤ max_elements) × (tail.old ≡ replicate max_rows 0) × (out.old ≡ replicate nodes_most 0) }
+    ensures { ByRow rows (lowest_set sets words.now) tail.new
+        × ByNode rows max_elements (at tail.new) (at out.new) }
 {
     let mut left = all_rows(rows);
     let mut k: usize = 0;
@@ -76,10 +74,10 @@ fn put_stops(
     head: &mut [u8; Table::ROWS],
     into: &mut [u64; NODES],
 )
-    requires { ⌜ (rows ≤ max-rows) × (sets ≤ max-elements) × (now head ≡ replicate max-rows 0)
-        × (now into ≡ replicate nodes-most 0) ⌝ }
-    ensures { λ _. ⌜ ByRow rows (λ i. suc (highestSet sets (now (words .entry)) i)) (now (head .exit))
-        × ByNode rows max-elements (at (now (head .exit))) (at (now (into .exit))) ⌝ }
+    requires { (rows ≤ max_rows) × (sets ≤ max_elements) × (head.old ≡ replicate max_rows 0)
+        × (into.old ≡ replicate nodes_most 0) }
+    ensures { ByRow rows (λ i. suc (highest_set sets words.now i)) head.new
+        × ByNode rows max_elements (at head.new) (at into.new) }
 {
     let mut left = all_rows(rows);
     let mut k = sets;
@@ -106,9 +104,9 @@ pub fn lay(
     out: &mut [u64; NODES],
     into: &mut [u64; NODES],
 )
-    requires { ⌜ (rows ≤ max-rows) × (sets ≤ max-elements) × (now tail ≡ replicate max-rows 0) × (now head ≡ replicate max-rows 0)
-        × (now out ≡ replicate nodes-most 0) × (now into ≡ replicate nodes-most 0) ⌝ }
-    ensures { λ _. ⌜ NodesOf rows sets (now (words .entry)) (now (tail .exit)) (now (head .exit)) (now (out .exit)) (now (into .exit)) ⌝ }
+    requires { (rows ≤ max_rows) × (sets ≤ max_elements) × (tail.old ≡ replicate max_rows 0) × (head.old ≡ replicate max_rows 0)
+        × (out.old ≡ replicate nodes_most 0) × (into.old ≡ replicate nodes_most 0) }
+    ensures { NodesOf rows sets words.now tail.new head.new out.new into.new }
 {
     put_starts(rows, sets, words, tail, out);
     put_stops(rows, sets, words, head, into);

@@ -1,21 +1,21 @@
 -- What is found of a table and a plan: 29, 19, and 17 for a short plan, or what the list is written from.
-use mathlib.Core.Path.{_≡_, sym, ap, subst, _∙_}
-use mathlib.Core.Logic.{⊎-elim, _≢_}
-use mathlib.Core.List.{List, [], _∷_, _++_, append-assoc}
-use Prim.Native.Nat.{ℕ, _+_, _*_, _≤_, _<_}
+use mathlib.Core.Path.{◌≡◌, sym, ap, subst, ◌∙◌}
+use mathlib.Core.Logic.{⊎_elim, ◌≢◌}
+use mathlib.Core.List.{List, [], ◌∷◌, ◌++◌, append_assoc}
+use Prim.Native.Nat.{ℕ, ◌*◌, ◌≤◌, ◌<◌}
 use native.Mathlib.Omega.{arith}
 use lib.ListN.{length}
-use Rattle·numbers.specs.Lists.{at, each}
-use Rattle·numbers.proofs.Truth.{limits, le-or-lt}
-use Rattle·rules.specs.Bounds.{max-slots}
-use Rattle·rules.specs.Bus.{Table}
-use Rattle·rules.specs.TableFile.{fileTable, fileLabelled}
-use Rattle·rules.specs.Loads.{hyperperiod}
-use Rattle·rules.specs.ElementList.{elementMoves, BadWord}
-use Rattle·rules.specs.Refusals.{Check, Answers, wrong-element, bad-word, short-output}
-use Rattle·rules.specs.Refusals.{header-checks, file-checks, pasted-checks, given-checks, verdict-checks}
-use Rattle·rules.specs.Calls.{oneRingAsk}
-use Rattle·rules.proofs.Answers.{
+use Rattle.numbers.specs.Lists.{at, each}
+use Rattle.numbers.proofs.Truth.{limits, le_or_lt}
+use Rattle.rules.specs.Bounds.{max_slots}
+use Rattle.rules.specs.Bus.{Table}
+use Rattle.rules.specs.TableFile.{file_table, file_labelled}
+use Rattle.rules.specs.Loads.{hyperperiod}
+use Rattle.rules.specs.ElementList.{element_moves, BadWord}
+use Rattle.rules.specs.Refusals.{Check, Answers, wrong_element, bad_word, short_output}
+use Rattle.rules.specs.Refusals.{header_checks, file_checks, pasted_checks, given_checks, verdict_checks}
+use Rattle.rules.specs.Calls.{one_ring_ask}
+use Rattle.rules.proofs.Answers.{
   None,
   Numbered,
   applied,
@@ -24,146 +24,146 @@ use Rattle·rules.proofs.Answers.{
   stopped,
   joined,
   answered,
-  none-of,
-  none-left,
-  none-right,
-  none-join,
-  numbered-join,
-  single-none,
-  none-single,
-  single-numbered,
-  single-stopped,
-  answers-only,
+  none_of,
+  none_left,
+  none_right,
+  none_join,
+  numbered_join,
+  single_none,
+  none_single,
+  single_numbered,
+  single_stopped,
+  answers_only,
 }
-use Rattle·table.specs.Sound.{Sound}
-use Rattle·table.specs.Columns.{ByRow, tableOf}
-use Rattle·table.specs.declared.Answer.{Answer}
-use Rattle·decoding.specs.Decoded.{Decodes}
-use Rattle·decoding.specs.declared.Decoded.{Decoded}
-use Rattle·decoding.proofs.OneRing.{OtherMark, other-mark, own-mark, one-numbered, one-rest, one-rings}
-use Rattle·ring.specs.Route.{rowSegments}
-use Rattle·verdict.specs.Analysed.{table-checks}
-use Rattle·verdict.proofs.Bound.{verdict-numbered, verdict-split, admissible-of}
-use Rattle·maker·specs.specs.Words.{Segmented, LowestBad, endingAt, planMoves, OneEach}
-use Rattle·maker·proofs.proofs.Made.{plan-moves, clean-clear}
-use Rattle·maker·specs.specs.declared.Source.{Source}
-use Rattle·maker·specs.specs.Finding.{word-checks, early-checks, Finds}
+use Rattle.table.specs.Sound.{Sound}
+use Rattle.table.specs.Columns.{ByRow, table_of}
+use Rattle.table.specs.declared.Answer.{Answer}
+use Rattle.decoding.specs.Decoded.{Decodes}
+use Rattle.decoding.specs.declared.Decoded.{Decoded}
+use Rattle.decoding.proofs.OneRing.{OtherMark, other_mark, own_mark, one_numbered, one_rest, one_rings}
+use Rattle.ring.specs.Route.{row_segments}
+use Rattle.verdict.specs.Analysed.{table_checks}
+use Rattle.verdict.proofs.Bound.{verdict_numbered, verdict_split, admissible_of}
+use Rattle.maker.specs.Words.{Segmented, LowestBad, ending_at, plan_moves, OneEach}
+use Rattle.maker.proofs.Made.{plan_moves_lem, clean_clear}
+use Rattle.maker.specs.declared.Source.{Source}
+use Rattle.maker.specs.Finding.{word_checks, early_checks, Finds}
 
 -- ---- the checks
 
 module _ (t : Table) (plan : List ℕ) (e : ℕ) where
   abbrev bad : List Check
-  bad = each (hyperperiod t) (λ s. bad-word t plan s ∷ [])
+  bad = each (hyperperiod t) (λ s. bad_word t plan s ∷ [])
 
   abbrev brief : Check
-  brief = short-output (length plan < hyperperiod t)
+  brief = short_output (length plan < hyperperiod t)
 
   -- those of cs, and then these
-  pub after : (cs : List Check) → early-checks cs t plan e ≡ cs ++ early-checks [] t plan e
+  pub after : (cs : List Check) → early_checks cs t plan e ≡ cs ++ early_checks [] t plan e
   after cs =
-      ap (λ (r : List Check). r ++ (brief ∷ [])) (append-assoc cs (wrong-element t e ∷ []) bad)
-      ∙ append-assoc cs ((wrong-element t e ∷ []) ++ bad) (brief ∷ [])
+      ap (λ (r : List Check). r ++ (brief ∷ [])) (append_assoc cs (wrong_element t e ∷ []) bad)
+      ∙ append_assoc cs ((wrong_element t e ∷ []) ++ bad) (brief ∷ [])
 
-  pub early-numbered : (cs : List Check) → Numbered cs → Numbered (early-checks cs t plan e)
+  pub early_numbered : (cs : List Check) → Numbered cs → Numbered (early_checks cs t plan e)
   unfolding Numbered
-  early-numbered cs N =
-      numbered-join (word-checks cs t plan e) (brief ∷ [])
-      (numbered-join (cs ++ (wrong-element t e ∷ [])) bad
-      (numbered-join cs (wrong-element t e ∷ []) N (omega arith))
-      (single-numbered (bad-word t plan) (hyperperiod t) (λ s z. let y : ⊥ = omega arith in y)))
+  early_numbered cs N =
+      numbered_join (word_checks cs t plan e) (brief ∷ [])
+      (numbered_join (cs ++ (wrong_element t e ∷ [])) bad
+      (numbered_join cs (wrong_element t e ∷ []) N (omega arith))
+      (single_numbered (bad_word t plan) (hyperperiod t) (λ s z. let y : ⊥ = omega arith in y)))
       (omega arith)
 
   -- 29
-  pub no-element : (n p : ℕ) → (((1 ≤ e) × (e ≤ t .elements)) → ⊥) → (n ≡ 29) × (p ≡ 0) → Answers (early-checks [] t plan e) n p
-  no-element n p h q = applied (wrong-element t e) (bad ++ (brief ∷ [])) n p h (q .0) (q .1)
+  pub no_element : (n p : ℕ) → (((1 ≤ e) × (e ≤ t.elements)) → ⊥) → (n ≡ 29) × (p ≡ 0) → Answers (early_checks [] t plan e) n p
+  no_element n p h q = applied (wrong_element t e) (bad ++ (brief ∷ [])) n p h q.0 q.1
 
-  module _ (low : 1 ≤ e) (high : e ≤ t .elements) (s : ℕ) (L : LowestBad t plan (hyperperiod t) s) where
-    there : wrong-element t e .applies → ⊥
+  module _ (low : 1 ≤ e) (high : e ≤ t.elements) (s : ℕ) (L : LowestBad t plan (hyperperiod t) s) where
+    there : (wrong_element t e).applies → ⊥
     there h = h (low, high)
 
     -- 19
-    pub a-bad-word : (n p : ℕ) → s < hyperperiod t → (n ≡ 19) × (p ≡ s) → Answers (early-checks [] t plan e) n p
-    a-bad-word n p l q =
-        rw (q .0, q .1) (passed (wrong-element t e) (bad ++ (brief ∷ [])) 19 s there
+    pub a_bad_word : (n p : ℕ) → s < hyperperiod t → (n ≡ 19) × (p ≡ s) → Answers (early_checks [] t plan e) n p
+    a_bad_word n p l q =
+        rw (q.0, q.1) (passed (wrong_element t e) (bad ++ (brief ∷ [])) 19 s there
         (stopped bad (brief ∷ []) 19 s (omega arith)
-        (single-stopped (bad-word t plan) (hyperperiod t) s l (omega arith) (L .none) (L .bad l))))
+        (single_stopped (bad_word t plan) (hyperperiod t) s l (omega arith) L.none (L.bad l))))
 
     module _ (h : hyperperiod t ≤ s) where
       pub clean : (k : ℕ) → k < hyperperiod t → BadWord t (at plan k) → ⊥
-      clean k l = L .none k (omega arith)
+      clean k l = L.none k (omega arith)
 
-      words-none : None ((wrong-element t e ∷ []) ++ bad)
+      words_none : None ((wrong_element t e ∷ []) ++ bad)
       unfolding None
-      words-none = none-join (wrong-element t e ∷ []) bad (there, tt) (single-none (bad-word t plan) (hyperperiod t) clean)
+      words_none = none_join (wrong_element t e ∷ []) bad (there, tt) (single_none (bad_word t plan) (hyperperiod t) clean)
 
       -- 17
-      pub a-short-plan : (n p : ℕ) → length plan < hyperperiod t → (n ≡ 17) × (p ≡ 0) → Answers (early-checks [] t plan e) n p
-      a-short-plan n p l q =
-          joined ((wrong-element t e ∷ []) ++ bad) (brief ∷ []) n p words-none (applied brief [] n p l (q .0) (q .1))
+      pub a_short_plan : (n p : ℕ) → length plan < hyperperiod t → (n ≡ 17) × (p ≡ 0) → Answers (early_checks [] t plan e) n p
+      a_short_plan n p l q =
+          joined ((wrong_element t e ∷ []) ++ bad) (brief ∷ []) n p words_none (applied brief [] n p l q.0 q.1)
 
       -- none
-      pub no-fault : (n p : ℕ) → hyperperiod t ≤ length plan → (n ≡ 0) × (p ≡ 0) → Answers (early-checks [] t plan e) n p
-      no-fault n p l q =
-          rw (q .0, q .1) (joined ((wrong-element t e ∷ []) ++ bad) (brief ∷ []) 0 0 words-none
+      pub no_fault : (n p : ℕ) → hyperperiod t ≤ length plan → (n ≡ 0) × (p ≡ 0) → Answers (early_checks [] t plan e) n p
+      no_fault n p l q =
+          rw (q.0, q.1) (joined ((wrong_element t e ∷ []) ++ bad) (brief ∷ []) 0 0 words_none
           (passed brief [] 0 0 (λ (k : length plan < hyperperiod t). let z : ⊥ = omega arith in z) done))
 
   -- what holds where none applies
-  module _ (a : None (early-checks [] t plan e)) where
-    pub element-there : (1 ≤ e) × (e ≤ t .elements)
+  module _ (a : None (early_checks [] t plan e)) where
+    pub element_there : (1 ≤ e) × (e ≤ t.elements)
     unfolding None
-    element-there = limits e 1 (t .elements) (a .0)
+    element_there = limits e 1 t.elements a.0
 
-    pub words-clean : (s : ℕ) → s < hyperperiod t → BadWord t (at plan s) → ⊥
+    pub words_clean : (s : ℕ) → s < hyperperiod t → BadWord t (at plan s) → ⊥
     unfolding None
-    words-clean = none-single (bad-word t plan) (hyperperiod t) (none-left bad (brief ∷ []) (a .1))
+    words_clean = none_single (bad_word t plan) (hyperperiod t) (none_left bad (brief ∷ []) a.1)
 
-    pub plan-long : length plan < hyperperiod t → ⊥
+    pub plan_long : length plan < hyperperiod t → ⊥
     unfolding None
-    plan-long = none-right bad (brief ∷ []) (a .1) .0
+    plan_long = (none_right bad (brief ∷ []) a.1).0
 
 -- ---- what the list is written from
 
-pub found-refused : {t : Table} {plan : List ℕ} {e : ℕ} {cs : List Check} (a : Answer) (r : Source) → r .answer ≡ a → a .number ≢ 0
-    → Answers (early-checks cs t plan e) (a .number) (a .place) → Finds cs t plan e r
-found-refused a r q h A = record { answers = rw q A; ready = λ z. absurd (h (sym (ap (λ (b : Answer). b .number) q) ∙ z)) }
+pub found_refused : {t : Table} {plan : List ℕ} {e : ℕ} {cs : List Check} (a : Answer) (r : Source) → r.answer ≡ a → a.number ≢ 0
+    → Answers (early_checks cs t plan e) a.number a.place → Finds cs t plan e r
+found_refused a r q h A = record { answers = rw q A; ready = λ z. absurd (h (sym (ap (λ (b : Answer). b.number) q) ∙ z)) }
 
-pub found-none : (t : Table) (plan : List ℕ) (e n p : ℕ) → n ≡ 0 → Answers (early-checks [] t plan e) n p → None (early-checks [] t plan e)
+pub found_none : (t : Table) (plan : List ℕ) (e n p : ℕ) → n ≡ 0 → Answers (early_checks [] t plan e) n p → None (early_checks [] t plan e)
 unfolding Numbered
-found-none t plan e n p z a = none-of (early-checks [] t plan e) p (early-numbered t plan e [] tt) (rw z at a)
+found_none t plan e n p z a = none_of (early_checks [] t plan e) p (early_numbered t plan e [] tt) (rw z at a)
 
-pub laid-of : {t : Table} (xs : List ℕ) → Sound t → t .rings ≡ 1
-    → ByRow (t .rows) (λ i. rowSegments (t .elements) (t .way i) (t .first i) (t .second i)) xs → Segmented t xs
-laid-of xs S one B = record { way = λ i l. omega (arith, one, S .row i l .way-known); row = B .row }
+pub laid_of : {t : Table} (xs : List ℕ) → Sound t → t.rings ≡ 1
+    → ByRow t.rows (λ i. row_segments t.elements (t.way i) (t.first i) (t.second i)) xs → Segmented t xs
+laid_of xs S one B = record { way = λ i l. omega (arith, one, (S.row i l).way_known); row = B.row }
 
 module _ {t : Table} (S : Sound t) (plan : List ℕ) (e : ℕ) where
   abbrev into : ℕ
-  into = endingAt (t .rows) (t .second) e
+  into = ending_at t.rows t.second e
 
   abbrev from : ℕ
-  from = endingAt (t .rows) (t .first) e
+  from = ending_at t.rows t.first e
 
-  moves-of : planMoves into from (hyperperiod t) plan ≡ elementMoves t e plan
-  unfolding elementMoves
-  moves-of = plan-moves S e (hyperperiod t) plan
+  moves_of : plan_moves into from (hyperperiod t) plan ≡ element_moves t e plan
+  unfolding element_moves
+  moves_of = plan_moves_lem S e (hyperperiod t) plan
 
-  pub clear-of : t .rings ≡ 1 → None (early-checks [] t plan e) → OneEach into from (hyperperiod t) plan
-  clear-of one a = clean-clear S e one (hyperperiod t) plan (words-clean t plan e a)
+  pub clear_of : t.rings ≡ 1 → None (early_checks [] t plan e) → OneEach into from (hyperperiod t) plan
+  clear_of one a = clean_clear S e one (hyperperiod t) plan (words_clean t plan e a)
 
-  pub long-of : None (early-checks [] t plan e) → hyperperiod t ≤ length plan
-  long-of a = ⊎-elim (λ l. l) (λ l. absurd (plan-long t plan e a l)) (le-or-lt (hyperperiod t) (length plan))
+  pub long_of : None (early_checks [] t plan e) → hyperperiod t ≤ length plan
+  long_of a = ⊎_elim (λ l. l) (λ l. absurd (plan_long t plan e a l)) (le_or_lt (hyperperiod t) (length plan))
 
-  pub found-ready : (r : Source) → t .rings ≡ 1 → None (early-checks [] t plan e)
-      → Answers (early-checks [] t plan e) (r .answer .number) (r .answer .place) → r .hyper ≡ hyperperiod t → r .hyper ≤ max-slots
-      → r .into ≡ into → r .from ≡ from → r .entries ≡ length (planMoves (r .into) (r .from) (r .hyper) plan)
-      → r .entries ≤ 2 * r .hyper → Finds [] t plan e r
-  found-ready r one a q h l i f n m = record {
+  pub found_ready : (r : Source) → t.rings ≡ 1 → None (early_checks [] t plan e)
+      → Answers (early_checks [] t plan e) r.answer.number r.answer.place → r.hyper ≡ hyperperiod t → r.hyper ≤ max_slots
+      → r.into ≡ into → r.from ≡ from → r.entries ≡ length (plan_moves r.into r.from r.hyper plan)
+      → r.entries ≤ 2 * r.hyper → Finds [] t plan e r
+  found_ready r one a q h l i f n m = record {
     answers = q;
-    ready = λ z. let same : planMoves (r .into) (r .from) (r .hyper) plan ≡ elementMoves t e plan = rw (h, i, f) moves-of in record {
+    ready = λ z. let same : plan_moves r.into r.from r.hyper plan ≡ element_moves t e plan = rw (h, i, f) moves_of in record {
       hyper = h;
       short = l;
-      long = omega (arith, h, long-of a);
-      element-small = omega (arith, element-there t plan e a .1, S .elements-high);
-      clear = rw (h, i, f) (clear-of one a);
+      long = omega (arith, h, long_of a);
+      element_small = omega (arith, (element_there t plan e a).1, S.elements_high);
+      clear = rw (h, i, f) (clear_of one a);
       moves = same;
       entries = n ∙ ap length same;
       few = omega arith;
@@ -173,52 +173,52 @@ module _ {t : Table} (S : Sound t) (plan : List ℕ) (e : ℕ) where
 -- ---- of a file, after the verdict's checks with 2 for a table of two rings
 
 abbrev judging : List ℕ → List Check
-judging f = oneRingAsk f .checks
+judging f = (one_ring_ask f).checks
 
-pub judged-numbered : (f : List ℕ) → Numbered (judging f)
-judged-numbered f = one-numbered f (verdict-checks f) (verdict-numbered f)
+pub judged_numbered : (f : List ℕ) → Numbered (judging f)
+judged_numbered f = one_numbered f (verdict_checks f) (verdict_numbered f)
 
-pub own-verdict : (f : List ℕ) → (OtherMark f → ⊥) → (n p : ℕ) → Answers (verdict-checks f) n p → Answers (judging f) n p
-unfolding verdict-checks given-checks file-checks header-checks
-own-verdict f own n p a = own-mark f _ own n p a
+pub own_verdict : (f : List ℕ) → (OtherMark f → ⊥) → (n p : ℕ) → Answers (verdict_checks f) n p → Answers (judging f) n p
+unfolding verdict_checks given_checks file_checks header_checks
+own_verdict f own n p a = own_mark f _ own n p a
 
 module _ (f : List ℕ) (plan : List ℕ) (e : ℕ) where
   abbrev t : Table
-  t = fileTable f
+  t = file_table f
 
   -- one of these refuses
-  pub verdict-stops : (a : Answer) (r : Source) → r .answer ≡ a → a .number ≢ 0 → Answers (judging f) (a .number) (a .place)
+  pub verdict_stops : (a : Answer) (r : Source) → r.answer ≡ a → a.number ≢ 0 → Answers (judging f) a.number a.place
       → Finds (judging f) t plan e r
-  verdict-stops a r q h A =
-      found-refused a r q h
-      (rw (after t plan e (judging f)) (stopped (judging f) (early-checks [] t plan e) (a .number) (a .place) h A))
+  verdict_stops a r q h A =
+      found_refused a r q h
+      (rw (after t plan e (judging f)) (stopped (judging f) (early_checks [] t plan e) a.number a.place h A))
 
-  pub mark-stops : (a : Answer) (r : Source) → r .answer ≡ a → (a .number ≡ 2) × (a .place ≡ 0) → OtherMark f → Finds (judging f) t plan e r
-  mark-stops a r q z w =
-      verdict-stops a r q (λ n. let y : ⊥ = omega (arith, n, z .0) in y) (rw (z .0, z .1) (other-mark f (verdict-checks f) w))
+  pub mark_stops : (a : Answer) (r : Source) → r.answer ≡ a → (a.number ≡ 2) × (a.place ≡ 0) → OtherMark f → Finds (judging f) t plan e r
+  mark_stops a r q z w =
+      verdict_stops a r q (λ n. let y : ⊥ = omega (arith, n, z.0) in y) (rw (z.0, z.1) (other_mark f (verdict_checks f) w))
 
   module _ (none : None (judging f)) where
-    pub admitted-table : Sound t × (hyperperiod t ≤ max-slots) × (t .rings ≡ 1)
-    admitted-table =
-        let A = admissible-of f (one-rest f (verdict-checks f) none) in (A .sound, A .short, one-rings f (verdict-checks f) none)
+    pub admitted_table : Sound t × (hyperperiod t ≤ max_slots) × (t.rings ≡ 1)
+    admitted_table =
+        let A = admissible_of f (one_rest f (verdict_checks f) none) in (A.sound, A.short, one_rings f (verdict_checks f) none)
 
     -- its columns hold the table
-    pub admitted-columns : (d : Decoded) → Decodes (file-checks f) (fileLabelled f) d → tableOf (d .columns) ≡ t
-    unfolding verdict-checks given-checks
-    admitted-columns d D =
-        let files : None (file-checks f) =
-        none-left (file-checks f) (pasted-checks t)
-        (none-left (given-checks f) (table-checks t) (rw (verdict-split f) at (one-rest f (verdict-checks f) none))) in
-        let z = answers-only (file-checks f) (d .answer .number) 0 (d .answer .place) 0 (D .answers) (answered (file-checks f) files) in
-        D .passed (z .0) .table
+    pub admitted_columns : (d : Decoded) → Decodes (file_checks f) (file_labelled f) d → table_of d.columns ≡ t
+    unfolding verdict_checks given_checks
+    admitted_columns d D =
+        let files : None (file_checks f) =
+        none_left (file_checks f) (pasted_checks t)
+        (none_left (given_checks f) (table_checks t) (rw (verdict_split f) at (one_rest f (verdict_checks f) none))) in
+        let z = answers_only (file_checks f) d.answer.number 0 d.answer.place 0 D.answers (answered (file_checks f) files) in
+        (D.passed z.0).table
 
     -- what is found of it is found of the file's
-    pub admitted-finds : (d : Decoded) → Decodes (file-checks f) (fileLabelled f) d → (r : Source)
-        → Finds [] (tableOf (d .columns)) plan e r → Finds (judging f) t plan e r
-    admitted-finds d D r F =
-        let G : Finds [] t plan e r = subst (λ (u : Table). Finds [] u plan e r) (admitted-columns d D) F in
+    pub admitted_finds : (d : Decoded) → Decodes (file_checks f) (file_labelled f) d → (r : Source)
+        → Finds [] (table_of d.columns) plan e r → Finds (judging f) t plan e r
+    admitted_finds d D r F =
+        let G : Finds [] t plan e r = subst (λ (u : Table). Finds [] u plan e r) (admitted_columns d D) F in
         record {
           answers = rw (after t plan e (judging f))
-              (joined (judging f) (early-checks [] t plan e) (r .answer .number) (r .answer .place) none (G .answers));
-          ready = G .ready;
+              (joined (judging f) (early_checks [] t plan e) r.answer.number r.answer.place none G.answers);
+          ready = G.ready;
         }

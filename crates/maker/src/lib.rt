@@ -1,28 +1,28 @@
 // The list of one element's moves, made from a table file and a plan (#101): in memory, or as the bytes of a list file.
+#![tactic(auto)]
+
 mod moves;
 
+ghost use Rattle.std.specs.Prelude.{◌≡◌, List, [], ℕ, ◌+◌, ◌*◌, ◌≤◌, length};
+ghost use Rattle.rules.specs.Bounds.{max_slots};
+ghost use Rattle.rules.specs.Bus as bus;
+ghost use Rattle.rules.specs.TableFile.{file_table};
+ghost use Rattle.rules.specs.Loads.{hyperperiod};
+ghost use Rattle.rules.specs.ElementList.{list_header, entry_size, list_numbers, list_bytes, moves_list};
+ghost use Rattle.rules.specs.Refusals.{Answers};
+ghost use Rattle.rules.specs.Calls.{one_ring_ask, ListMade};
+ghost use Rattle.table.specs.Sound.{Sound};
+ghost use Rattle.table.specs.Columns.{table_of};
+ghost use Rattle.maker.specs.Words.{LowestBad};
+ghost use Rattle.maker.specs.Finding.{early_checks, IsNothing, IsMade, Finds, Fits};
+
 use lists::Head;
-use table::Answer;
-use table::Columns;
+use table::{Answer, Columns};
 use verdict::Verdict;
-ghost use mathlib.Core.Path.{_≡_};
-ghost use mathlib.Core.List.{List, []};
-ghost use Prim.Native.Nat.{ℕ, _+_, _*_, _≤_};
-ghost use lib.ListN.{length};
-ghost use Rattle·rules.specs.Bounds.{max-slots};
-ghost use Rattle·rules.specs.Bus as bus;
-ghost use Rattle·rules.specs.TableFile.{fileTable};
-ghost use Rattle·rules.specs.Loads.{hyperperiod};
-ghost use Rattle·rules.specs.ElementList.{listHeader, entrySize, listNumbers, listBytes, movesList};
-ghost use Rattle·rules.specs.Refusals.{Answers};
-ghost use Rattle·rules.specs.Calls.{oneRingAsk, ListMade};
-ghost use Rattle·table.specs.Sound.{Sound};
-ghost use Rattle·table.specs.Columns.{tableOf};
-ghost use Rattle·maker·specs.specs.Words.{LowestBad};
-ghost use Rattle·maker·specs.specs.Finding.{early-checks, IsNothing, IsMade, Finds, Fits};
 
 // What a list is written from: the first refusal, or how many slots and entries there are, and the words of the rows that come to the
 // element and of those that leave it.
+#[derive(Clone, Copy)]
 struct Source {
     answer: Answer,
     hyper: usize,
@@ -32,7 +32,7 @@ struct Source {
 }
 
 fn nothing(answer: Answer) -> Source
-    ensures { λ r. ⌜ IsNothing answer r ⌝ }
+    ensures { IsNothing answer result }
 {
     Source {
         answer: answer,
@@ -45,9 +45,9 @@ fn nothing(answer: Answer) -> Source
 
 // 29, 19, and 17 for a short plan. `slot` is the lowest of the first `hyper` whose word is bad, and `hyper` where none is.
 fn fault(elements: usize, element: u64, slot: usize, words: usize, hyper: usize) -> Answer
-    requires { ⌜ hyper ≤ max-slots ⌝ }
-    ensures { λ r. ⌜ ((t : bus.Table) (plan : List ℕ) → elements ≡ t .elements → words ≡ length plan → hyper ≡ hyperperiod t
-        → LowestBad t plan hyper slot → Answers (early-checks [] t plan element) (r .number) (r .place)) ⌝ }
+    requires { hyper ≤ max_slots }
+    ensures { (t : bus.Table) (plan : List ℕ) → elements ≡ t.elements → words ≡ length plan → hyper ≡ hyperperiod t
+        → LowestBad t plan hyper slot → Answers (early_checks [] t plan element) result.number result.place }
 {
     if element == 0 {
         return Answer::at(Answer::WRONG_ELEMENT, 0);
@@ -66,8 +66,8 @@ fn fault(elements: usize, element: u64, slot: usize, words: usize, hyper: usize)
 
 // What is found of a sound table of one ring, whose hyperperiod is known, and a plan.
 fn find_on(table: Columns, hyper: usize, plan: &[u64], element: u64) -> Source
-    requires { ⌜ Sound (tableOf table) × (hyper ≡ hyperperiod (tableOf table)) × (hyper ≤ max-slots) × (table .rings ≡ 1) ⌝ }
-    ensures { λ r. ⌜ Finds [] (tableOf table) (now (plan .entry)) element r ⌝ }
+    requires { Sound (table_of table) × (hyper ≡ hyperperiod (table_of table)) × (hyper ≤ max_slots) × (table.rings ≡ 1) }
+    ensures { Finds [] (table_of table) plan.now element result }
 {
     let routes = ring::lay_segments(
         table.elements,
@@ -94,7 +94,7 @@ fn find_on(table: Columns, hyper: usize, plan: &[u64], element: u64) -> Source
 
 // The same of a file's table, after the verdict's. A table of one ring alone is taken.
 fn find_in(file: &[u8], plan: &[u64], element: u64) -> Source
-    ensures { λ r. ⌜ Finds (oneRingAsk (now (file .entry)) .checks) (fileTable (now (file .entry))) (now (plan .entry)) element r ⌝ }
+    ensures { Finds (one_ring_ask file.now).checks (file_table file.now) plan.now element result }
 {
     if decoding::has_other_mark(file) {
         return nothing(Answer::at(Answer::WRONG_MARK, 0));
@@ -127,9 +127,9 @@ fn find_for(
     head: usize,
     size: usize,
 ) -> Source
-    requires { ⌜ (head ≤ listHeader) × (size ≤ entrySize) ⌝ }
-    ensures { λ r. ⌜ Fits (oneRingAsk (now (file .entry))) (now (plan .entry)) element room
-        (head + size * movesList (fileTable (now (file .entry))) element (now (plan .entry)) .entries) r ⌝ }
+    requires { (head ≤ list_header) × (size ≤ entry_size) }
+    ensures { Fits (one_ring_ask file.now) plan.now element room
+        (head + size * (moves_list (file_table file.now) element plan.now).entries) result }
 {
     let found = find_in(file, plan, element);
     let answer = found.answer;
@@ -143,6 +143,7 @@ fn find_for(
 }
 
 // What is made: how many slots the plan has, and how many entries the list; 0 beside a refusal.
+#[derive(Clone, Copy)]
 pub struct Making {
     pub answer: Answer,
     pub hyper: usize,
@@ -150,7 +151,7 @@ pub struct Making {
 }
 
 fn made_of(found: Source) -> Making
-    ensures { λ r. ⌜ IsMade found r ⌝ }
+    ensures { IsMade found result }
 {
     let answer = found.answer;
     Making {
@@ -163,8 +164,8 @@ fn made_of(found: Source) -> Making
 // The list in memory, at the front of `out`: three numbers an entry. The verdict's refusals, with 2 for a table of two rings, then 29, 19,
 // 17.
 pub fn make(file: &[u8], plan: &[u64], element: u64, out: &mut [u16]) -> Making
-    ensures { λ r. ⌜ ListMade (oneRingAsk (now (file .entry))) (now (plan .entry)) element listNumbers (now (out .entry)) (now (out .exit))
-        (r .answer .number) (r .answer .place) (r .hyper) (r .entries) ⌝ }
+    ensures { ListMade (one_ring_ask file.now) plan.now element list_numbers out.old out.new
+        result.answer.number result.answer.place result.hyper result.entries }
 {
     let found = find_for(file, plan, element, out.len(), 0, Head::ENTRY_NUMBERS);
     let answer = found.answer;
@@ -177,8 +178,8 @@ pub fn make(file: &[u8], plan: &[u64], element: u64, out: &mut [u16]) -> Making
 
 // The list's file, at the front of `out`, likewise.
 pub fn make_file(file: &[u8], plan: &[u64], element: u64, out: &mut [u8]) -> Making
-    ensures { λ r. ⌜ ListMade (oneRingAsk (now (file .entry))) (now (plan .entry)) element listBytes (now (out .entry)) (now (out .exit))
-        (r .answer .number) (r .answer .place) (r .hyper) (r .entries) ⌝ }
+    ensures { ListMade (one_ring_ask file.now) plan.now element list_bytes out.old out.new
+        result.answer.number result.answer.place result.hyper result.entries }
 {
     let found = find_for(
         file,

@@ -1,26 +1,18 @@
 // The moves of one element in the words of a plan (#101). A slot has at most one that comes to it and at most one that leaves it, since
 // rows that share an end on the same side share a segment there; so a word and the rows that end at the element are all that is looked at.
-use lists::Entry;
-use lists::Head;
-use table::Table;
-ghost use mathlib.Core.Path.{_≡_};
-ghost use mathlib.Core.Logic.{_≢_};
-ghost use mathlib.Core.List.{_++_};
-ghost use Prim.Native.Nat.{ℕ, _+_, _*_, _≤_, _<_};
-ghost use lib.Dec.{T};
-ghost use lib.ListN.{length, take};
-ghost use Rattle·numbers.specs.Decides.{Decides};
-ghost use Rattle·numbers.specs.Lists.{at};
-ghost use Rattle·numbers.specs.Word.{bit};
-ghost use Rattle·rules.specs.Bounds.{max-rows, max-slots};
-ghost use Rattle·rules.specs.Bus as bus;
-ghost use Rattle·rules.specs.ElementList.{listHeader, entrySize, entryNumbers, inMemory, inFile, BadWord};
-ghost use Rattle·rules.specs.Calls.{lent};
-ghost use Rattle·maker·specs.specs.Words.{
-  endingAt,
+ghost use Rattle.std.specs.Prelude.{◌≡◌, ◌≢◌, ◌++◌, ℕ, ◌+◌, ◌*◌, ◌≤◌, ◌<◌, T, length, take};
+ghost use Rattle.numbers.specs.Decides.{Decides};
+ghost use Rattle.numbers.specs.Lists.{at};
+ghost use Rattle.numbers.specs.Word.{bit};
+ghost use Rattle.rules.specs.Bounds.{max_rows, max_slots};
+ghost use Rattle.rules.specs.Bus as bus;
+ghost use Rattle.rules.specs.ElementList.{list_header, entry_size, entry_numbers, in_memory, in_file, BadWord};
+ghost use Rattle.rules.specs.Calls.{lent};
+ghost use Rattle.maker.specs.Words.{
+  ending_at,
   Segmented,
   picked,
-  planMoves,
+  plan_moves,
   AtMostOne,
   IsMove,
   OneEach,
@@ -29,10 +21,13 @@ ghost use Rattle·maker·specs.specs.Words.{
   LowestBad,
 };
 
+use lists::{Entry, Head};
+use table::Table;
+
 // The word of the rows that end at an element.
 pub fn ending_at(rows: usize, ends: &[u8; Table::ROWS], element: usize) -> u64
-    requires { ⌜ rows ≤ max-rows ⌝ }
-    ensures { λ r. ⌜ r ≡ endingAt rows (at (now (ends .entry))) element ⌝ }
+    requires { rows ≤ max_rows }
+    ensures { result ≡ ending_at rows (at ends.now) element }
 {
     let mut word: u64 = 0;
     let mut i: usize = 0;
@@ -49,8 +44,8 @@ pub fn ending_at(rows: usize, ends: &[u8; Table::ROWS], element: usize) -> u64
 
 // Whether a word has a bit past the last row.
 fn past_last(rows: usize, word: u64) -> bool
-    requires { ⌜ rows ≤ max-rows ⌝ }
-    ensures { λ r. ⌜ Decides ((i : ℕ) × (rows ≤ i) × T (bit word i)) r ⌝ }
+    requires { rows ≤ max_rows }
+    ensures { Decides ((i : ℕ) × (rows ≤ i) × T (bit word i)) result }
 {
     if rows == Table::ROWS {
         return false;
@@ -59,16 +54,16 @@ fn past_last(rows: usize, word: u64) -> bool
 }
 
 fn segments_at(routes: &[u32; Table::ROWS], i: usize) -> u32
-    requires { ⌜ i < max-rows ⌝ }
-    ensures { λ r. ⌜ r ≡ at (now (routes .entry)) i ⌝ }
+    requires { i < max_rows }
+    ensures { result ≡ at routes.now i }
 {
     routes[i]
 }
 
 // Whether a word has overlapping rows, or a bit past the last row. `used` are the segments of its rows so far.
 fn is_bad(rows: usize, routes: &[u32; Table::ROWS], word: u64) -> bool
-    requires { ⌜ rows ≤ max-rows ⌝ }
-    ensures { λ r. ⌜ ((t : bus.Table) → t .rows ≡ rows → Segmented t (now (routes .entry)) → Decides (BadWord t word) r) ⌝ }
+    requires { rows ≤ max_rows }
+    ensures { (t : bus.Table) → t.rows ≡ rows → Segmented t routes.now → Decides (BadWord t word) result }
 {
     if past_last(rows, word) {
         return true;
@@ -90,8 +85,8 @@ fn is_bad(rows: usize, routes: &[u32; Table::ROWS], word: u64) -> bool
 
 // The lowest of the first `hyper` slots whose word is bad; `hyper` where none is. A plan that is too short has no more words.
 pub fn lowest_bad(rows: usize, routes: &[u32; Table::ROWS], plan: &[u64], hyper: usize) -> usize
-    requires { ⌜ rows ≤ max-rows ⌝ }
-    ensures { λ r. ⌜ ((t : bus.Table) → t .rows ≡ rows → Segmented t (now (routes .entry)) → LowestBad t (now (plan .entry)) hyper r) ⌝ }
+    requires { rows ≤ max_rows }
+    ensures { (t : bus.Table) → t.rows ≡ rows → Segmented t routes.now → LowestBad t plan.now hyper result }
 {
     let mut slot: usize = 0;
     while slot < hyper {
@@ -109,8 +104,8 @@ pub fn lowest_bad(rows: usize, routes: &[u32; Table::ROWS], plan: &[u64], hyper:
 // ---- the moves
 
 fn one(word: u64) -> usize
-    requires { ⌜ AtMostOne word ⌝ }
-    ensures { λ r. ⌜ ((s d : ℕ) → r ≡ length (picked word s d)) × (r ≤ 1) ⌝ }
+    requires { AtMostOne word }
+    ensures { ((s d : ℕ) → result ≡ length (picked word s d)) × (result ≤ 1) }
 {
     if word == 0 {
         return 0;
@@ -120,8 +115,8 @@ fn one(word: u64) -> usize
 
 // How many moves there are in the first `hyper` words.
 pub fn count(plan: &[u64], hyper: usize, into: u64, from: u64) -> usize
-    requires { ⌜ (hyper ≤ length (now plan)) × (hyper ≤ max-slots) × OneEach into from hyper (now plan) ⌝ }
-    ensures { λ r. ⌜ (r ≡ length (planMoves into from hyper (now (plan .entry)))) × (r ≤ 2 * hyper) ⌝ }
+    requires { (hyper ≤ length plan.now) × (hyper ≤ max_slots) × OneEach into from hyper plan.now }
+    ensures { (result ≡ length (plan_moves into from hyper plan.now)) × (result ≤ 2 * hyper) }
 {
     let mut n: usize = 0;
     let mut slot: usize = 0;
@@ -136,8 +131,8 @@ pub fn count(plan: &[u64], hyper: usize, into: u64, from: u64) -> usize
 
 // The move of a word that has exactly one.
 fn move_of(word: u64, slot: usize, way: u16) -> Entry
-    requires { ⌜ AtMostOne word × (word ≢ 0) × (slot < max-slots) ⌝ }
-    ensures { λ r. ⌜ IsMove word slot way r ⌝ }
+    requires { AtMostOne word × (word ≢ 0) × (slot < max_slots) }
+    ensures { IsMove word slot way result }
 {
     Entry {
         slot: slot as u16,
@@ -148,8 +143,8 @@ fn move_of(word: u64, slot: usize, way: u16) -> Entry
 
 // The numbers of the move of a word that has at most one, after those of `n` moves; how many moves there are then.
 fn put_number(word: u64, slot: usize, way: u16, out: &mut [u16], n: usize) -> usize
-    requires { ⌜ AtMostOne word × (slot < max-slots) × (entryNumbers * (n + length (picked word slot way)) ≤ length (now out)) ⌝ }
-    ensures { λ r. ⌜ PutMoves inMemory (picked word slot way) (entryNumbers * n) (now (out .entry)) (now (out .exit)) n r ⌝ }
+    requires { AtMostOne word × (slot < max_slots) × (entry_numbers * (n + length (picked word slot way)) ≤ length out.old) }
+    ensures { PutMoves in_memory (picked word slot way) (entry_numbers * n) out.old out.new n result }
 {
     if word == 0 {
         return n;
@@ -160,9 +155,9 @@ fn put_number(word: u64, slot: usize, way: u16, out: &mut [u16], n: usize) -> us
 
 // The numbers of all moves, at the front of `out`.
 pub fn put_numbers(plan: &[u64], hyper: usize, into: u64, from: u64, out: &mut [u16])
-    requires { ⌜ (hyper ≤ length (now plan)) × (hyper ≤ max-slots) × OneEach into from hyper (now plan)
-        × (entryNumbers * length (planMoves into from hyper (now plan)) ≤ length (now out)) ⌝ }
-    ensures { λ _. ⌜ now (out .exit) ≡ lent (flat inMemory (planMoves into from hyper (now (plan .entry)))) (now (out .entry)) ⌝ }
+    requires { (hyper ≤ length plan.now) × (hyper ≤ max_slots) × OneEach into from hyper plan.now
+        × (entry_numbers * length (plan_moves into from hyper plan.now) ≤ length out.old) }
+    ensures { out.new ≡ lent (flat in_memory (plan_moves into from hyper plan.now)) out.old }
 {
     let mut n: usize = 0;
     let mut slot: usize = 0;
@@ -176,9 +171,9 @@ pub fn put_numbers(plan: &[u64], hyper: usize, into: u64, from: u64, out: &mut [
 
 // The same in bytes, after a list file's head.
 fn put_byte(word: u64, slot: usize, way: u16, out: &mut [u8], n: usize) -> usize
-    requires { ⌜ AtMostOne word × (slot < max-slots) × (way < 256)
-        × (listHeader + entrySize * (n + length (picked word slot way)) ≤ length (now out)) ⌝ }
-    ensures { λ r. ⌜ PutMoves inFile (picked word slot way) (listHeader + entrySize * n) (now (out .entry)) (now (out .exit)) n r ⌝ }
+    requires { AtMostOne word × (slot < max_slots) × (way < 256)
+        × (list_header + entry_size * (n + length (picked word slot way)) ≤ length out.old) }
+    ensures { PutMoves in_file (picked word slot way) (list_header + entry_size * n) out.old out.new n result }
 {
     if word == 0 {
         return n;
@@ -193,10 +188,10 @@ fn put_byte(word: u64, slot: usize, way: u16, out: &mut [u8], n: usize) -> usize
 
 // The bytes of all moves, past the head.
 pub fn put_bytes(plan: &[u64], hyper: usize, into: u64, from: u64, out: &mut [u8])
-    requires { ⌜ (hyper ≤ length (now plan)) × (hyper ≤ max-slots) × OneEach into from hyper (now plan)
-        × (listHeader + entrySize * length (planMoves into from hyper (now plan)) ≤ length (now out)) ⌝ }
-    ensures { λ _. ⌜ now (out .exit) ≡
-        lent (take listHeader (now (out .entry)) ++ flat inFile (planMoves into from hyper (now (plan .entry)))) (now (out .entry)) ⌝ }
+    requires { (hyper ≤ length plan.now) × (hyper ≤ max_slots) × OneEach into from hyper plan.now
+        × (list_header + entry_size * length (plan_moves into from hyper plan.now) ≤ length out.old) }
+    ensures { out.new ≡
+        lent (take list_header out.old ++ flat in_file (plan_moves into from hyper plan.now)) out.old }
 {
     let mut n: usize = 0;
     let mut slot: usize = 0;

@@ -1,117 +1,116 @@
 -- The rows of an overlap set meet: all of them use the segment at the first end of the row that starts last on the line, which is the
 -- line of one ring.
-use mathlib.Core.Path.{_≡_, refl, sym, ap, _∙_}
-use mathlib.Core.Logic.{⊎-elim, _≢_}
-use mathlib.Core.Bool.{Bool, not, _&&_, _||_}
-use mathlib.Core.List.{List}
-use Prim.Native.Nat.{ℕ, suc, _+_, _-_, _≤_, _<_}
+use mathlib.Core.Path.{◌≡◌, refl, sym, ap, ◌∙◌}
+use mathlib.Core.Logic.{⊎_elim, ◌≢◌}
+use mathlib.Core.Bool.{Bool, not, ◌&&◌}
+use Prim.Native.Nat.{ℕ, suc, ◌+◌, ◌-◌, ◌≤◌, ◌<◌}
 use native.Mathlib.Omega.{arith}
 use lib.Dec.{T, ltb, leb, eqb, ltb→lt, lt→ltb, le→leb, eqb→eq}
-use Rattle·numbers.specs.Finite.{any, every, highest}
-use Rattle·numbers.specs.Word.{bit, word}
-use Rattle·numbers.proofs.Truth.{both, fst, snd, orl, orr, along, of-false, decide, refuted, eqb-of}
-use Rattle·numbers.proofs.Finite.{any-of, least, every-of, highest-has, highest-above}
-use Rattle·numbers.proofs.Word.{bit-word, bit-zero}
-use Rattle·rules.specs.Bus.{Table, mirrorSegment, ringFirst, uses, overlap, common}
-use Rattle·rules.specs.Line.{HasCuts, onLine, ringStart, lineTop, lineFirst, lineSecond, meet, OverlapSet}
-use Rattle·table.specs.Sound.{Sound}
-use Rattle·ring.specs.Route.{Element}
-use Rattle·ring.proofs.Mirror.{mirror-element, segment-element, segment-back}
-use Rattle·ring.proofs.OnLine.{line-ordered, line-high, line-uses, overlap-meet}
-use Rattle·meeting·specs.specs.Meet.{Sets-meet}
+use Rattle.numbers.specs.Finite.{any, highest}
+use Rattle.numbers.specs.Word.{bit}
+use Rattle.numbers.proofs.Truth.{both, fst, snd, orl, orr, along, of_false, decide, refuted, eqb_of}
+use Rattle.numbers.proofs.Finite.{any_of, least, every_of, highest_has, highest_above}
+use Rattle.numbers.proofs.Word.{bit_word, bit_zero}
+use Rattle.rules.specs.Bus.{Table, mirror_segment, ring_first, uses, overlap, common}
+use Rattle.rules.specs.Line.{HasCuts, on_line, ring_start, line_top, line_first, line_second, meet, OverlapSet}
+use Rattle.table.specs.Sound.{Sound}
+use Rattle.ring.specs.Route.{Element}
+use Rattle.ring.proofs.Mirror.{mirror_element, segment_element, segment_back}
+use Rattle.ring.proofs.OnLine.{line_ordered, line_high, line_uses, overlap_meet}
+use Rattle.meeting.specs.Meet.{SetsMeet}
 
-module _ (t : Table) (sound : Sound t) (some : HasCuts t) (D : ℕ → Bool) (O : OverlapSet (t .rows) (overlap t) D) where
+module _ (t : Table) (sound : Sound t) (some : HasCuts t) (D : ℕ → Bool) (O : OverlapSet t.rows (overlap t) D) where
   -- a set of no rows could take any
-  has-row : T (any (t .rows) D)
-  has-row =
-      ⊎-elim (λ h. h)
+  has_row : T (any t.rows D)
+  has_row =
+      ⊎_elim (λ h. h)
       (λ h.
-      any-of (t .rows) D 0 (sound .rows-low)
-      (O .full 0 (sound .rows-low) (λ i d. absurd (h (any-of (t .rows) D i (O .rows i d) d)))))
-      (decide (any (t .rows) D))
+      any_of t.rows D 0 sound.rows_low
+      (O.full 0 sound.rows_low (λ i d. absurd (h (any_of t.rows D i (O.rows i d) d)))))
+      (decide (any t.rows D))
 
   abbrev started : ℕ → Bool
-  started v = any (t .rows) (λ i. D i && eqb (lineFirst t i) v)
+  started v = any t.rows (λ i. D i && eqb (line_first t i) v)
 
-  low-first : (i : ℕ) → T (D i) → lineFirst t i < lineTop t
-  low-first i d = omega (arith, line-ordered t sound some i (O .rows i d), line-high t sound some i (O .rows i d))
+  low_first : (i : ℕ) → T (D i) → line_first t i < line_top t
+  low_first i d = omega (arith, line_ordered t sound some i (O.rows i d), line_high t sound some i (O.rows i d))
 
-  is-started : (i : ℕ) → T (D i) → T (started (lineFirst t i))
-  is-started i d =
-      any-of (t .rows) _ i (O .rows i d) (both (D i) (eqb (lineFirst t i) (lineFirst t i)) d (eqb-of (lineFirst t i) (lineFirst t i) refl))
+  is_started : (i : ℕ) → T (D i) → T (started (line_first t i))
+  is_started i d =
+      any_of t.rows _ i (O.rows i d) (both (D i) (eqb (line_first t i) (line_first t i)) d (eqb_of (line_first t i) (line_first t i) refl))
 
   -- the row that starts last
   record Last : Type 0 where
     row : ℕ
-    is-in : T (D row)
-    last : (i : ℕ) → T (D i) → lineFirst t i ≤ lineFirst t row
+    is_in : T (D row)
+    last : (i : ℕ) → T (D i) → line_first t i ≤ line_first t row
 
   last : Last
   last =
-      let r = least (t .rows) D has-row in
-      let top = highest-has (lineTop t) started (lineFirst t (r .0)) (low-first (r .0) (r .2)) (is-started (r .0) (r .2)) in
-      let w = least (t .rows) _ top in
-      let e : lineFirst t (w .0) ≡ highest (lineTop t) started = eqb→eq _ _ (snd (D (w .0)) _ (w .2)) in
+      let r = least t.rows D has_row in
+      let top = highest_has (line_top t) started (line_first t r.0) (low_first r.0 r.2) (is_started r.0 r.2) in
+      let w = least t.rows _ top in
+      let e : line_first t w.0 ≡ highest (line_top t) started = eqb→eq _ _ (snd (D w.0) _ w.2) in
       record {
-        row = w .0;
-        is-in = fst (D (w .0)) _ (w .2);
-        last = λ i d. omega (arith, e, highest-above (lineTop t) started (lineFirst t i) (low-first i d) (is-started i d));
+        row = w.0;
+        is_in = fst (D w.0) _ w.2;
+        last = λ i d. omega (arith, e, highest_above (line_top t) started (line_first t i) (low_first i d) (is_started i d));
       }
 
   -- it is a row of this ring, and starts there with this segment
   abbrev ring : ℕ
-  ring = t .way (last .row)
+  ring = t.way last.row
 
-  starts : Element (t .elements) (ringFirst t (last .row))
+  starts : Element t.elements (ring_first t last.row)
   starts =
-      let row = sound .row (last .row) (O .rows (last .row) (last .is-in)) in
-      mirror-element ring (record { low = row .first-low; high = row .first-high })
+      let row = sound.row last.row (O.rows last.row last.is_in) in
+      mirror_element ring (record { low = row.first_low; high = row.first_high })
 
   abbrev at : ℕ
-  at = mirrorSegment (t .elements) ring (ringFirst t (last .row))
+  at = mirror_segment t.elements ring (ring_first t last.row)
 
-  on-board : Element (t .elements) at
-  on-board = segment-element ring starts
+  on_board : Element t.elements at
+  on_board = segment_element ring starts
 
   -- so are all rows of the set
-  one-ring : (i : ℕ) → T (D i) → t .way i ≡ ring
+  one_ring : (i : ℕ) → T (D i) → t.way i ≡ ring
   unfolding overlap
-  one-ring i d =
-      let w = least (t .elements) _ (O .pairs i (last .row) d (last .is-in)) in
-      eqb→eq (t .way i) ring (fst (eqb (t .way i) ring) _ (w .2))
+  one_ring i d =
+      let w = least t.elements _ (O.pairs i last.row d last.is_in) in
+      eqb→eq (t.way i) ring (fst (eqb (t.way i) ring) _ w.2)
 
   -- on the line of each of them the segment begins where the last row starts
-  at-last : (i : ℕ) → T (D i)
-      → ringStart t (t .way i) + onLine t (t .way i) (mirrorSegment (t .elements) (t .way i) at) ≡ lineFirst t (last .row)
-  unfolding lineFirst
-  at-last i d =
-      ap (λ (r : ℕ). ringStart t r + onLine t r (mirrorSegment (t .elements) r at)) (one-ring i d)
-      ∙ ap (λ (e : ℕ). ringStart t ring + onLine t ring e) (segment-back ring starts)
+  at_last : (i : ℕ) → T (D i)
+      → ring_start t (t.way i) + on_line t (t.way i) (mirror_segment t.elements (t.way i) at) ≡ line_first t last.row
+  unfolding line_first
+  at_last i d =
+      ap (λ (r : ℕ). ring_start t r + on_line t r (mirror_segment t.elements r at)) (one_ring i d)
+      ∙ ap (λ (e : ℕ). ring_start t ring + on_line t ring e) (segment_back ring starts)
 
-  all-use : (i : ℕ) → T (D i) → T (uses t i at)
+  all_use : (i : ℕ) → T (D i) → T (uses t i at)
   unfolding meet
-  all-use i d =
-      let l = O .rows i d in
-      let first = lineFirst t (last .row) in
+  all_use i d =
+      let l = O.rows i d in
+      let first = line_first t last.row in
       let met =
-      along (overlap-meet t sound some i (last .row) l (O .rows (last .row) (last .is-in))) (O .pairs i (last .row) d (last .is-in)) in
-      let before = ltb→lt first (lineSecond t i) (snd (ltb (lineFirst t i) (lineSecond t (last .row))) _ met) in
-      along (sym (line-uses t sound some i at l on-board))
-      (along (ap (λ (e : ℕ). leb (lineFirst t i) e && ltb e (lineSecond t i)) (sym (at-last i d)))
-      (both (leb (lineFirst t i) first) (ltb first (lineSecond t i)) (le→leb _ _ (last .last i d)) (lt→ltb _ _ before)))
+      along (overlap_meet t sound some i last.row l (O.rows last.row last.is_in)) (O.pairs i last.row d last.is_in) in
+      let before = ltb→lt first (line_second t i) (snd (ltb (line_first t i) (line_second t last.row)) _ met) in
+      along (sym (line_uses t sound some i at l on_board))
+      (along (ap (λ (e : ℕ). leb (line_first t i) e && ltb e (line_second t i)) (sym (at_last i d)))
+      (both (leb (line_first t i) first) (ltb first (line_second t i)) (le→leb _ _ (last.last i d)) (lt→ltb _ _ before)))
 
-  common-some : common t D ≢ 0
+  common_some : common t D ≢ 0
   unfolding common
-  common-some z =
-      let s : suc (at - 1) ≡ at = omega (arith, on-board .low) in
-      let l : at - 1 < t .elements = omega (arith, on-board .low, on-board .high) in
-      of-false (bit-zero (at - 1))
+  common_some z =
+      let s : suc (at - 1) ≡ at = omega (arith, on_board.low) in
+      let l : at - 1 < t.elements = omega (arith, on_board.low, on_board.high) in
+      of_false (bit_zero (at - 1))
       (along (ap (λ (w : ℕ). bit w (at - 1)) z)
-      (along (sym (bit-word (t .elements) _ (at - 1)))
-      (both (ltb (at - 1) (t .elements)) _ (lt→ltb _ _ l)
-      (every-of (t .rows) _
+      (along (sym (bit_word t.elements _ (at - 1)))
+      (both (ltb (at - 1) t.elements) _ (lt→ltb _ _ l)
+      (every_of t.rows _
       (λ i h.
-      ⊎-elim (λ d. orr (not (D i)) _ (rw s (all-use i d))) (λ n. orl (not (D i)) _ (refuted (D i) n)) (decide (D i)))))))
+      ⊎_elim (λ d. orr (not (D i)) _ (rw s (all_use i d))) (λ n. orl (not (D i)) _ (refuted (D i) n)) (decide (D i)))))))
 
-pub sets-meet : Sets-meet
-sets-meet t sound some ws S k l = common-some t sound some _ (S .each k l)
+pub sets_meet : SetsMeet
+sets_meet t sound some ws S k l = common_some t sound some _ (S.each k l)

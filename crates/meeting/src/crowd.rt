@@ -1,16 +1,15 @@
 // An overlap set, and where its rows meet: the segments that all of them use (#102). A refusal with 14 names such a set by its number.
-use table::Answer;
-use table::Table;
-ghost use mathlib.Core.Path.{_≡_};
-ghost use mathlib.Core.Bool.{not, _||_};
-ghost use Prim.Native.Nat.{_≤_};
-ghost use Rattle·numbers.specs.Finite.{every};
-ghost use Rattle·numbers.specs.Lists.{at};
-ghost use Rattle·numbers.specs.Word.{bit, word, Stretch};
-ghost use Rattle·rules.specs.Bounds.{max-elements, max-rows};
-ghost use Rattle·rules.specs.Calls.{Crowded};
+ghost use Rattle.std.specs.Prelude.{◌≡◌, not, ◌||◌, ◌≤◌};
+ghost use Rattle.numbers.specs.Finite.{every};
+ghost use Rattle.numbers.specs.Lists.{at};
+ghost use Rattle.numbers.specs.Word.{bit, word, Stretch};
+ghost use Rattle.rules.specs.Bounds.{max_elements, max_rows};
+ghost use Rattle.rules.specs.Calls.{Crowded};
+
+use table::{Answer, Table};
 
 // What is answered of a set, the word of its rows, and that of the segments that all of them use; 0 beside a refusal.
+#[derive(Clone, Copy)]
 pub struct Crowd {
     pub answer: Answer,
     pub rows: u64,
@@ -18,7 +17,7 @@ pub struct Crowd {
 }
 
 fn refused(answer: Answer) -> Crowd
-    ensures { λ r. ⌜ (r .answer ≡ answer) × (r .rows ≡ 0) × (r .segments ≡ 0) ⌝ }
+    ensures { (result.answer ≡ answer) × (result.rows ≡ 0) × (result.segments ≡ 0) }
 {
     Crowd {
         answer: answer,
@@ -29,16 +28,16 @@ fn refused(answer: Answer) -> Crowd
 
 // The word of all segments of a board.
 fn all_segments(elements: usize) -> u32
-    requires { ⌜ elements ≤ max-elements ⌝ }
-    ensures { λ r. ⌜ Stretch 0 elements r ⌝ }
+    requires { elements ≤ max_elements }
+    ensures { Stretch 0 elements result }
 {
     numbers::stretch(0, elements) as u32
 }
 
 // The segments that are in the word of every row of the set, of as many rows.
 fn common(segments: &[u32; Table::ROWS], rows: usize, set: u64, elements: usize) -> u32
-    requires { ⌜ (elements ≤ max-elements) × (rows ≤ max-rows) ⌝ }
-    ensures { λ r. ⌜ r ≡ word elements (λ s. every rows (λ i. not (bit set i) || bit (at (now (segments .entry)) i) s)) ⌝ }
+    requires { (elements ≤ max_elements) × (rows ≤ max_rows) }
+    ensures { result ≡ word elements (λ s. every rows (λ i. not (bit set i) || bit (at segments.now i) s)) }
 {
     let mut left = all_segments(elements);
     let mut i: usize = 0;
@@ -54,7 +53,7 @@ fn common(segments: &[u32; Table::ROWS], rows: usize, set: u64, elements: usize)
 // The rows of set number `k` of a file's table and the segments that all of them use, or a refusal of 1 to 9, 18, 10 and 11, or 32 for a
 // set past the last.
 pub fn of_set(file: &[u8], k: usize) -> Crowd
-    ensures { λ r. ⌜ Crowded (now (file .entry)) k (r .answer .number) (r .answer .place) (r .rows) (r .segments) ⌝ }
+    ensures { Crowded file.now k result.answer.number result.answer.place result.rows result.segments }
 {
     let found = pasted::given(file);
     let answer = found.answer;

@@ -1,12 +1,15 @@
 // Where two rows of a table meet: the segments of the ring that both routes use (#102).
+#![tactic(auto)]
+
 mod crowd;
 
-pub use crowd::Crowd;
-pub use crowd::of_set;
+ghost use Rattle.rules.specs.Calls.{Met};
+
+pub use crowd::{Crowd, of_set};
 use table::Answer;
-ghost use Rattle·rules.specs.Calls.{Met};
 
 // What is answered of two rows, and the word of the segments that they share, bit s - 1 for segment s; 0 beside a refusal.
+#[derive(Clone, Copy)]
 pub struct Meeting {
     pub answer: Answer,
     pub word: u32,
@@ -14,7 +17,7 @@ pub struct Meeting {
 
 // The segments that rows `i` and `j` of a file's table share, or a refusal of 1 to 9, or 32 for a row past the last.
 pub fn meet(file: &[u8], i: usize, j: usize) -> Meeting
-    ensures { λ r. ⌜ Met (now (file .entry)) i j (r .answer .number) (r .answer .place) (r .word) ⌝ }
+    ensures { Met file.now i j result.answer.number result.answer.place result.word }
 {
     let found = decoding::decode(file);
     let answer = found.answer;

@@ -1,14 +1,13 @@
 -- Bool tests as facts. `T b` says that the test b holds, `T b → ⊥` that it fails; code hands over `b ≡ true` and `b ≡ false`.
-use mathlib.Core.Path.{_≡_, refl, sym, subst}
-use mathlib.Core.Logic.{_⊎_, inl, inr, ⊎-elim, _≢_}
-use mathlib.Core.Bool.{Bool, true, false, not, _&&_, _||_}
-use Prim.Native.Nat.{ℕ, _≤_, _<_}
-use native.Mathlib.Nat.{lt-of-not-le}
-use native.Mathlib.Decide.{decLe, ℕ-discrete}
+use mathlib.Core.Path.{◌≡◌, refl, sym, subst}
+use mathlib.Core.Logic.{◌⊎◌, inl, inr, ⊎_elim, ◌≢◌}
+use mathlib.Core.Bool.{Bool, true, false, not, ◌&&◌, ◌||◌}
+use Prim.Native.Nat.{ℕ, ◌≤◌, ◌<◌}
+use native.Mathlib.Nat.{lt_of_not-le}
+use native.Mathlib.Decide.{dec_le, ℕ_discrete}
 use native.Mathlib.Omega.{arith}
-use borrow.Author.Tests.{not-true, not-false}
-use lib.Dec.{T, eqb, eqb-refl, not-T, T-not}
-use Rattle·numbers·specs.specs.Decides.{Decides}
+use lib.Dec.{T, eqb, eqb_refl, not_T, T_not}
+use Rattle.numbers.specs.Decides.{Decides}
 
 -- ---- both, either
 
@@ -32,9 +31,9 @@ pub orr : (a b : Bool) → T b → T (a || b)
 orr true b h = tt
 orr false b h = h
 
-pub or-cases : (a b : Bool) → T (a || b) → T a ⊎ T b
-or-cases true b h = inl tt
-or-cases false b h = inr h
+pub or_cases : (a b : Bool) → T (a || b) → T a ⊎ T b
+or_cases true b h = inl tt
+or_cases false b h = inr h
 
 -- ---- a test holds or fails
 
@@ -43,29 +42,29 @@ decide true = inl tt
 decide false = inr (λ h. h)
 
 pub refuted : (b : Bool) → (T b → ⊥) → T (not b)
-refuted = not-T
+refuted = not_T
 
 pub refutes : (b : Bool) → T (not b) → T b → ⊥
-refutes = T-not
+refutes = T_not
 
-pub is-true : (b : Bool) → T b → b ≡ true
-is-true true h = refl
-is-true false h = absurd h
+pub is_true : (b : Bool) → T b → b ≡ true
+is_true true h = refl
+is_true false h = absurd h
 
-pub is-false : (b : Bool) → (T b → ⊥) → b ≡ false
-is-false true h = absurd (h tt)
-is-false false h = refl
+pub is_false : (b : Bool) → (T b → ⊥) → b ≡ false
+is_false true h = absurd (h tt)
+is_false false h = refl
 
 -- ---- equal tests
 
 pub along : {a b : Bool} → a ≡ b → T a → T b
 along e h = subst T e h
 
-pub of-true : {b : Bool} → b ≡ true → T b
-of-true e = along (sym e) tt
+pub of_true : {b : Bool} → b ≡ true → T b
+of_true e = along (sym e) tt
 
-pub of-false : {b : Bool} → b ≡ false → T b → ⊥
-of-false e h = along e h
+pub of_false : {b : Bool} → b ≡ false → T b → ⊥
+of_false e h = along e h
 
 -- tests that imply each other are equal
 pub same : (a b : Bool) → (T a → T b) → (T b → T a) → a ≡ b
@@ -76,31 +75,31 @@ same false false f g = refl
 
 -- ---- tests of numbers
 
-pub eqb-of : (a b : ℕ) → a ≡ b → T (eqb a b)
-eqb-of a b e = subst (λ (k : ℕ). T (eqb a k)) e (eqb-refl a)
+pub eqb_of : (a b : ℕ) → a ≡ b → T (eqb a b)
+eqb_of a b e = subst (λ (k : ℕ). T (eqb a k)) e (eqb_refl a)
 
-pub le-or-lt : (a b : ℕ) → (a ≤ b) ⊎ (b < a)
-le-or-lt a b = go (decLe a b)
+pub le_or_lt : (a b : ℕ) → (a ≤ b) ⊎ (b < a)
+le_or_lt a b = go (dec_le a b)
   where
     go : Dec (a ≤ b) → (a ≤ b) ⊎ (b < a)
     go (yes h) = inl h
-    go (no h) = inr (lt-of-not-le h)
+    go (no h) = inr (lt_of_not-le h)
 
 -- p and q need to agree only where a holds
-pub and-under : (a p q : Bool) → (T a → p ≡ q) → (a && p) ≡ (a && q)
-and-under true p q h = h tt
-and-under false p q h = refl
+pub and_under : (a p q : Bool) → (T a → p ≡ q) → (a && p) ≡ (a && q)
+and_under true p q h = h tt
+and_under false p q h = refl
 
 -- ---- what is not refuted of numbers holds
 
 pub limits : (x a b : ℕ) → (((a ≤ x) × (x ≤ b) → ⊥) → ⊥) → (a ≤ x) × (x ≤ b)
 limits x a b h = (
-  ⊎-elim (λ l. l) (λ l. absurd (h (λ w. let z : ⊥ = omega arith in z))) (le-or-lt a x),
-  ⊎-elim (λ l. l) (λ l. absurd (h (λ w. let z : ⊥ = omega arith in z))) (le-or-lt x b),
+  ⊎_elim (λ l. l) (λ l. absurd (h (λ w. let z : ⊥ = omega arith in z))) (le_or_lt a x),
+  ⊎_elim (λ l. l) (λ l. absurd (h (λ w. let z : ⊥ = omega arith in z))) (le_or_lt x b),
 )
 
 pub equals : (x y : ℕ) → (x ≢ y → ⊥) → x ≡ y
-equals x y h = go (ℕ-discrete x y)
+equals x y h = go (ℕ_discrete x y)
   where
     go : Dec (x ≡ y) → x ≡ y
     go (yes e) = e
@@ -108,16 +107,16 @@ equals x y h = go (ℕ-discrete x y)
 
 -- ---- tests that decide
 
-pub decides-yes : {A : Type 0} → A → Decides A true
-decides-yes a = record { holds = λ e. a; fails = λ e. absurd (of-false e tt) }
+pub decides_yes : {A : Type 0} → A → Decides A true
+decides_yes a = record { holds = λ e. a; fails = λ e. absurd (of_false e tt) }
 
-pub decides-no : {A : Type 0} → (A → ⊥) → Decides A false
-decides-no h = record { holds = λ e. absurd (of-true e); fails = λ e a. h a }
+pub decides_no : {A : Type 0} → (A → ⊥) → Decides A false
+decides_no h = record { holds = λ e. absurd (of_true e); fails = λ e a. h a }
 
 -- what a branch on a test that is not met shows
 
-pub denied : {A : Type 0} {b : Bool} → Decides A b → not b ≡ true → A → ⊥
-denied {b = b} d e = d .fails (not-true b e)
+pub denied : {A : Type 0} {b : Bool} → Decides A b → b ≡ false → A → ⊥
+denied d e = d.fails e
 
-pub granted : {A : Type 0} {b : Bool} → Decides A b → not b ≡ false → A
-granted {b = b} d e = d .holds (not-false b e)
+pub granted : {A : Type 0} {b : Bool} → Decides A b → b ≡ true → A
+granted d e = d.holds e

@@ -1,8 +1,7 @@
 -- What a test tells.
 --
 --   Decides A b    the test b holds exactly if A does
-use mathlib.Core.Path.{_≡_}
-use mathlib.Core.Bool.{Bool, true, false}
+use Rattle.std.specs.Prelude.{◌≡◌, Bool, true, false}
 
 pub record Decides (A : Type 0) (b : Bool) : Type 0 where
   pub holds : b ≡ true → A

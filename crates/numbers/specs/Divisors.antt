@@ -7,13 +7,10 @@
 --   leading n g    those that are no multiple of one before, in order
 --   Leads n g m f  f 0, .., f (m − 1) are some of g 0, .., g (n − 1), and each of these is a multiple of one of them
 --   Past n g s r   r is the first number past s that one of them divides
-use mathlib.Core.Path.{_≡_}
-use mathlib.Core.Bool.{Bool, _&&_, cond}
-use mathlib.Core.List.{List, [], _∷_}
-use Prim.Native.Nat.{ℕ, zero, suc, _*_, _%_, _<_, _∣_}
-use lib.Dec.{eqb, ltb}
-use Rattle·numbers·specs.specs.Finite.{any, every, lowest, highest}
-use Rattle·numbers·specs.specs.Lists.{each}
+use Rattle.std.specs.Prelude.{◌≡◌, Bool, ◌&&◌, cond, List, [], ◌∷◌, ℕ, zero, suc, ◌*◌, ◌%◌, ◌<◌, eqb, ltb}
+use Rattle.std.specs.Int.{◌∣◌}
+use Rattle.numbers.specs.Finite.{any, every, lowest, highest}
+use Rattle.numbers.specs.Lists.{each}
 
 abbrev pub divides : ℕ → ℕ → Bool
 divides d m = eqb (m % d) 0

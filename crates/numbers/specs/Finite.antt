@@ -6,11 +6,10 @@
 --   highest n p    the highest number below n that has p, or 0 where none has
 --   only b x       x where b holds, else 0
 --   sum n g        g 0 + .. + g (n − 1)
---   sumIn n D g    the sum of g over the numbers below n that are in D
+--   sum_in n D g    the sum of g over the numbers below n that are in D
 --   count n p      how many numbers below n have p
 --   largest n g    the largest of g 0, .., g (n − 1), or 0 where n is 0
-use mathlib.Core.Bool.{Bool, true, false, _&&_, _||_, cond}
-use Prim.Native.Nat.{ℕ, zero, suc, _+_, max}
+use Rattle.std.specs.Prelude.{Bool, true, false, ◌&&◌, ◌||◌, cond, ℕ, zero, suc, ◌+◌, max}
 
 unfoldable pub any : ℕ → (ℕ → Bool) → Bool
 any zero p = false
@@ -36,8 +35,8 @@ unfoldable pub sum : ℕ → (ℕ → ℕ) → ℕ
 sum zero g = 0
 sum (suc n) g = sum n g + g n
 
-abbrev pub sumIn : ℕ → (ℕ → Bool) → (ℕ → ℕ) → ℕ
-sumIn n D g = sum n (λ i. only (D i) (g i))
+abbrev pub sum_in : ℕ → (ℕ → Bool) → (ℕ → ℕ) → ℕ
+sum_in n D g = sum n (λ i. only (D i) (g i))
 
 abbrev pub count : ℕ → (ℕ → Bool) → ℕ
 count n p = sum n (λ i. only (p i) 1)

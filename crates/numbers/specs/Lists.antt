@@ -2,12 +2,10 @@
 --
 --   at l k         the number at position k, 0 past the end
 --   each n f       f 0, .., f (n − 1), joined in this order
-use mathlib.Core.List.{List, [], _++_}
-use Prim.Native.Nat.{ℕ, zero, suc}
-use lib.ListN.{getD}
+use Rattle.std.specs.Prelude.{List, [], ◌++◌, ℕ, zero, suc, get_or}
 
 abbrev pub at : List ℕ → ℕ → ℕ
-at l k = getD l k 0
+at l k = get_or l k 0
 
 unfoldable pub each {ℓ} : {A : Type ℓ} → ℕ → (ℕ → List A) → List A
 each zero f = []

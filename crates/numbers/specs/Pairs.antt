@@ -3,7 +3,8 @@
 --   IsGcd a b g    g divides both, and whatever divides both divides g
 --   IsLcm a b m    both divide m, and m divides whatever both divide
 --   LeastGcd n g l l is the least greatest common divisor of any two of g 0, .., g (n − 1), a number and itself among them
-use Prim.Native.Nat.{ℕ, _≤_, _<_, _∣_}
+use Rattle.std.specs.Prelude.{ℕ, ◌≤◌, ◌<◌}
+use Rattle.std.specs.Int.{◌∣◌}
 
 pub record IsGcd (a b g : ℕ) : Type 0 where
   pub left : g ∣ a

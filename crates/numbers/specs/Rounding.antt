@@ -3,9 +3,7 @@
 --   down a b       a / b rounded down
 --   up a b         a / b rounded up
 --   Rounded n a b  n is a / b rounded down or up
-use mathlib.Core.Path.{_≡_}
-use mathlib.Core.Logic.{_⊎_}
-use Prim.Native.Nat.{ℕ, _+_, _-_, _/_}
+use Rattle.std.specs.Prelude.{◌≡◌, ◌⊎◌, ℕ, ◌+◌, ◌-◌, ◌/◌}
 
 abbrev pub down : ℕ → ℕ → ℕ
 down a b = a / b

@@ -1,15 +1,12 @@
 -- Whole numbers that can be below zero.
 --
---   sumInℤ n D z       the sum of z over the numbers below n that are in D
+--   sum_inℤ n D z       the sum of z over the numbers below n that are in D
 --   Roundedℤ n z b     n is z / b rounded down or up, b above 0
-use mathlib.Core.Bool.{Bool, cond}
-use Prim.Native.Nat.{ℕ, zero, suc, _+_, _*_}
-use lib.IntN.{ℤ, pos, _+ℤ_, _-ℤ_}
-use lib.Signed.{_≤ℤ_, _<ℤ_}
+use Rattle.std.specs.Prelude.{Bool, cond, ℕ, zero, suc, ◌+◌, ◌*◌, ℤ, pos, ◌+ℤ◌, ◌-ℤ◌, ◌≤ℤ◌, ◌<ℤ◌}
 
-unfoldable pub sumInℤ : ℕ → (ℕ → Bool) → (ℕ → ℤ) → ℤ
-sumInℤ zero D z = pos 0
-sumInℤ (suc n) D z = sumInℤ n D z +ℤ cond (D n) (z n) (pos 0)
+unfoldable pub sum_inℤ : ℕ → (ℕ → Bool) → (ℕ → ℤ) → ℤ
+sum_inℤ zero D z = pos 0
+sum_inℤ (suc n) D z = sum_inℤ n D z +ℤ cond (D n) (z n) (pos 0)
 
 pub data Roundedℤ (n : ℕ) (z : ℤ) (b : ℕ) : Type 0 where
   -- n ≤ z / b < n + 1

@@ -3,12 +3,9 @@
 --   bit w i        bit i of w is set
 --   Stretch a b w  the bits of w that are set are those from a up to b, without b
 --   word n p       the word of the numbers below n that have p
-use mathlib.Core.Path.{_≡_}
-use mathlib.Core.Bool.{Bool, _&&_}
-use Prim.Native.Nat.{ℕ, zero, suc, _/_, _%_, _^_}
-use lib.Bits.{bitOr}
-use lib.Dec.{eqb, leb, ltb}
-use Rattle·numbers·specs.specs.Finite.{only}
+use Rattle.std.specs.Prelude.{◌≡◌, Bool, ◌&&◌, ℕ, zero, suc, ◌/◌, ◌%◌, ◌^◌, eqb, leb, ltb}
+use Rattle.std.specs.Int.Bits.{bit_or}
+use Rattle.numbers.specs.Finite.{only}
 
 unfoldable pub bit : ℕ → ℕ → Bool
 bit w i = eqb (w / 2 ^ i % 2) 1
@@ -18,4 +15,4 @@ pub record Stretch (a b w : ℕ) : Type 0 where
 
 unfoldable pub word : ℕ → (ℕ → Bool) → ℕ
 word zero p = 0
-word (suc n) p = bitOr (word n p) (only (p n) (2 ^ n))
+word (suc n) p = bit_or (word n p) (only (p n) (2 ^ n))

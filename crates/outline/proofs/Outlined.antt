@@ -1,208 +1,208 @@
 -- Refusals 1 to 9, 26, 18, 10 and 11, and that only one outline fits. Past the checks of a table as it is given each ring has a cut or 10
 -- is given, and the hyperperiod is at most 4096 slots or 11 is given.
-use mathlib.Core.Path.{_≡_, refl, sym, ap, _∙_}
-use mathlib.Core.Logic.{_≢_, ⊎-elim}
-use mathlib.Core.List.{List, [], _∷_}
-use Prim.Native.Nat.{ℕ, _+_, _≤_, _<_}
-use native.Mathlib.Decide.{ℕ-discrete}
+use mathlib.Core.Path.{◌≡◌, refl, sym, ap, ◌∙◌}
+use mathlib.Core.Logic.{◌≢◌, ⊎_elim}
+use mathlib.Core.List.{List, [], ◌∷◌}
+use Prim.Native.Nat.{ℕ, ◌≤◌, ◌<◌}
+use native.Mathlib.Decide.{ℕ_discrete}
 use native.Mathlib.Omega.{arith}
 use lib.ListN.{length, take, length-take}
-use Rattle·numbers.specs.Lists.{at}
-use Rattle·numbers.proofs.Truth.{le-or-lt}
-use Rattle·rules.specs.Bounds.{max-rows, max-slots}
-use Rattle·rules.specs.Bus.{Table}
-use Rattle·rules.specs.TableFile.{fileTable}
-use Rattle·rules.specs.Line.{cut, HasCuts, lineTop, lineFirst, lineSecond, Sets}
-use Rattle·rules.specs.Loads.{hyperperiod}
-use Rattle·rules.specs.Refusals.{Check, Answers, no-cut, long-hyperperiod, given-checks, cut-checks, line-checks}
-use Rattle·rules.proofs.Answers.{
+use Rattle.numbers.specs.Lists.{at}
+use Rattle.numbers.proofs.Truth.{le_or_lt}
+use Rattle.rules.specs.Bounds.{max_rows, max_slots}
+use Rattle.rules.specs.Bus.{Table}
+use Rattle.rules.specs.TableFile.{file_table}
+use Rattle.rules.specs.Line.{cut, HasCuts, line_top, line_first, line_second, Sets}
+use Rattle.rules.specs.Loads.{hyperperiod}
+use Rattle.rules.specs.Refusals.{Check, Answers, no_cut, long_hyperperiod, given_checks, cut_checks, line_checks}
+use Rattle.rules.proofs.Answers.{
   None,
   Numbered,
   applied,
   stopped,
   joined,
-  none-of,
-  none-join,
-  none-left,
-  none-right,
-  numbered-join,
-  answers-only,
-  single-none,
-  none-single,
-  single-numbered,
-  single-stopped,
+  none_of,
+  none_join,
+  none_left,
+  none_right,
+  numbered_join,
+  answers_only,
+  single_none,
+  none_single,
+  single_numbered,
+  single_stopped,
 }
-use Rattle·rules.proofs.Sets.{sets-only}
-use Rattle·table.specs.Sound.{Passed}
-use Rattle·ring.proofs.Cut.{cut-high, cut-none}
-use Rattle·sets.specs.Sets.{OnLine, SetWords}
-use Rattle·sets.proofs.SetWords.{set-words-only}
-use Rattle·table.specs.declared.Answer.{Answer}
-use Rattle·table.proofs.ByRow.{by-row-only}
-use Rattle·outline·specs.specs.declared.Outline.{Outline}
-use Rattle·time.proofs.Periods.{time-only}
-use Rattle·outline·specs.specs.Outlined.{Found, blank, outline-checks, Outlined}
-use Rattle·pasted.proofs.AsGiven.{given-numbered, given-passed}
-use Rattle·outline·proofs.proofs.Sets.{Ends, own-ends, ends-on-line, line-list}
+use Rattle.rules.proofs.Sets.{sets_only}
+use Rattle.table.specs.Sound.{Passed}
+use Rattle.ring.proofs.Cut.{cut_high, cut_none}
+use Rattle.sets.specs.Sets.{OnLine, SetWords}
+use Rattle.sets.proofs.SetWords.{set_words_only}
+use Rattle.table.specs.declared.Answer.{Answer}
+use Rattle.table.proofs.ByRow.{by_row_only}
+use Rattle.outline.specs.declared.Outline.{Outline}
+use Rattle.time.proofs.Periods.{time_only}
+use Rattle.outline.specs.Outlined.{Found, blank, outline_checks, Outlined}
+use Rattle.pasted.proofs.AsGiven.{given_numbered, given_passed}
+use Rattle.outline.proofs.Sets.{Ends, own_ends, ends_on_line, line_list}
 
 -- ---- one shape for number and place
 
-pub answer-only : (cs : List Check) (r s : Answer) → Answers cs (r .number) (r .place) → Answers cs (s .number) (s .place) → r ≡ s
-answer-only cs r s A B =
-    let e = answers-only cs _ _ _ _ A B in
-    λ k. record { number = e .0 k; place = e .1 k }
+pub answer_only : (cs : List Check) (r s : Answer) → Answers cs r.number r.place → Answers cs s.number s.place → r ≡ s
+answer_only cs r s A B =
+    let e = answers_only cs _ _ _ _ A B in
+    λ k. record { number = e.0 k; place = e.1 k }
 
 -- an answer that was made for a number and a place
-pub answers-at : (cs : List Check) (r : Answer) (n p : ℕ) → (r .number ≡ n) × (r .place ≡ p) → Answers cs n p
-    → Answers cs (r .number) (r .place)
-answers-at cs r n p e a = rw (e .0, e .1) a
+pub answers_at : (cs : List Check) (r : Answer) (n p : ℕ) → (r.number ≡ n) × (r.place ≡ p) → Answers cs n p
+    → Answers cs r.number r.place
+answers_at cs r n p e a = rw (e.0, e.1) a
 
-pub answers-zero : (cs : List Check) (r : Answer) → r .number ≡ 0 → Answers cs (r .number) (r .place) → Answers cs 0 (r .place)
-answers-zero cs r e a = rw e at a
+pub answers_zero : (cs : List Check) (r : Answer) → r.number ≡ 0 → Answers cs r.number r.place → Answers cs 0 r.place
+answers_zero cs r e a = rw e at a
 
 -- ---- refusals 10 and 11
 
 module _ (t : Table) where
   -- 11 alone
   abbrev long : List Check
-  long = long-hyperperiod t ∷ []
+  long = long_hyperperiod t ∷ []
 
-  pub line-numbered : Numbered (line-checks t)
-  unfolding line-checks cut-checks Numbered
-  line-numbered =
-      numbered-join (cut-checks t) long (single-numbered (no-cut t) (t .rings) (λ d. omega arith)) ((λ e. omega arith), tt)
+  pub line_numbered : Numbered (line_checks t)
+  unfolding line_checks cut_checks Numbered
+  line_numbered =
+      numbered_join (cut_checks t) long (single_numbered (no_cut t) t.rings (λ d. omega arith)) ((λ e. omega arith), tt)
 
-  has-cut : (d : ℕ) → cut t d ≤ t .elements → no-cut t d .applies → ⊥
-  has-cut d l a = omega (arith, cut-none t d .0 a)
+  has_cut : (d : ℕ) → cut t d ≤ t.elements → (no_cut t d).applies → ⊥
+  has_cut d l a = omega (arith, (cut_none t d).0 a)
 
-  no-cut-applies : (d : ℕ) → t .elements < cut t d → no-cut t d .applies
-  no-cut-applies d l = cut-none t d .1 (omega (arith, cut-high t d))
+  no_cut_applies : (d : ℕ) → t.elements < cut t d → (no_cut t d).applies
+  no_cut_applies d l = (cut_none t d).1 (omega (arith, cut_high t d))
 
   -- ring d is the lowest without a cut
-  pub cut-refused : (d : ℕ) → d < t .rings → ((e : ℕ) → e < d → cut t e ≤ t .elements) → t .elements < cut t d
-      → Answers (line-checks t) (no-cut t d .number) d
-  unfolding line-checks cut-checks
-  cut-refused d l has h =
-      stopped (cut-checks t) long _ d (omega arith)
-      (single-stopped (no-cut t) (t .rings) d l (omega arith) (λ e m. has-cut e (has e m)) (no-cut-applies d h))
+  pub cut_refused : (d : ℕ) → d < t.rings → ((e : ℕ) → e < d → cut t e ≤ t.elements) → t.elements < cut t d
+      → Answers (line_checks t) (no_cut t d).number d
+  unfolding line_checks cut_checks
+  cut_refused d l has h =
+      stopped (cut_checks t) long _ d (omega arith)
+      (single_stopped (no_cut t) t.rings d l (omega arith) (λ e m. has_cut e (has e m)) (no_cut_applies d h))
 
-  cuts-none : HasCuts t → None (cut-checks t)
-  unfolding cut-checks
-  cuts-none has = single-none (no-cut t) (t .rings) (λ d l. has-cut d (has d l))
+  cuts_none : HasCuts t → None (cut_checks t)
+  unfolding cut_checks
+  cuts_none has = single_none (no_cut t) t.rings (λ d l. has_cut d (has d l))
 
-  none-cuts : None (cut-checks t) → HasCuts t
-  unfolding cut-checks
-  none-cuts a d l =
-      ⊎-elim (λ m. m) (λ m. absurd (none-single (no-cut t) (t .rings) a d l (no-cut-applies d m))) (le-or-lt (cut t d) (t .elements))
+  none_cuts : None (cut_checks t) → HasCuts t
+  unfolding cut_checks
+  none_cuts a d l =
+      ⊎_elim (λ m. m) (λ m. absurd (none_single (no_cut t) t.rings a d l (no_cut_applies d m))) (le_or_lt (cut t d) t.elements)
 
-  pub long-refused : HasCuts t → max-slots < hyperperiod t → Answers (line-checks t) (long-hyperperiod t .number) 0
-  unfolding line-checks
-  long-refused has h = joined (cut-checks t) long _ _ (cuts-none has) (applied (long-hyperperiod t) [] _ _ h refl refl)
+  pub long_refused : HasCuts t → max_slots < hyperperiod t → Answers (line_checks t) (long_hyperperiod t).number 0
+  unfolding line_checks
+  long_refused has h = joined (cut_checks t) long _ _ (cuts_none has) (applied (long_hyperperiod t) [] _ _ h refl refl)
 
-  pub line-none : HasCuts t → hyperperiod t ≤ max-slots → None (line-checks t)
-  unfolding line-checks None
-  line-none has h = none-join (cut-checks t) long (cuts-none has) ((λ a. omega arith), tt)
+  pub line_none : HasCuts t → hyperperiod t ≤ max_slots → None (line_checks t)
+  unfolding line_checks None
+  line_none has h = none_join (cut_checks t) long (cuts_none has) ((λ a. omega arith), tt)
 
-  pub none-line : None (line-checks t) → HasCuts t × (hyperperiod t ≤ max-slots)
-  unfolding line-checks None
-  none-line a = (
-    none-cuts (none-left (cut-checks t) long a),
-    ⊎-elim (λ l. l) (λ l. absurd (none-right (cut-checks t) long a .0 l)) (le-or-lt (hyperperiod t) max-slots),
+  pub none_line : None (line_checks t) → HasCuts t × (hyperperiod t ≤ max_slots)
+  unfolding line_checks None
+  none_line a = (
+    none_cuts (none_left (cut_checks t) long a),
+    ⊎_elim (λ l. l) (λ l. absurd ((none_right (cut_checks t) long a).0 l)) (le_or_lt (hyperperiod t) max_slots),
   )
 
 -- ---- files that pass 1 to 9, 26, 18, 10 and 11
 
 module _ (f : List ℕ) where
-  pub outline-numbered : Numbered (outline-checks f)
-  outline-numbered = numbered-join (given-checks f) (line-checks (fileTable f)) (given-numbered f) (line-numbered (fileTable f))
+  pub outline_numbered : Numbered (outline_checks f)
+  outline_numbered = numbered_join (given_checks f) (line_checks (file_table f)) (given_numbered f) (line_numbered (file_table f))
 
-  module _ (a : None (outline-checks f)) where
-    pub outline-passed : Passed f
-    outline-passed = given-passed f (none-left (given-checks f) (line-checks (fileTable f)) a)
+  module _ (a : None (outline_checks f)) where
+    pub outline_passed : Passed f
+    outline_passed = given_passed f (none_left (given_checks f) (line_checks (file_table f)) a)
 
-    pub outline-short : HasCuts (fileTable f) × (hyperperiod (fileTable f) ≤ max-slots)
-    outline-short = none-line (fileTable f) (none-right (given-checks f) (line-checks (fileTable f)) a)
+    pub outline_short : HasCuts (file_table f) × (hyperperiod (file_table f) ≤ max_slots)
+    outline_short = none_line (file_table f) (none_right (given_checks f) (line_checks (file_table f)) a)
 
-    pub outline-list-only : (ws vs : List ℕ) → Sets (fileTable f) ws → Sets (fileTable f) vs → ws ≡ vs
-    outline-list-only ws vs A B = sets-only (outline-passed .sound .rows-low) A B
+    pub outline_list_only : (ws vs : List ℕ) → Sets (file_table f) ws → Sets (file_table f) vs → ws ≡ vs
+    outline_list_only ws vs A B = sets_only outline_passed.sound.rows_low A B
 
 -- ---- the outline of each outcome
 
-pub outlined-refused : {cs : List Check} {t : Table} (r : Answer) → r .number ≢ 0 → Answers cs (r .number) (r .place)
+pub outlined_refused : {cs : List Check} {t : Table} (r : Answer) → r.number ≢ 0 → Answers cs r.number r.place
     → Outlined cs t (blank r)
-outlined-refused r h a = record { answers = a; found = λ e. absurd (h e); refused = λ e. refl }
+outlined_refused r h a = record { answers = a; found = λ e. absurd (h e); refused = λ e. refl }
 
 module _ (f : List ℕ) where
-  pub outlined-given : (r : Answer) → r .number ≢ 0 → Answers (given-checks f) (r .number) (r .place)
-      → Outlined (outline-checks f) (fileTable f) (blank r)
-  outlined-given r h a = outlined-refused r h (stopped (given-checks f) (line-checks (fileTable f)) (r .number) (r .place) h a)
+  pub outlined_given : (r : Answer) → r.number ≢ 0 → Answers (given_checks f) r.number r.place
+      → Outlined (outline_checks f) (file_table f) (blank r)
+  outlined_given r h a = outlined_refused r h (stopped (given_checks f) (line_checks (file_table f)) r.number r.place h a)
 
   -- past these checks its table's outline is the file's
-  pub outlined-past : (p : ℕ) → Answers (given-checks f) 0 p → {o : Outline} → Outlined (line-checks (fileTable f)) (fileTable f) o
-      → Outlined (outline-checks f) (fileTable f) o
-  outlined-past p a {o} O = record {
+  pub outlined_past : (p : ℕ) → Answers (given_checks f) 0 p → {o : Outline} → Outlined (line_checks (file_table f)) (file_table f) o
+      → Outlined (outline_checks f) (file_table f) o
+  outlined_past p a {o} O = record {
     answers =
-        joined (given-checks f) (line-checks (fileTable f)) (o .answer .number) (o .answer .place)
-        (none-of (given-checks f) p (given-numbered f) a) (O .answers);
-    found = O .found;
-    refused = O .refused;
+        joined (given_checks f) (line_checks (file_table f)) o.answer.number o.answer.place
+        (none_of (given_checks f) p (given_numbered f) a) O.answers;
+    found = O.found;
+    refused = O.refused;
   }
 
-pub outlined-none : {cs : List Check} {t : Table} {o : Outline} → Numbered cs → Outlined cs t o → o .answer .number ≡ 0 → None cs
-outlined-none {cs} {t} {o} N O z = none-of cs (o .answer .place) N (rw z at (O .answers))
+pub outlined_none : {cs : List Check} {t : Table} {o : Outline} → Numbered cs → Outlined cs t o → o.answer.number ≡ 0 → None cs
+outlined_none {cs} {t} {o} N O z = none_of cs o.answer.place N (rw z at O.answers)
 
 -- ---- the rows and the list of an outline that is found
 
-pub found-few : {t : Table} {o : Outline} → Found t o → o .sets ≤ max-rows
-found-few F = let s = F .timed .sound in omega (arith, F .few)
+pub found_few : {t : Table} {o : Outline} → Found t o → o.sets ≤ max_rows
+found_few F = let s = F.timed.sound in omega (arith, F.few)
 
-pub found-count : {t : Table} {o : Outline} → Found t o → length (take (o .sets) (o .words)) ≡ o .sets
-found-count {t} {o} F = omega (arith, length-take (o .sets) (o .words), found-few F)
+pub found_count : {t : Table} {o : Outline} → Found t o → length (take o.sets o.words) ≡ o.sets
+found_count {t} {o} F = omega (arith, length-take o.sets o.words, found_few F)
 
 module _ {t : Table} {o : Outline} (F : Found t o) where
-  pub found-ends : Ends t (at (o .first)) (at (o .second))
-  found-ends i l = (F .first .row i l, F .second .row i l)
+  pub found_ends : Ends t (at o.first) (at o.second)
+  found_ends i l = (F.first.row i l, F.second.row i l)
 
   module _ (first second : ℕ → ℕ) (ends : Ends t first second) where
-    pub found-on-line : OnLine (t .rows) first second (lineTop t)
-    found-on-line = ends-on-line t (F .timed .sound) (F .clear) first second ends
+    pub found_on_line : OnLine t.rows first second (line_top t)
+    found_on_line = ends_on_line t F.timed.sound F.clear first second ends
 
-    pub found-words : SetWords (t .rows) first second (o .sets) (o .words)
-    found-words = record {
-      size = F .size;
-      few = F .few;
-      sets = line-list t (F .timed .sound) (F .clear) first second ends (take (o .sets) (o .words)) (F .list);
-      rest = F .rest;
+    pub found_words : SetWords t.rows first second o.sets o.words
+    found_words = record {
+      size = F.size;
+      few = F.few;
+      sets = line_list t F.timed.sound F.clear first second ends (take o.sets o.words) F.list;
+      rest = F.rest;
     }
 
 -- ---- only one outline fits
 
-pub found-only : {t : Table} {o u : Outline} → o .answer ≡ u .answer → Found t o → Found t u → o ≡ u
-found-only {t} {o} {u} e F G =
-    let ends = own-ends t in
+pub found_only : {t : Table} {o u : Outline} → o.answer ≡ u.answer → Found t o → Found t u → o ≡ u
+found_only {t} {o} {u} e F G =
+    let ends = own_ends t in
     let w =
-    set-words-only (found-on-line F (lineFirst t) (lineSecond t) ends)
-    (found-words F (lineFirst t) (lineSecond t) ends) (found-words G (lineFirst t) (lineSecond t) ends) in
+    set_words_only (found_on_line F (line_first t) (line_second t) ends)
+    (found_words F (line_first t) (line_second t) ends) (found_words G (line_first t) (line_second t) ends) in
     λ k. record {
       answer = e k;
-      elements = (F .elements ∙ sym (G .elements)) k;
-      rows = (F .rows ∙ sym (G .rows)) k;
-      cut = (F .cut ∙ sym (G .cut)) k;
-      other = (F .other ∙ sym (G .other)) k;
-      top = (F .top ∙ sym (G .top)) k;
-      time = time-only (F .timed) (G .timed) k;
-      first = by-row-only (F .first) (G .first) k;
-      second = by-row-only (F .second) (G .second) k;
-      sets = w .0 k;
-      words = w .1 k;
+      elements = (F.elements ∙ sym G.elements) k;
+      rows = (F.rows ∙ sym G.rows) k;
+      cut = (F.cut ∙ sym G.cut) k;
+      other = (F.other ∙ sym G.other) k;
+      top = (F.top ∙ sym G.top) k;
+      time = time_only F.timed G.timed k;
+      first = by_row_only F.first G.first k;
+      second = by_row_only F.second G.second k;
+      sets = w.0 k;
+      words = w.1 k;
     }
 
-pub outlined-only : {cs : List Check} {t : Table} (o u : Outline) → Outlined cs t o → Outlined cs t u → o ≡ u
-outlined-only {cs} {t} o u O U = go (ℕ-discrete (o .answer .number) 0)
+pub outlined_only : {cs : List Check} {t : Table} (o u : Outline) → Outlined cs t o → Outlined cs t u → o ≡ u
+outlined_only {cs} {t} o u O U = go (ℕ_discrete o.answer.number 0)
   where
-    same : o .answer ≡ u .answer
-    same = answer-only cs (o .answer) (u .answer) (O .answers) (U .answers)
+    same : o.answer ≡ u.answer
+    same = answer_only cs o.answer u.answer O.answers U.answers
 
-    go : Dec (o .answer .number ≡ 0) → o ≡ u
-    go (yes z) = found-only same (O .found z) (U .found (sym (ap (λ (r : Answer). r .number) same) ∙ z))
-    go (no z) = O .refused z ∙ ap blank same ∙ sym (U .refused (λ e. z (ap (λ (r : Answer). r .number) same ∙ e)))
+    go : Dec (o.answer.number ≡ 0) → o ≡ u
+    go (yes z) = found_only same (O.found z) (U.found (sym (ap (λ (r : Answer). r.number) same) ∙ z))
+    go (no z) = O.refused z ∙ ap blank same ∙ sym (U.refused (λ e. z (ap (λ (r : Answer). r.number) same ∙ e)))

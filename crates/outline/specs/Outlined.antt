@@ -2,40 +2,36 @@
 --
 --   Found t o          o is the outline of the table t, which has none of the faults 4 to 11
 --   blank r            the outline of a refusal: 0 for all but the answer
---   outline-checks f   1 to 9, 26, 18, 10 and 11, in this order
+--   outline_checks f   1 to 9, 26, 18, 10 and 11, in this order
 --   Outlined cs t o    o answers the checks cs, and is what is found of table t where none of them applies
 --
--- Only one outline fits a table and its checks (proofs/Outlined, `outlined-only`).
-use mathlib.Core.Path.{_≡_}
-use mathlib.Core.Logic.{_≢_}
-use mathlib.Core.List.{List, _++_}
-use Prim.Native.Nat.{ℕ, _≤_}
-use lib.ListN.{length, take, replicate}
-use Rattle·numbers.specs.Lists.{at}
-use Rattle·rules.specs.Bounds.{max-rows}
-use Rattle·rules.specs.Bus.{Table, clockwise, counterclockwise}
-use Rattle·rules.specs.TableFile.{fileTable}
-use Rattle·rules.specs.Line as line
-use Rattle·rules.specs.Refusals.{Check, Answers, given-checks, line-checks}
-use Rattle·table.specs.Columns.{ByRow}
-use Rattle·table.specs.declared.Answer.{Answer}
-use Rattle·outline·specs.specs.declared.Outline.{Outline}
-use Rattle·time.specs.Time.{Timed, noTime}
+-- Only one outline fits a table and its checks (proofs/Outlined, `outlined_only`).
+use Rattle.std.specs.Prelude.{◌≡◌, ◌≢◌, List, ◌++◌, ℕ, ◌≤◌, length, take, replicate}
+use Rattle.numbers.specs.Lists.{at}
+use Rattle.rules.specs.Bounds.{max_rows}
+use Rattle.rules.specs.Bus.{Table, clockwise, counterclockwise}
+use Rattle.rules.specs.TableFile.{file_table}
+use Rattle.rules.specs.Line as line
+use Rattle.rules.specs.Refusals.{Check, Answers, given_checks, line_checks}
+use Rattle.table.specs.Columns.{ByRow}
+use Rattle.table.specs.declared.Answer.{Answer}
+use Rattle.outline.specs.declared.Outline.{Outline}
+use Rattle.time.specs.Time.{Timed, no_time}
 
 pub record Found (t : Table) (o : Outline) : Type 0 where
-  pub timed : Timed t (o .time)
+  pub timed : Timed t o.time
   pub clear : line.HasCuts t
-  pub elements : o .elements ≡ t .elements
-  pub rows : o .rows ≡ t .rows
-  pub cut : o .cut ≡ line.boardCut t clockwise
-  pub other : o .other ≡ line.boardCut t counterclockwise
-  pub top : o .top ≡ line.lineTop t
-  pub first : ByRow (t .rows) (line.lineFirst t) (o .first)
-  pub second : ByRow (t .rows) (line.lineSecond t) (o .second)
-  pub few : o .sets ≤ t .rows
-  pub list : line.Sets t (take (o .sets) (o .words))
-  pub size : length (o .words) ≡ max-rows
-  pub rest : (k : ℕ) → o .sets ≤ k → at (o .words) k ≡ 0
+  pub elements : o.elements ≡ t.elements
+  pub rows : o.rows ≡ t.rows
+  pub cut : o.cut ≡ line.board_cut t clockwise
+  pub other : o.other ≡ line.board_cut t counterclockwise
+  pub top : o.top ≡ line.line_top t
+  pub first : ByRow t.rows (line.line_first t) o.first
+  pub second : ByRow t.rows (line.line_second t) o.second
+  pub few : o.sets ≤ t.rows
+  pub list : line.Sets t (take o.sets o.words)
+  pub size : length o.words ≡ max_rows
+  pub rest : (k : ℕ) → o.sets ≤ k → at o.words k ≡ 0
 
 abbrev pub blank : Answer → Outline
 blank answer = record {
@@ -45,17 +41,17 @@ blank answer = record {
   cut = 0;
   other = 0;
   top = 0;
-  time = noTime;
-  first = replicate max-rows 0;
-  second = replicate max-rows 0;
+  time = no_time;
+  first = replicate max_rows 0;
+  second = replicate max_rows 0;
   sets = 0;
-  words = replicate max-rows 0;
+  words = replicate max_rows 0;
 }
 
-abbrev pub outline-checks : List ℕ → List Check
-outline-checks f = given-checks f ++ line-checks (fileTable f)
+abbrev pub outline_checks : List ℕ → List Check
+outline_checks f = given_checks f ++ line_checks (file_table f)
 
 pub record Outlined (cs : List Check) (t : Table) (o : Outline) : Type 0 where
-  pub answers : Answers cs (o .answer .number) (o .answer .place)
-  pub found : o .answer .number ≡ 0 → Found t o
-  pub refused : o .answer .number ≢ 0 → o ≡ blank (o .answer)
+  pub answers : Answers cs o.answer.number o.answer.place
+  pub found : o.answer.number ≡ 0 → Found t o
+  pub refused : o.answer.number ≢ 0 → o ≡ blank o.answer

@@ -1,35 +1,33 @@
 // What a table is on the line: its cuts, its rows' ends, its overlap sets, hyperperiod and interval, or a refusal of 1 to 11, 18 and 26.
+#![tactic(auto)]
+
+ghost use Rattle.std.specs.Prelude.{◌≡◌, not, cond, ℕ, ◌≤◌, ltb, eqb, length};
+ghost use Rattle.numbers.specs.Finite.{any, lowest};
+ghost use Rattle.numbers.specs.Lists.{at};
+ghost use Rattle.rules.specs.Bounds.{max_elements, max_rows, max_rings};
+ghost use Rattle.rules.specs.Bus.{mirror};
+ghost use Rattle.rules.specs.Line as line;
+ghost use Rattle.rules.specs.TableFile.{file_table};
+ghost use Rattle.rules.specs.Refusals.{line_checks};
+ghost use Rattle.rules.specs.Calls.{lent, line_ask, Listed};
+ghost use Rattle.table.specs.Columns.{OneWay};
+ghost use Rattle.table.specs.Sound.{Sound};
+ghost use Rattle.ring.specs.Route.{Element};
+ghost use Rattle.ring.specs.Rows.{Routes, on_ring, cut_of};
+ghost use Rattle.outline.specs.Layout.{table_with, no_layout, LaidOut};
+ghost use Rattle.outline.specs.Outlined.{blank, outline_checks, Outlined};
+ghost use Rattle.outline.specs.Listed.{Traced, ListedOn};
+
 use ring::Line;
-use table::Answer;
-use table::Table;
+use table::{Answer, Table};
 use time::Time;
-ghost use mathlib.Core.Path.{_≡_};
-ghost use mathlib.Core.Bool.{not, cond};
-ghost use Prim.Native.Nat.{ℕ, _≤_};
-ghost use lib.Dec.{ltb, eqb};
-ghost use lib.ListN.{length};
-ghost use Rattle·numbers.specs.Finite.{any, lowest};
-ghost use Rattle·numbers.specs.Lists.{at};
-ghost use Rattle·rules.specs.Bounds.{max-elements, max-rows, max-rings};
-ghost use Rattle·rules.specs.Bus.{mirror};
-ghost use Rattle·rules.specs.Line as line;
-ghost use Rattle·rules.specs.TableFile.{fileTable};
-ghost use Rattle·rules.specs.Refusals.{line-checks};
-ghost use Rattle·rules.specs.Calls.{lent, lineAsk, Listed};
-ghost use Rattle·table.specs.Columns.{OneWay};
-ghost use Rattle·table.specs.Sound.{Sound};
-ghost use Rattle·ring.specs.Route.{Element};
-ghost use Rattle·ring.specs.Rows.{Routes, onRing, cutOf};
-ghost use Rattle·outline·specs.specs.Layout.{tableWith, noLayout, LaidOut};
-ghost use Rattle·outline·specs.specs.Outlined.{blank, outline-checks, Outlined};
-ghost use Rattle·outline·specs.specs.Listed.{Traced, ListedOn};
 
 // ---- the cuts
 
 // No row runs on ring `d`.
 fn is_idle(rows: usize, way: &[u8; Table::ROWS], d: usize) -> bool
-    requires { ⌜ rows ≤ max-rows ⌝ }
-    ensures { λ r. ⌜ r ≡ not (any rows (λ i. eqb (at (now (way .entry)) i) d)) ⌝ }
+    requires { rows ≤ max_rows }
+    ensures { result ≡ not (any rows (λ i. eqb (at way.now i) d)) }
 {
     let mut i: usize = 0;
     while i < rows {
@@ -51,10 +49,10 @@ fn cut_on<'a>(
     way: &'a [u8; Table::ROWS],
     d: usize,
 ) -> usize
-    requires { ⌜ Routes elements rows (at (now first)) (at (now second)) (at (now way)) × OneWay rings rows (at (now way)) ⌝ }
-    ensures { λ r. ⌜ r
+    requires { Routes elements rows (at first.now) (at second.now) (at way.now) × OneWay rings rows (at way.now) }
+    ensures { result
         ≡ cond (ltb d rings)
-        (line.cut (onRing elements rows (at (now (first .entry))) (at (now (second .entry))) (at (now (way .entry)))) d) 1 ⌝ }
+        (line.cut (on_ring elements rows (at first.now) (at second.now) (at way.now)) d) 1 }
 {
     if d < rings {
         return ring::find_cut(elements, rows, rings, first, second, way, d);
@@ -64,7 +62,7 @@ fn cut_on<'a>(
 
 // The lowest of two rings whose cut is past the last element, so that it has none; their number where each has one.
 fn lowest_uncut(elements: usize, cut: usize, other: usize) -> usize
-    ensures { λ r. ⌜ r ≡ lowest max-rings (λ d. ltb elements (cutOf cut other d)) ⌝ }
+    ensures { result ≡ lowest max_rings (λ d. ltb elements (cut_of cut other d)) }
 {
     if cut > elements {
         return 0;
@@ -84,9 +82,9 @@ fn board_cut(
     d: usize,
     cut: usize,
 ) -> usize
-    requires { ⌜ (rows ≤ max-rows) × (elements ≤ max-elements) × Element elements cut ⌝ }
-    ensures { λ r. ⌜ r
-        ≡ cond (ltb d rings) (cond (not (any rows (λ i. eqb (at (now (way .entry)) i) d))) 1 (mirror elements d cut)) 0 ⌝ }
+    requires { (rows ≤ max_rows) × (elements ≤ max_elements) × Element elements cut }
+    ensures { result
+        ≡ cond (ltb d rings) (cond (not (any rows (λ i. eqb (at way.now i) d))) 1 (mirror elements d cut)) 0 }
 {
     if d >= rings {
         return 0;
@@ -101,6 +99,7 @@ fn board_cut(
 
 // Where a table's line begins on each ring, as the board's own number, and where it ends; its time; and its rows' ends on the line. All is
 // 0 but the answer where it is refused.
+#[derive(Clone, Copy)]
 pub struct Layout {
     pub answer: Answer,
     pub cut: usize,
@@ -112,7 +111,7 @@ pub struct Layout {
 
 impl Layout {
     fn refused(answer: Answer) -> Layout
-        ensures { λ r. ⌜ r ≡ noLayout answer ⌝ }
+        ensures { result ≡ no_layout answer }
     {
         Layout {
             answer: answer,
@@ -138,11 +137,11 @@ pub fn layout_of<'a>(
     second: &'a [u8; Table::ROWS],
     way: &'a [u8; Table::ROWS],
 ) -> Layout
-    requires { ⌜ ((cost : ℕ → ℕ) × Sound (tableWith cost elements rows rings (now period) (now first) (now second) (now way))) ⌝ }
-    ensures { λ r. ⌜ ((cost : ℕ → ℕ)
-        → Sound (tableWith cost elements rows rings (now (period .entry)) (now (first .entry)) (now (second .entry)) (now (way .entry)))
+    requires { (cost : ℕ → ℕ) × Sound (table_with cost elements rows rings period.now first.now second.now way.now) }
+    ensures { (cost : ℕ → ℕ)
+        → Sound (table_with cost elements rows rings period.now first.now second.now way.now)
         → LaidOut
-        (tableWith cost elements rows rings (now (period .entry)) (now (first .entry)) (now (second .entry)) (now (way .entry))) r) ⌝ }
+        (table_with cost elements rows rings period.now first.now second.now way.now) result }
 {
     let cut = cut_on(elements, rows, rings, first, second, way, 0);
     let other = cut_on(elements, rows, rings, first, second, way, 1);
@@ -167,6 +166,7 @@ pub fn layout_of<'a>(
 // ---- the outline
 
 // A table on the line and in time. All is 0 but the answer where it is refused.
+#[derive(Clone, Copy)]
 pub struct Outline {
     pub answer: Answer,
     pub elements: usize,
@@ -183,7 +183,7 @@ pub struct Outline {
 
 impl Outline {
     pub fn refused(answer: Answer) -> Outline
-        ensures { λ r. ⌜ r ≡ blank answer ⌝ }
+        ensures { result ≡ blank answer }
     {
         Outline {
             answer: answer,
@@ -211,13 +211,13 @@ pub fn outline_of<'a>(
     second: &'a [u8; Table::ROWS],
     way: &'a [u8; Table::ROWS],
 ) -> Outline
-    requires { ⌜ ((cost : ℕ → ℕ) × Sound (tableWith cost elements rows rings (now period) (now first) (now second) (now way))) ⌝ }
-    ensures { λ r. ⌜ ((cost : ℕ → ℕ)
-        → Sound (tableWith cost elements rows rings (now (period .entry)) (now (first .entry)) (now (second .entry)) (now (way .entry)))
+    requires { (cost : ℕ → ℕ) × Sound (table_with cost elements rows rings period.now first.now second.now way.now) }
+    ensures { (cost : ℕ → ℕ)
+        → Sound (table_with cost elements rows rings period.now first.now second.now way.now)
         → Outlined
-        (line-checks
-        (tableWith cost elements rows rings (now (period .entry)) (now (first .entry)) (now (second .entry)) (now (way .entry))))
-        (tableWith cost elements rows rings (now (period .entry)) (now (first .entry)) (now (second .entry)) (now (way .entry))) r) ⌝ }
+        (line_checks
+        (table_with cost elements rows rings period.now first.now second.now way.now))
+        (table_with cost elements rows rings period.now first.now second.now way.now) result }
 {
     let laid = layout_of(elements, rows, rings, period, first, second, way);
     let answer = laid.answer;
@@ -246,7 +246,7 @@ pub fn outline_of<'a>(
 
 // What a file's table is on the line, or the first refusal of 1 to 9, 26, 18, 10 and 11.
 fn outline_file(file: &[u8]) -> Outline
-    ensures { λ r. ⌜ Outlined (outline-checks (now (file .entry))) (fileTable (now (file .entry))) r ⌝ }
+    ensures { Outlined (outline_checks file.now) (file_table file.now) result }
 {
     let found = pasted::given(file);
     let answer = found.answer;
@@ -265,6 +265,7 @@ fn outline_file(file: &[u8]) -> Outline
 }
 
 // What the list of sets answers, and its length.
+#[derive(Clone, Copy)]
 pub struct Listing {
     pub answer: Answer,
     pub sets: u32,
@@ -272,8 +273,8 @@ pub struct Listing {
 
 // The words, written to the front of `out`.
 fn write_front(words: &[u64], out: &mut [u64])
-    requires { ⌜ length (now words) ≤ length (now out) ⌝ }
-    ensures { λ _. ⌜ now (out .exit) ≡ lent (now (words .entry)) (now (out .entry)) ⌝ }
+    requires { length words.now ≤ length out.old }
+    ensures { out.new ≡ lent words.now out.old }
 {
     for k in 0..words.len() {
         out[k] = words[k];
@@ -282,8 +283,8 @@ fn write_front(words: &[u64], out: &mut [u64])
 
 // The list of the overlap sets of a table in outline, written to the front of `out`; a refusal is handed on.
 pub fn list_on(o: Outline, out: &mut [u64]) -> Listing
-    requires { ⌜ Traced o ⌝ }
-    ensures { λ r. ⌜ ListedOn o r (now (out .entry)) (now (out .exit)) ⌝ }
+    requires { Traced o }
+    ensures { ListedOn o result out.old out.new }
 {
     let answer = o.answer;
     if answer.number != Answer::DONE {
@@ -309,8 +310,8 @@ pub fn list_on(o: Outline, out: &mut [u64]) -> Listing
 
 // The list of the overlap sets of a file's table.
 pub fn list_of_sets(file: &[u8], out: &mut [u64]) -> Listing
-    ensures { λ r. ⌜ Listed (lineAsk (now (file .entry))) (now (out .entry)) (now (out .exit))
-        (r .answer .number) (r .answer .place) (r .sets) ⌝ }
+    ensures { Listed (line_ask file.now) out.old out.new
+        result.answer.number result.answer.place result.sets }
 {
     list_on(outline_file(file), out)
 }

@@ -1,163 +1,163 @@
 -- A table as it is given: 1 to 9, then 18.
-use mathlib.Core.Path.{_≡_, refl, sym, ap, _∙_, subst}
-use mathlib.Core.Logic.{_≢_, ⊎-elim}
-use mathlib.Core.Bool.{Bool, false, _&&_, and-false}
+use mathlib.Core.Path.{◌≡◌, refl, sym, ap, ◌∙◌, subst}
+use mathlib.Core.Logic.{◌≢◌, ⊎_elim}
+use mathlib.Core.Bool.{Bool, false, ◌&&◌, and-false}
 use mathlib.Core.List.{List}
-use Prim.Native.Nat.{ℕ, _≤_, _<_}
+use Prim.Native.Nat.{ℕ, ◌≤◌, ◌<◌}
 use native.Mathlib.Omega.{arith}
 use lib.Dec.{T, eqb, ltb, eqb→eq, ltb→lt, lt→ltb}
-use Rattle·numbers.specs.Finite.{any, lowest}
-use Rattle·numbers.specs.Word.{bit, word}
-use Rattle·numbers.specs.Lists.{at}
-use Rattle·numbers.proofs.Truth.{both, fst, snd, decide, along, same, eqb-of}
-use Rattle·numbers.proofs.Finite.{any-of, any-eq, least, lowest-has, lowest-below}
-use Rattle·numbers.proofs.Word.{bit-word}
-use Rattle·rules.specs.Bounds.{max-elements, max-rows}
-use Rattle·rules.specs.Bus.{Table, Labelled, pasted}
-use Rattle·rules.specs.TableFile.{fileTable}
-use Rattle·rules.specs.Refusals.{Check, Answers, pasted-row, file-checks, pasted-checks, given-checks}
-use Rattle·rules.proofs.Answers.{None, Numbered, stopped, joined, answered, none-of, none-left, none-join, numbered-join, answers-only}
-use Rattle·rules.proofs.Answers.{single-none, single-numbered, single-stopped}
-use Rattle·table.specs.Sound.{Sound, Passed}
-use Rattle·table.specs.Columns.{tableOf, Holds}
-use Rattle·decoding.specs.Decoded.{noHead, DecodesInto, refusal, Decodes}
-use Rattle·table.specs.declared.Answer.{Answer}
-use Rattle·table.specs.declared.columns.Columns.{Columns}
-use Rattle·decoding.specs.declared.Head.{Head}
-use Rattle·decoding.specs.declared.Decoded.{Decoded}
-use Rattle·table.proofs.Faults.{file-numbered, passed-none}
-use Rattle·sets.proofs.Sums.{without, other}
-use Rattle·pasted·specs.specs.Alike.{alike}
+use Rattle.numbers.specs.Finite.{any, lowest}
+use Rattle.numbers.specs.Word.{bit, word}
+use Rattle.numbers.specs.Lists.{at}
+use Rattle.numbers.proofs.Truth.{both, fst, snd, decide, along, same, eqb_of}
+use Rattle.numbers.proofs.Finite.{any_of, any_eq, least, lowest_has, lowest_below}
+use Rattle.numbers.proofs.Word.{bit_word}
+use Rattle.rules.specs.Bounds.{max_elements, max_rows}
+use Rattle.rules.specs.Bus.{Table, Labelled, pasted}
+use Rattle.rules.specs.TableFile.{file_table}
+use Rattle.rules.specs.Refusals.{Check, Answers, pasted_row, file_checks, pasted_checks, given_checks}
+use Rattle.rules.proofs.Answers.{None, Numbered, stopped, joined, answered, none_of, none_left, none_join, numbered_join, answers_only}
+use Rattle.rules.proofs.Answers.{single_none, single_numbered, single_stopped}
+use Rattle.table.specs.Sound.{Sound, Passed}
+use Rattle.table.specs.Columns.{table_of, Holds}
+use Rattle.decoding.specs.Decoded.{no_head, DecodesInto, refusal, Decodes}
+use Rattle.table.specs.declared.Answer.{Answer}
+use Rattle.table.specs.declared.columns.Columns.{Columns}
+use Rattle.decoding.specs.declared.Head.{Head}
+use Rattle.decoding.specs.declared.Decoded.{Decoded}
+use Rattle.table.proofs.Faults.{file_numbered, passed_none}
+use Rattle.sets.proofs.Sums.{without, other}
+use Rattle.pasted.specs.Alike.{alike}
 
 -- ---- pasted rows
 
 -- a row of the word that does not have p can be left out
-pub left-out : (w j : ℕ) (p : ℕ → Bool) → j < 64 → p j ≡ false
-    → any max-rows (λ k. bit (without w j) k && p k) ≡ any max-rows (λ k. bit w k && p k)
-left-out w j p l e =
-    any-eq max-rows (λ k. bit (without w j) k && p k) (λ k. bit w k && p k)
+pub left_out : (w j : ℕ) (p : ℕ → Bool) → j < 64 → p j ≡ false
+    → any max_rows (λ k. bit (without w j) k && p k) ≡ any max_rows (λ k. bit w k && p k)
+left_out w j p l e =
+    any_eq max_rows (λ k. bit (without w j) k && p k) (λ k. bit w k && p k)
     (λ k m.
-    ⊎-elim
+    ⊎_elim
     (λ (t : T (eqb k j)).
     let q : p k ≡ false = ap p (eqb→eq k j t) ∙ e in
-    ap (_&&_ (bit (without w j) k)) q ∙ and-false (bit (without w j) k) ∙ sym (ap (_&&_ (bit w k)) q ∙ and-false (bit w k)))
-    (λ f. ap (λ (b : Bool). b && p k) (other w j l k (λ z. f (eqb-of k j z))))
+    ap (◌&&◌ (bit (without w j) k)) q ∙ and-false (bit (without w j) k) ∙ sym (ap (◌&&◌ (bit w k)) q ∙ and-false (bit w k)))
+    (λ f. ap (λ (b : Bool). b && p k) (other w j l k (λ z. f (eqb_of k j z))))
     (decide (eqb k j)))
 
 -- of the earlier rows with row i's first end one has its second end, its period and its direction, or none
-pub earlier-pasted : (t : Table) (w i : ℕ) → i ≤ max-rows → w ≡ word i (λ j. eqb (t .first j) (t .first i))
-    → any max-rows (λ j. bit w j && alike (t .period) (t .second) (t .way) i j) ≡ pasted t i
+pub earlier_pasted : (t : Table) (w i : ℕ) → i ≤ max_rows → w ≡ word i (λ j. eqb (t.first j) (t.first i))
+    → any max_rows (λ j. bit w j && alike t.period t.second t.way i j) ≡ pasted t i
 unfolding pasted
-earlier-pasted t w i few e =
+earlier_pasted t w i few e =
     same _ _
     (λ h.
-    let r = least max-rows (λ j. bit w j && alike (t .period) (t .second) (t .way) i j) h in
-    let j = r .0 in
-    let c = along (bits j) (fst (bit w j) (alike (t .period) (t .second) (t .way) i j) (r .2)) in
-    let a = snd (bit w j) (alike (t .period) (t .second) (t .way) i j) (r .2) in
+    let r = least max_rows (λ j. bit w j && alike t.period t.second t.way i j) h in
+    let j = r.0 in
+    let c = along (bits j) (fst (bit w j) (alike t.period t.second t.way i j) r.2) in
+    let a = snd (bit w j) (alike t.period t.second t.way i j) r.2 in
     let sp = fst (S j && P j) (W j) a in
-    any-of i _ j (ltb→lt j i (fst (ltb j i) (F j) c))
+    any_of i _ j (ltb→lt j i (fst (ltb j i) (F j) c))
     (both (F j && S j && P j) (W j)
     (both (F j && S j) (P j) (both (F j) (S j) (snd (ltb j i) (F j) c) (fst (S j) (P j) sp)) (snd (S j) (P j) sp))
     (snd (S j && P j) (W j) a)))
     (λ h.
     let r = least i (λ j. F j && S j && P j && W j) h in
-    let j = r .0 in
-    let l : j < i = r .1 in
-    let fsp = fst (F j && S j && P j) (W j) (r .2) in
+    let j = r.0 in
+    let l : j < i = r.1 in
+    let fsp = fst (F j && S j && P j) (W j) r.2 in
     let f = fst (F j && S j) (P j) fsp in
-    any-of max-rows _ j (omega arith)
-    (both (bit w j) (alike (t .period) (t .second) (t .way) i j)
+    any_of max_rows _ j (omega arith)
+    (both (bit w j) (alike t.period t.second t.way i j)
     (along (sym (bits j)) (both (ltb j i) (F j) (lt→ltb j i l) (fst (F j) (S j) f)))
-    (both (S j && P j) (W j) (both (S j) (P j) (snd (F j) (S j) f) (snd (F j && S j) (P j) fsp)) (snd (F j && S j && P j) (W j) (r .2)))))
+    (both (S j && P j) (W j) (both (S j) (P j) (snd (F j) (S j) f) (snd (F j && S j) (P j) fsp)) (snd (F j && S j && P j) (W j) r.2))))
   where
     F : ℕ → Bool
-    F j = eqb (t .first j) (t .first i)
+    F j = eqb (t.first j) (t.first i)
 
     S : ℕ → Bool
-    S j = eqb (t .second j) (t .second i)
+    S j = eqb (t.second j) (t.second i)
 
     P : ℕ → Bool
-    P j = eqb (t .period j) (t .period i)
+    P j = eqb (t.period j) (t.period i)
 
     W : ℕ → Bool
-    W j = eqb (t .way j) (t .way i)
+    W j = eqb (t.way j) (t.way i)
 
     bits : (j : ℕ) → bit w j ≡ (ltb j i && F j)
-    bits j = ap (λ (v : ℕ). bit v j) e ∙ bit-word i (λ j. eqb (t .first j) (t .first i)) j
+    bits j = ap (λ (v : ℕ). bit v j) e ∙ bit_word i (λ j. eqb (t.first j) (t.first i)) j
 
 -- ---- 18
 
 module _ (f : List ℕ) where
   abbrev t : Table
-  t = fileTable f
+  t = file_table f
 
-  pub given-numbered : Numbered (given-checks f)
-  unfolding given-checks pasted-checks
-  given-numbered =
-      numbered-join (file-checks f) (pasted-checks t) (file-numbered f) (single-numbered (pasted-row t) (t .rows) (λ i. omega arith))
+  pub given_numbered : Numbered (given_checks f)
+  unfolding given_checks pasted_checks
+  given_numbered =
+      numbered_join (file_checks f) (pasted_checks t) (file_numbered f) (single_numbered (pasted_row t) t.rows (λ i. omega arith))
 
-  pub given-passed : None (given-checks f) → Passed f
-  unfolding given-checks
-  given-passed a = passed-none f (none-left (file-checks f) (pasted-checks t) a)
+  pub given_passed : None (given_checks f) → Passed f
+  unfolding given_checks
+  given_passed a = passed_none f (none_left (file_checks f) (pasted_checks t) a)
 
-  pub given-of : (p : ℕ) → Answers (given-checks f) 0 p → Passed f
-  given-of p a = given-passed (none-of (given-checks f) p given-numbered a)
+  pub given_of : (p : ℕ) → Answers (given_checks f) 0 p → Passed f
+  given_of p a = given_passed (none_of (given_checks f) p given_numbered a)
 
   -- an answer of 1 to 9 and 26, and the columns beside it
-  module _ (a : Answer) (c : Columns) (A : Answers (file-checks f) (a .number) (a .place)) (H : a .number ≡ 0 → Holds t c) where
+  module _ (a : Answer) (c : Columns) (A : Answers (file_checks f) a.number a.place) (H : a.number ≡ 0 → Holds t c) where
     -- 1 to 9 refuse
-    pub given-stopped : a .number ≢ 0 → Answers (given-checks f) (a .number) (a .place)
-    unfolding given-checks
-    given-stopped h = stopped (file-checks f) (pasted-checks t) (a .number) (a .place) h A
+    pub given_stopped : a.number ≢ 0 → Answers (given_checks f) a.number a.place
+    unfolding given_checks
+    given_stopped h = stopped (file_checks f) (pasted_checks t) a.number a.place h A
 
-    module _ (z : a .number ≡ 0) where
-      none : None (file-checks f)
-      none = none-of (file-checks f) (a .place) (file-numbered f) (rw z at A)
+    module _ (z : a.number ≡ 0) where
+      none : None (file_checks f)
+      none = none_of (file_checks f) a.place (file_numbered f) (rw z at A)
 
       -- the ends are on the ring
-      pub given-ends : (c .rows ≤ max-rows) × ((i : ℕ) → i < c .rows → at (c .first) i ≤ max-elements)
-      given-ends =
-          let s : Sound (tableOf c) = rw (H z .table) (passed-none f none .sound) in
-          (s .rows-high, λ i l. let row = s .row i l in omega arith)
+      pub given_ends : (c.rows ≤ max_rows) × ((i : ℕ) → i < c.rows → at c.first i ≤ max_elements)
+      given_ends =
+          let s : Sound (table_of c) = rw (H z).table (passed_none f none).sound in
+          (s.rows_high, λ i l. let row = s.row i l in omega arith)
 
-      module _ (i : ℕ) (e : i ≡ lowest (c .rows) (pasted (tableOf c))) where
-        is-lowest : i ≡ lowest (t .rows) (pasted t)
-        is-lowest = subst (λ (u : Table). i ≡ lowest (u .rows) (pasted u)) (H z .table) e
+      module _ (i : ℕ) (e : i ≡ lowest c.rows (pasted (table_of c))) where
+        is_lowest : i ≡ lowest t.rows (pasted t)
+        is_lowest = subst (λ (u : Table). i ≡ lowest u.rows (pasted u)) (H z).table e
 
-        rows-are : c .rows ≡ t .rows
-        rows-are = ap (λ (u : Table). u .rows) (H z .table)
+        rows_are : c.rows ≡ t.rows
+        rows_are = ap (λ (u : Table). u.rows) (H z).table
 
         -- 18 refuses
-        pub given-pasted : i < c .rows → Answers (given-checks f) 18 i
-        unfolding given-checks pasted-checks
-        given-pasted l =
-            let m : lowest (t .rows) (pasted t) < t .rows = omega (arith, is-lowest, rows-are) in
-            joined (file-checks f) (pasted-checks t) 18 i none
-            (single-stopped (pasted-row t) (t .rows) i (omega (arith, rows-are)) (omega arith)
-            (λ j h. lowest-below (t .rows) (pasted t) j (omega (arith, is-lowest)))
-            (rw is-lowest (lowest-has (t .rows) (pasted t) m)))
+        pub given_pasted : i < c.rows → Answers (given_checks f) 18 i
+        unfolding given_checks pasted_checks
+        given_pasted l =
+            let m : lowest t.rows (pasted t) < t.rows = omega (arith, is_lowest, rows_are) in
+            joined (file_checks f) (pasted_checks t) 18 i none
+            (single_stopped (pasted_row t) t.rows i (omega (arith, rows_are)) (omega arith)
+            (λ j h. lowest_below t.rows (pasted t) j (omega (arith, is_lowest)))
+            (rw is_lowest (lowest_has t.rows (pasted t) m)))
 
         -- nothing does
-        pub given-whole : c .rows ≤ i → Answers (given-checks f) (a .number) (a .place)
-        unfolding given-checks pasted-checks
-        given-whole l =
-            let all : None (given-checks f) =
-            none-join (file-checks f) (pasted-checks t) none
-            (single-none (pasted-row t) (t .rows) (λ j h. lowest-below (t .rows) (pasted t) j (omega (arith, is-lowest, rows-are)))) in
-            let still = answers-only (file-checks f) _ 0 _ 0 A (answered (file-checks f) none) in
-            rw (still .0, still .1) (answered (given-checks f) all)
+        pub given_whole : c.rows ≤ i → Answers (given_checks f) a.number a.place
+        unfolding given_checks pasted_checks
+        given_whole l =
+            let all : None (given_checks f) =
+            none_join (file_checks f) (pasted_checks t) none
+            (single_none (pasted_row t) t.rows (λ j h. lowest_below t.rows (pasted t) j (omega (arith, is_lowest, rows_are)))) in
+            let still = answers_only (file_checks f) _ 0 _ 0 A (answered (file_checks f) none) in
+            rw (still.0, still.1) (answered (given_checks f) all)
 
 -- ---- the same beside whatever is decoded
 
 -- checks that answer the same are answered by the same
-pub decodes-as : {cs ds : List Check} {t : Labelled} {r : Decoded} → Decodes cs t r → Answers ds (r .answer .number) (r .answer .place)
+pub decodes_as : {cs ds : List Check} {t : Labelled} {r : Decoded} → Decodes cs t r → Answers ds r.answer.number r.answer.place
     → Decodes ds t r
-decodes-as D a = record { answers = a; passed = D .passed; labelled = D .labelled; refused = D .refused }
+decodes_as D a = record { answers = a; passed = D.passed; labelled = D.labelled; refused = D.refused }
 
-pub decodes-refusal : {cs : List Check} {t : Labelled} (a : Answer) → a .number ≢ 0 → Answers cs (a .number) (a .place)
+pub decodes_refusal : {cs : List Check} {t : Labelled} (a : Answer) → a.number ≢ 0 → Answers cs a.number a.place
     → Decodes cs t (refusal a)
-decodes-refusal a h A = record {
+decodes_refusal a h A = record {
   answers = A;
   passed = λ e. absurd (h e);
   labelled = λ e. absurd (h e);
@@ -165,10 +165,10 @@ decodes-refusal a h A = record {
 }
 
 module _ {cs : List Check} {t : Table} {cost period first second way : List ℕ} where
-  pub into-as : {ds : List Check} {h : Head} → DecodesInto cs t h cost period first second way
-      → Answers ds (h .answer .number) (h .answer .place) → DecodesInto ds t h cost period first second way
-  into-as D a = record { answers = a; passed = D .passed; refused = D .refused }
+  pub into_as : {ds : List Check} {h : Head} → DecodesInto cs t h cost period first second way
+      → Answers ds h.answer.number h.answer.place → DecodesInto ds t h cost period first second way
+  into_as D a = record { answers = a; passed = D.passed; refused = D.refused }
 
-  pub into-refusal : (a : Answer) → a .number ≢ 0 → Answers cs (a .number) (a .place)
-      → DecodesInto cs t (noHead a) cost period first second way
-  into-refusal a h A = record { answers = A; passed = λ e. absurd (h e); refused = λ e. refl }
+  pub into_refusal : (a : Answer) → a.number ≢ 0 → Answers cs a.number a.place
+      → DecodesInto cs t (no_head a) cost period first second way
+  into_refusal a h A = record { answers = A; passed = λ e. absurd (h e); refused = λ e. refl }

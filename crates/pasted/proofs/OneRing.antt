@@ -1,50 +1,50 @@
 -- A table as it is given, where a table of one ring alone is taken (#112).
-use mathlib.Core.Path.{_≡_, refl}
+use mathlib.Core.Path.{◌≡◌, refl}
 use mathlib.Core.List.{List}
 use Prim.Native.Nat.{ℕ}
 use native.Mathlib.Omega.{arith}
-use Rattle·rules.specs.TableFile.{fileRings, fileLabelled}
-use Rattle·rules.specs.Refusals.{Check, Answers, header-checks, file-checks, given-checks, one-ring-checks}
-use Rattle·rules.proofs.Answers.{None, Numbered, none-of}
-use Rattle·table.specs.declared.Answer.{Answer}
-use Rattle·decoding.specs.declared.Decoded.{Decoded}
-use Rattle·decoding.specs.Decoded.{refusal, Decodes}
-use Rattle·decoding.proofs.OneRing.{OtherMark, other-mark, own-mark, one-numbered, one-rest, one-rings}
-use Rattle·pasted·proofs.proofs.AsGiven.{given-numbered}
+use Rattle.rules.specs.TableFile.{file_rings, file_labelled}
+use Rattle.rules.specs.Refusals.{Check, Answers, header_checks, file_checks, given_checks, one_ring_checks}
+use Rattle.rules.proofs.Answers.{None, Numbered, none_of}
+use Rattle.table.specs.declared.Answer.{Answer}
+use Rattle.decoding.specs.declared.Decoded.{Decoded}
+use Rattle.decoding.specs.Decoded.{refusal, Decodes}
+use Rattle.decoding.proofs.OneRing.{OtherMark, other_mark, own_mark, one_numbered, one_rest, one_rings}
+use Rattle.pasted.proofs.AsGiven.{given_numbered}
 
 module _ (f : List ℕ) where
   abbrev checks : List Check
-  checks = one-ring-checks f (given-checks f)
+  checks = one_ring_checks f (given_checks f)
 
-  pub one-ring-numbered : Numbered checks
-  one-ring-numbered = one-numbered f (given-checks f) (given-numbered f)
+  pub one_ring_numbered : Numbered checks
+  one_ring_numbered = one_numbered f (given_checks f) (given_numbered f)
 
   -- what passes passes the checks of a table as it is given, and has one ring
   module _ (p : ℕ) (a : Answers checks 0 p) where
     none : None checks
-    none = none-of checks p one-ring-numbered a
+    none = none_of checks p one_ring_numbered a
 
-    pub one-ring-none : None (given-checks f)
-    one-ring-none = one-rest f (given-checks f) none
+    pub one_ring_none : None (given_checks f)
+    one_ring_none = one_rest f (given_checks f) none
 
-    pub one-ring : fileRings f ≡ 1
-    one-ring = one-rings f (given-checks f) none
+    pub one_ring : file_rings f ≡ 1
+    one_ring = one_rings f (given_checks f) none
 
   -- ---- the table of each outcome
 
-  pub given-other : (a : Answer) → (a .number ≡ 2) × (a .place ≡ 0) → OtherMark f → Decodes checks (fileLabelled f) (refusal a)
-  given-other a e w = record {
-    answers = rw (e .0, e .1) (other-mark f (given-checks f) w);
-    passed = λ z. absurd (omega (arith, e .0));
-    labelled = λ z. absurd (omega (arith, e .0));
+  pub given_other : (a : Answer) → (a.number ≡ 2) × (a.place ≡ 0) → OtherMark f → Decodes checks (file_labelled f) (refusal a)
+  given_other a e w = record {
+    answers = rw (e.0, e.1) (other_mark f (given_checks f) w);
+    passed = λ z. absurd (omega (arith, e.0));
+    labelled = λ z. absurd (omega (arith, e.0));
     refused = λ h. (refl, refl);
   }
 
-  pub given-own : (r : Decoded) → (OtherMark f → ⊥) → Decodes (given-checks f) (fileLabelled f) r → Decodes checks (fileLabelled f) r
-  unfolding given-checks file-checks header-checks
-  given-own r own D = record {
-    answers = own-mark f _ own (r .answer .number) (r .answer .place) (D .answers);
-    passed = D .passed;
-    labelled = D .labelled;
-    refused = D .refused;
+  pub given_own : (r : Decoded) → (OtherMark f → ⊥) → Decodes (given_checks f) (file_labelled f) r → Decodes checks (file_labelled f) r
+  unfolding given_checks file_checks header_checks
+  given_own r own D = record {
+    answers = own_mark f _ own r.answer.number r.answer.place D.answers;
+    passed = D.passed;
+    labelled = D.labelled;
+    refused = D.refused;
   }

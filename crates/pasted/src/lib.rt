@@ -1,22 +1,20 @@
 // A table as it is given: what is refused of it before anything is looked for on its ring.
-use decoding::Decoded;
-use decoding::Head;
-use table::Answer;
-use table::Table;
-ghost use mathlib.Core.Path.{_≡_};
-ghost use mathlib.Core.List.{List};
-ghost use mathlib.Core.Bool.{_&&_};
-ghost use Prim.Native.Nat.{ℕ, _≤_, _<_};
-ghost use Rattle·numbers.specs.Finite.{any, lowest};
-ghost use Rattle·numbers.specs.Lists.{at};
-ghost use Rattle·numbers.specs.Word.{bit};
-ghost use Rattle·rules.specs.Bounds.{max-elements, max-rows};
-ghost use Rattle·rules.specs.Bus.{pasted};
-ghost use Rattle·rules.specs.TableFile.{fileTable, fileLabelled};
-ghost use Rattle·rules.specs.Refusals.{given-checks, one-ring-checks};
-ghost use Rattle·table.specs.Columns.{columnTable};
-ghost use Rattle·decoding.specs.Decoded.{Empty, DecodesInto, Decodes};
-ghost use Rattle·pasted·specs.specs.Alike.{alike};
+#![tactic(auto)]
+
+ghost use Rattle.std.specs.Prelude.{◌≡◌, List, ◌&&◌, ℕ, ◌≤◌, ◌<◌};
+ghost use Rattle.numbers.specs.Finite.{any, lowest};
+ghost use Rattle.numbers.specs.Lists.{at};
+ghost use Rattle.numbers.specs.Word.{bit};
+ghost use Rattle.rules.specs.Bounds.{max_elements, max_rows};
+ghost use Rattle.rules.specs.Bus.{pasted};
+ghost use Rattle.rules.specs.TableFile.{file_table, file_labelled};
+ghost use Rattle.rules.specs.Refusals.{given_checks, one_ring_checks};
+ghost use Rattle.table.specs.Columns.{column_table};
+ghost use Rattle.decoding.specs.Decoded.{Empty, DecodesInto, Decodes};
+ghost use Rattle.pasted.specs.Alike.{alike};
+
+use decoding::{Decoded, Head};
+use table::{Answer, Table};
 
 // Rows `j` and `i` have the same second end, the same period and the same direction.
 fn is_alike<'a>(
@@ -26,8 +24,8 @@ fn is_alike<'a>(
     j: usize,
     i: usize,
 ) -> bool
-    requires { ⌜ (j < max-rows) × (i < max-rows) ⌝ }
-    ensures { λ r. ⌜ r ≡ alike (at (now (period .entry))) (at (now (second .entry))) (at (now (way .entry))) i j ⌝ }
+    requires { (j < max_rows) × (i < max_rows) }
+    ensures { result ≡ alike (at period.now) (at second.now) (at way.now) i j }
 {
     if table::end_at(second, j) != table::end_at(second, i) {
         return false;
@@ -47,9 +45,9 @@ fn is_repeated<'a>(
     way: &'a [u8; Table::ROWS],
     i: usize,
 ) -> bool
-    requires { ⌜ i < max-rows ⌝ }
-    ensures { λ r. ⌜ r ≡ any max-rows (λ j. bit rows j
-        && alike (at (now (period .entry))) (at (now (second .entry))) (at (now (way .entry))) i j) ⌝ }
+    requires { i < max_rows }
+    ensures { result ≡ any max_rows (λ j. bit rows j
+        && alike (at period.now) (at second.now) (at way.now) i j) }
 {
     let mut left = rows;
     while left != 0 {
@@ -70,10 +68,10 @@ fn lowest_pasted<'a>(
     second: &'a [u8; Table::ROWS],
     way: &'a [u8; Table::ROWS],
 ) -> usize
-    requires { ⌜ (rows ≤ max-rows) × ((i : ℕ) → i < rows → at (now first) i ≤ max-elements) ⌝ }
-    ensures { λ r. ⌜ ((elements rings : ℕ) (cost : List ℕ)
-        → r ≡ lowest rows (pasted (columnTable elements rows rings cost (now (period .entry)) (now (first .entry)) (now (second .entry))
-        (now (way .entry))))) ⌝ }
+    requires { (rows ≤ max_rows) × ((i : ℕ) → i < rows → at first.now i ≤ max_elements) }
+    ensures { (elements rings : ℕ) (cost : List ℕ)
+        → result ≡ lowest rows (pasted (column_table elements rows rings cost period.now first.now second.now
+        way.now)) }
 {
     // for each element the word of the rows so far that start there
     let mut starts = [0u64; Table::ELEMENTS + 1];
@@ -99,9 +97,9 @@ pub fn given_into(
     second: &mut [u8; Table::ROWS],
     way: &mut [u8; Table::ROWS],
 ) -> Head
-    requires { ⌜ Empty (now cost) (now period) (now first) (now second) (now way) ⌝ }
-    ensures { λ r. ⌜ DecodesInto (given-checks (now (file .entry))) (fileTable (now (file .entry))) r
-        (now (cost .exit)) (now (period .exit)) (now (first .exit)) (now (second .exit)) (now (way .exit)) ⌝ }
+    requires { Empty cost.old period.old first.old second.old way.old }
+    ensures { DecodesInto (given_checks file.now) (file_table file.now) result
+        cost.new period.new first.new second.new way.new }
 {
     let head = decoding::decode_into(file, cost, period, first, second, way);
     let answer = head.answer;
@@ -117,7 +115,7 @@ pub fn given_into(
 
 // The table of a file with its labels, or the first refusal of 1 to 9 and 18.
 pub fn given(file: &[u8]) -> Decoded
-    ensures { λ r. ⌜ Decodes (given-checks (now (file .entry))) (fileLabelled (now (file .entry))) r ⌝ }
+    ensures { Decodes (given_checks file.now) (file_labelled file.now) result }
 {
     let found = decoding::decode(file);
     let answer = found.answer;
@@ -139,8 +137,8 @@ pub fn given(file: &[u8]) -> Decoded
 
 // The same where a table of one ring alone is taken: another mark gets 2, after 1.
 pub fn given_one_ring(file: &[u8]) -> Decoded
-    ensures { λ r. ⌜ Decodes (one-ring-checks (now (file .entry)) (given-checks (now (file .entry))))
-        (fileLabelled (now (file .entry))) r ⌝ }
+    ensures { Decodes (one_ring_checks file.now (given_checks file.now))
+        (file_labelled file.now) result }
 {
     if decoding::has_other_mark(file) {
         return Decoded::refused(Answer::at(Answer::WRONG_MARK, 0));

@@ -5,12 +5,9 @@
 --                     a lent slice that held `was` now holds the words of an interval of l slots, for loads x, at its front
 --
 -- Only one `now` fits (proofs/Filled).
-use mathlib.Core.Path.{_≡_}
-use mathlib.Core.List.{List}
-use Prim.Native.Nat.{ℕ}
-use lib.ListN.{length, take, drop}
-use Rattle·rules.specs.Line.{meet}
-use Rattle·rules.specs.Interval.{SlotWords}
+use Rattle.std.specs.Prelude.{◌≡◌, List, ℕ, length, take, drop}
+use Rattle.rules.specs.Line.{meet}
+use Rattle.rules.specs.Interval.{SlotWords}
 
 pub record Kept (l : ℕ) (was now : List ℕ) : Type 0 where
   pub rest : drop l now ≡ drop l was

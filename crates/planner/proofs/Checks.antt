@@ -1,82 +1,82 @@
 -- The planner's calls and the orders of their checks: what each answers on an admitted table, and what holds where nothing is refused.
-use mathlib.Core.Path.{_≡_, refl}
+use mathlib.Core.Path.{◌≡◌, refl}
 use mathlib.Core.List.{List, []}
-use Prim.Native.Nat.{ℕ, _-_, _≤_, _<_}
+use Prim.Native.Nat.{ℕ, ◌-◌, ◌≤◌, ◌<◌}
 use native.Mathlib.Omega.{arith}
-use Rattle·rules.specs.Bus.{Table}
-use Rattle·rules.specs.Loads.{hyperperiod, start, end}
-use Rattle·rules.specs.Planner.{due, finished, Planner, Off}
-use Rattle·rules.specs.Refusals.{
+use Rattle.rules.specs.Bus.{Table}
+use Rattle.rules.specs.Loads.{hyperperiod, start, end}
+use Rattle.rules.specs.Planner.{due, finished, Planner, Off}
+use Rattle.rules.specs.Refusals.{
   Check,
   Answers,
-  off-state,
-  has-finished,
-  short-output,
-  plan-checks,
-  step-room,
-  step-checks,
-  standings-checks,
+  off_state,
+  has_finished,
+  short_output,
+  plan_checks,
+  step_room,
+  step_checks,
+  standings_checks,
 }
-use Rattle·rules.proofs.Answers.{None, Numbered, applied, passed, done, none-of, none-left, none-right, numbered-join}
+use Rattle.rules.proofs.Answers.{None, Numbered, applied, passed, done, none_of, none_left, none_right, numbered_join}
 
 -- ---- the call's own checks, of table t
 
 module _ (t : Table) where
-  pub plan-short : (room : ℕ) → room < hyperperiod t → Answers (plan-checks [] t room) 17 0
-  unfolding plan-checks
-  plan-short room l = applied (short-output (room < hyperperiod t)) [] 17 0 l refl refl
+  pub plan_short : (room : ℕ) → room < hyperperiod t → Answers (plan_checks [] t room) 17 0
+  unfolding plan_checks
+  plan_short room l = applied (short_output (room < hyperperiod t)) [] 17 0 l refl refl
 
-  pub plan-done : (room : ℕ) → hyperperiod t ≤ room → Answers (plan-checks [] t room) 0 0
-  unfolding plan-checks
-  plan-done room l = passed (short-output (room < hyperperiod t)) [] 0 0 (λ k. omega arith) done
+  pub plan_done : (room : ℕ) → hyperperiod t ≤ room → Answers (plan_checks [] t room) 0 0
+  unfolding plan_checks
+  plan_done room l = passed (short_output (room < hyperperiod t)) [] 0 0 (λ k. omega arith) done
 
   module _ (p : Planner) where
-    pub standings-off : Off t p → Answers (standings-checks [] t p) 15 0
-    unfolding standings-checks
-    standings-off o = applied (off-state t p) [] 15 0 o refl refl
+    pub standings_off : Off t p → Answers (standings_checks [] t p) 15 0
+    unfolding standings_checks
+    standings_off o = applied (off_state t p) [] 15 0 o refl refl
 
-    pub standings-done : ¬ Off t p → Answers (standings-checks [] t p) 0 0
-    unfolding standings-checks
-    standings-done o = passed (off-state t p) [] 0 0 o done
+    pub standings_done : ¬ Off t p → Answers (standings_checks [] t p) 0 0
+    unfolding standings_checks
+    standings_done o = passed (off_state t p) [] 0 0 o done
 
     module _ (room : ℕ) where
-      pub step-off : Off t p → Answers (step-checks [] t p room) 15 0
-      unfolding step-checks
-      step-off o = applied (off-state t p) _ 15 0 o refl refl
+      pub step_off : Off t p → Answers (step_checks [] t p room) 15 0
+      unfolding step_checks
+      step_off o = applied (off_state t p) _ 15 0 o refl refl
 
       module _ (o : ¬ Off t p) where
-        pub step-finished : p .stage ≡ finished → Answers (step-checks [] t p room) 16 0
-        unfolding step-checks
-        step-finished e = passed (off-state t p) _ 16 0 o (applied (has-finished p) _ 16 0 e refl refl)
+        pub step_finished : p.stage ≡ finished → Answers (step_checks [] t p room) 16 0
+        unfolding step_checks
+        step_finished e = passed (off_state t p) _ 16 0 o (applied (has_finished p) _ 16 0 e refl refl)
 
-        module _ (k : ℕ) (is-due : p .stage ≡ due k) where
-          not-finished : p .stage ≡ finished → ⊥
-          not-finished e = let z : _≡_ {A = ℕ} 0 1 = cc in omega arith
+        module _ (k : ℕ) (is_due : p.stage ≡ due k) where
+          not_finished : p.stage ≡ finished → ⊥
+          not_finished e = let z : ◌≡◌ {A = ℕ} 0 1 = cc in omega arith
 
-          asks : step-room t (p .stage) ≡ end t k - start t k
-          asks = rw is-due
+          asks : step_room t p.stage ≡ end t k - start t k
+          asks = rw is_due
 
-          pub step-short : room < end t k - start t k → Answers (step-checks [] t p room) 17 0
-          unfolding step-checks
-          step-short l =
-              passed (off-state t p) _ 17 0 o
-              (passed (has-finished p) _ 17 0 not-finished (applied (short-output _) [] 17 0 (omega (arith, asks)) refl refl))
+          pub step_short : room < end t k - start t k → Answers (step_checks [] t p room) 17 0
+          unfolding step_checks
+          step_short l =
+              passed (off_state t p) _ 17 0 o
+              (passed (has_finished p) _ 17 0 not_finished (applied (short_output _) [] 17 0 (omega (arith, asks)) refl refl))
 
-          pub step-done : end t k - start t k ≤ room → Answers (step-checks [] t p room) 0 0
-          unfolding step-checks
-          step-done l =
-              passed (off-state t p) _ 0 0 o
-              (passed (has-finished p) _ 0 0 not-finished (passed (short-output _) [] 0 0 (λ h. omega (arith, asks)) done))
+          pub step_done : end t k - start t k ≤ room → Answers (step_checks [] t p room) 0 0
+          unfolding step_checks
+          step_done l =
+              passed (off_state t p) _ 0 0 o
+              (passed (has_finished p) _ 0 0 not_finished (passed (short_output _) [] 0 0 (λ h. omega (arith, asks)) done))
 
 -- ---- nothing is refused
 
 module _ (cs : List Check) (N : Numbered cs) (t : Table) where
-  pub plan-passed : (room p : ℕ) → Answers (plan-checks cs t room) 0 p → None cs
-  unfolding plan-checks Numbered
-  plan-passed room p a = none-left cs _ (none-of (plan-checks cs t room) p (numbered-join cs _ N (omega arith)) a)
+  pub plan_passed : (room p : ℕ) → Answers (plan_checks cs t room) 0 p → None cs
+  unfolding plan_checks Numbered
+  plan_passed room p a = none_left cs _ (none_of (plan_checks cs t room) p (numbered_join cs _ N (omega arith)) a)
 
-  pub standings-passed : (q : Planner) (p : ℕ) → Answers (standings-checks cs t q) 0 p → None cs × ¬ Off t q
-  unfolding standings-checks Numbered None
-  standings-passed q p a =
-      let n = none-of (standings-checks cs t q) p (numbered-join cs _ N (omega arith)) a in
-      (none-left cs _ n, none-right cs _ n .0)
+  pub standings_passed : (q : Planner) (p : ℕ) → Answers (standings_checks cs t q) 0 p → None cs × ¬ Off t q
+  unfolding standings_checks Numbered None
+  standings_passed q p a =
+      let n = none_of (standings_checks cs t q) p (numbered_join cs _ N (omega arith)) a in
+      (none_left cs _ n, (none_right cs _ n).0)

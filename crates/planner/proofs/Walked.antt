@@ -1,32 +1,32 @@
 -- Intervals done one after the other: what the loop over them keeps, and the planner's steps that they are.
 --
 --   Planning t k m had was s n after out   the loop has done the intervals from k, on the way to m, up to slot s: n words are written
-use mathlib.Core.Path.{_≡_, refl, sym, ap, ap₂, _∙_, subst}
+use mathlib.Core.Path.{◌≡◌, refl, sym, ap, ap₂, ◌∙◌, subst}
 use mathlib.Core.Bool.{cond}
-use mathlib.Core.List.{List, [], _++_}
-use Prim.Native.Nat.{ℕ, suc, _+_, _-_, _≤_, _<_}
+use mathlib.Core.List.{List, [], ◌++◌}
+use Prim.Native.Nat.{ℕ, suc, ◌+◌, ◌-◌, ◌≤◌, ◌<◌}
 use native.Mathlib.Numerals.{add-one}
 use native.Mathlib.Omega.{arith}
 use lib.Dec.{eqb, eqb→eq}
 use lib.ListN.{length, take, drop, take-append-drop}
-use Rattle·numbers.specs.Lists.{at}
-use Rattle·numbers.proofs.Truth.{is-false}
-use Rattle·numbers.proofs.Lists.{Filled, filled-start, filled-part}
-use Rattle·rules.specs.Bounds.{max-rows, max-slots}
-use Rattle·rules.specs.Bus.{Table}
-use Rattle·rules.specs.Calls.{lent}
-use Rattle·rules.specs.Loads.{start, end, intervals}
-use Rattle·rules.specs.Planner.{Stage, due, finished, Run, none, more}
-use Rattle·lags.specs.Lags.{Admissible, Steady}
-use Rattle·lags.proofs.Intervals.{shortest-positive, end-next, end-far, end-le, start-mono, start-below, start-same, intervals-positive}
-use Rattle·table.specs.Sound.{Sound}
-use Rattle·time.specs.Time.{Begins}
-use Rattle·verdict.specs.declared.Analysis.{Analysis}
-use Rattle·interval.specs.Interval.{Moved}
-use Rattle·interval.specs.Ready.{Due, Advanced}
-use Rattle·interval.proofs.Moved.{step-of-moved, moved-steady}
-use Rattle·planner·specs.specs.Course.{Course, Coursed}
-use Rattle·planner·specs.specs.Plannable.{Plannable}
+use Rattle.numbers.specs.Lists.{at}
+use Rattle.numbers.proofs.Truth.{is_false}
+use Rattle.numbers.proofs.Lists.{Filled, filled_start, filled_part}
+use Rattle.rules.specs.Bounds.{max_rows, max_slots}
+use Rattle.rules.specs.Bus.{Table}
+use Rattle.rules.specs.Calls.{lent}
+use Rattle.rules.specs.Loads.{start, end, intervals}
+use Rattle.rules.specs.Planner.{Stage, due, finished, Run, none, more}
+use Rattle.lags.specs.Lags.{Admissible, Steady}
+use Rattle.lags.proofs.Intervals.{shortest_positive, end_next, end_far, end_le, start_mono, start_below, start_same, intervals_positive}
+use Rattle.table.specs.Sound.{Sound}
+use Rattle.time.specs.Time.{Begins}
+use Rattle.verdict.specs.declared.Analysis.{Analysis}
+use Rattle.interval.specs.Interval.{Moved}
+use Rattle.interval.specs.Ready.{Due, Advanced}
+use Rattle.interval.proofs.Moved.{step_of_moved, moved_steady}
+use Rattle.planner.specs.Course.{Course, Coursed}
+use Rattle.planner.specs.Plannable.{Plannable}
 
 -- ---- the loop over the intervals
 
@@ -36,7 +36,7 @@ pub record Planning (t : Table) (k m : ℕ) (had was : List ℕ) (s n : ℕ) (af
   pub to : number ≤ m
   pub slot : s ≡ start t number
   pub place : n + start t k ≡ s
-  pub size : length after ≡ max-rows
+  pub size : length after ≡ max_rows
   pub steady : Steady t s (at after)
   pub words : List ℕ
   pub course : Course t k (at had) number (at after) words
@@ -44,117 +44,117 @@ pub record Planning (t : Table) (k m : ℕ) (had was : List ℕ) (s n : ℕ) (af
 
 module _ {t : Table} {a : Analysis} {k m s u : ℕ} {had : List ℕ} (was : List ℕ) (P : Plannable t a k m s u had (length was)) where
   sound : Sound t
-  sound = P .accepted .admissible .sound
+  sound = P.accepted.admissible.sound
 
-  pub planning-start : Planning t k m had was s 0 had was
-  planning-start = record {
+  pub planning_start : Planning t k m had was s 0 had was
+  planning_start = record {
     number = k;
     from = omega arith;
-    to = P .order;
-    slot = P .from;
-    place = omega (arith, P .from);
-    size = P .totals;
-    steady = P .steady;
+    to = P.order;
+    slot = P.from;
+    place = omega (arith, P.from);
+    size = P.totals;
+    steady = P.steady;
     words = [];
     course = Course.start;
-    filled = filled-start was;
+    filled = filled_start was;
   }
 
   module _ {x n : ℕ} {after out : List ℕ} (L : Planning t k m had was x n after out) where
-    pub planning-begins : x < u → Begins t (L .number) x
-    planning-begins l =
-        let h = start-below sound (L .number) m (omega (arith, L .to, P .in-range)) (omega (arith, L .slot, P .until)) in
-        record { in-range = omega (arith, P .in-range, h); here = L .slot }
+    pub planning_begins : x < u → Begins t L.number x
+    planning_begins l =
+        let h = start_below sound L.number m (omega (arith, L.to, P.in_range)) (omega (arith, L.slot, P.until)) in
+        record { in_range = omega (arith, P.in_range, h); here = L.slot }
 
-    module _ (l : x < u) (e : ℕ) (ends : e ≡ end t (L .number)) where
-      before-last : L .number < m
-      before-last = start-below sound (L .number) m (omega (arith, L .to, P .in-range)) (omega (arith, L .slot, P .until))
+    module _ (l : x < u) (e : ℕ) (ends : e ≡ end t L.number) where
+      before_last : L.number < m
+      before_last = start_below sound L.number m (omega (arith, L.to, P.in_range)) (omega (arith, L.slot, P.until))
 
-      pub planning-due : Due t (L .number) x e after
-      planning-due = record { in-range = planning-begins l .in-range; begins = L .slot; ends = ends; steady = L .steady }
+      pub planning_due : Due t L.number x e after
+      planning_due = record { in_range = (planning_begins l).in_range; begins = L.slot; ends = ends; steady = L.steady }
 
-      pub planning-low : e ≤ max-slots
-      planning-low = omega (arith, ends, end-le sound (L .number) (planning-begins l .in-range), P .accepted .admissible .short)
+      pub planning_low : e ≤ max_slots
+      planning_low = omega (arith, ends, end_le sound L.number (planning_begins l).in_range, P.accepted.admissible.short)
 
       -- there is room for the interval, which ends at slot e
-      pub planning-room : (x < e) × (n + (e - x) ≤ length was) × (length out ≡ length was)
-      planning-room =
-          let far = end-far sound (L .number) (planning-begins l .in-range) in
-          let last = start-mono sound (L .number + 1) m (omega (arith, before-last)) (P .in-range) in (
-            omega (arith, L .slot, ends, far, shortest-positive sound),
-            omega (arith, L .slot, L .place, ends, far, last, end-next sound (L .number), P .from, P .until, P .roomy),
-            L .filled .same,
+      pub planning_room : (x < e) × (n + (e - x) ≤ length was) × (length out ≡ length was)
+      planning_room =
+          let far = end_far sound L.number (planning_begins l).in_range in
+          let last = start_mono sound (L.number + 1) m (omega (arith, before_last)) P.in_range in (
+            omega (arith, L.slot, ends, far, shortest_positive sound),
+            omega (arith, L.slot, L.place, ends, far, last, end_next sound L.number, P.from, P.until, P.roomy),
+            L.filled.same,
           )
 
       -- one interval more, written through the part that starts at place n
-      pub planning-next : (now ys : List ℕ) → Advanced t (L .number) after now (take (length out - n) (drop n out)) ys
+      pub planning_next : (now ys : List ℕ) → Advanced t L.number after now (take (length out - n) (drop n out)) ys
           → Planning t k m had was e (n + (e - x)) now (take n out ++ (ys ++ drop (length out - n) (drop n out)))
-      planning-next now ys D =
-          let q : end t (L .number) - start t (L .number) ≡ e - x = ap₂ _-_ (sym ends) (sym (L .slot)) in
-          let w : List ℕ = take (end t (L .number) - start t (L .number)) ys in
-          let r = planning-room in
+      planning_next now ys D =
+          let q : end t L.number - start t L.number ≡ e - x = ap₂ ◌-◌ (sym ends) (sym L.slot) in
+          let w : List ℕ = take (end t L.number - start t L.number) ys in
+          let r = planning_room in
           record {
-            number = L .number + 1;
-            from = omega (arith, L .from);
-            to = omega (arith, before-last);
-            slot = ends ∙ end-next sound (L .number);
-            place = omega (arith, L .place, r .0);
-            size = D .size;
-            steady = rw ends (moved-steady (D .moved));
-            words = L .words ++ w;
-            course = rw add-one (Course.on (L .course) (D .moved));
+            number = L.number + 1;
+            from = omega (arith, L.from);
+            to = omega (arith, before_last);
+            slot = ends ∙ end_next sound L.number;
+            place = omega (arith, L.place, r.0);
+            size = D.size;
+            steady = rw ends (moved_steady D.moved);
+            words = L.words ++ w;
+            course = rw add-one (Course.on L.course D.moved);
             filled =
-                filled-part (e - x) (length out - n) w ys (L .filled)
-                (D .moved .words .size ∙ q)
-                (omega (arith, r .1, r .2))
-                (r .1)
-                (sym (take-append-drop (end t (L .number) - start t (L .number)) ys)
-                ∙ ap (λ (d : List ℕ). w ++ d) (D .kept .rest)
+                filled_part (e - x) (length out - n) w ys L.filled
+                (D.moved.words.size ∙ q)
+                (omega (arith, r.1, r.2))
+                r.1
+                (sym (take-append-drop (end t L.number - start t L.number) ys)
+                ∙ ap (λ (d : List ℕ). w ++ d) D.kept.rest
                 ∙ ap (λ (y : ℕ). w ++ drop y (take (length out - n) (drop n out))) q);
           }
 
-    pub planning-end : u ≤ x → Coursed t k m had after was out
+    pub planning_end : u ≤ x → Coursed t k m had after was out
     unfolding lent
-    planning-end l =
-        let e : L .number ≡ m = start-same sound (L .number) m (L .to) (P .in-range) (omega (arith, L .slot, P .until)) in
+    planning_end l =
+        let e : L.number ≡ m = start_same sound L.number m L.to P.in_range (omega (arith, L.slot, P.until)) in
         record {
-          size = L .size;
-          words = L .words;
-          course = rw e at (L .course);
-          written = L .filled .holds ∙ ap (λ (y : ℕ). L .words ++ drop y was) (sym (L .filled .count));
+          size = L.size;
+          words = L.words;
+          course = rw e at L.course;
+          written = L.filled.holds ∙ ap (λ (y : ℕ). L.words ++ drop y was) (sym L.filled.count);
         }
 
 -- ---- one interval is a step, and those from the first on are a run
 
 module _ {t : Table} where
-  course-start : {k m : ℕ} {had now : ℕ → ℕ} {ws : List ℕ} → Course t k had m now ws → k ≤ m
-  course-start Course.start = omega arith
-  course-start (Course.on c d) = let z = course-start c in omega arith
+  course_start : {k : ℕ} {had : ℕ → ℕ} {m : ℕ} {now : ℕ → ℕ} {ws : List ℕ} → Course t k had m now ws → k ≤ m
+  course_start Course.start = omega arith
+  course_start (Course.on c d) = let z = course_start c in omega arith
 
-  course-none : {k m : ℕ} {had now : ℕ → ℕ} {ws : List ℕ} → Course t k had m now ws → k ≡ m → (now ≡ had) × (ws ≡ [])
-  course-none Course.start e = (refl, refl)
-  course-none (Course.on c d) e = absurd (let z = course-start c in omega arith)
+  course_none : {k m : ℕ} {had now : ℕ → ℕ} {ws : List ℕ} → Course t k had m now ws → k ≡ m → (now ≡ had) × (ws ≡ [])
+  course_none Course.start e = (refl, refl)
+  course_none (Course.on c d) e = absurd (let z = course_start c in omega arith)
 
-  pub course-one : {k m : ℕ} {had now : ℕ → ℕ} {ws : List ℕ} → Course t k had m now ws → m ≡ suc k → Moved t k had now ws
-  course-one Course.start e = absurd (omega arith)
-  course-one {k} {had = had} (Course.on {m} {mid} {now} {vs} {ws} c d) e =
+  pub course_one : {k m : ℕ} {had now : ℕ → ℕ} {ws : List ℕ} → Course t k had m now ws → m ≡ suc k → Moved t k had now ws
+  course_one Course.start e = absurd (omega arith)
+  course_one {k} {had = had} (Course.on {m} {mid} {now} {vs} {ws} c d) e =
       let q : k ≡ m = omega arith in
-      let z = course-none c q in
-      rw (z .1, q) (rw (z .0) at d)
+      let z = course_none c q in
+      rw (z.1, q) (rw z.0 at d)
 
 -- the stage when the intervals below m are done
-abbrev pub stage-at : Table → ℕ → Stage
-stage-at t m = cond (eqb m (intervals t)) finished (due m)
+abbrev pub stage_at : Table → ℕ → Stage
+stage_at t m = cond (eqb m (intervals t)) finished (due m)
 
 module _ {t : Table} (A : Admissible t) where
-  at-due : (m : ℕ) → m < intervals t → stage-at t m ≡ due m
-  at-due m l = rw (is-false (eqb m (intervals t)) (λ h. omega (arith, eqb→eq m (intervals t) h)))
+  at_due : (m : ℕ) → m < intervals t → stage_at t m ≡ due m
+  at_due m l = rw (is_false (eqb m (intervals t)) (λ h. omega (arith, eqb→eq m (intervals t) h)))
 
-  pub course-run : {m : ℕ} {now : ℕ → ℕ} {ws : List ℕ} → Course t 0 (λ i. 0) m now ws → m ≤ intervals t
-      → Run t m (record { stage = stage-at t m; totals = now }) ws
-  course-run Course.start l =
+  pub course_run : {m : ℕ} {now : ℕ → ℕ} {ws : List ℕ} → Course t 0 (λ i. 0) m now ws → m ≤ intervals t
+      → Run t m (record { stage = stage_at t m; totals = now }) ws
+  course_run Course.start l =
       subst (λ (s : Stage). Run t 0 (record { stage = s; totals = λ i. 0 }) [])
-      (sym (at-due 0 (intervals-positive (A .sound)))) none
-  course-run (Course.on {m} c d) l =
-      more (course-run c (omega arith))
-      (step-of-moved (at-due m (omega arith)) (ap (stage-at t) (sym (add-one m))) d)
+      (sym (at_due 0 (intervals_positive A.sound))) none
+  course_run (Course.on {m} c d) l =
+      more (course_run c (omega arith))
+      (step_of_moved (at_due m (omega arith)) (ap (stage_at t) (sym (add-one m))) d)

@@ -5,16 +5,15 @@
 --                                  holds before and after
 --
 -- What is left in place and what is answered are, joined, what a step answers. Only one answer fits (proofs/MovedOnly).
-use mathlib.Core.List.{List}
-use Prim.Native.Nat.{ℕ}
-use Rattle·rules.specs.Calls.{fileAsk}
-use Rattle·table.specs.declared.Answer.{Answer}
-use Rattle·planner·specs.specs.declared.Planner.{Planner}
-use Rattle·planner·specs.specs.declared.MovedOn.{MovedOn}
-use Rattle·planner·specs.specs.Answers.{StepAnswer}
+use Rattle.std.specs.Prelude.{List, ℕ}
+use Rattle.rules.specs.Calls.{file_ask}
+use Rattle.table.specs.declared.Answer.{Answer}
+use Rattle.planner.specs.declared.Planner.{Planner}
+use Rattle.planner.specs.declared.MovedOn.{MovedOn}
+use Rattle.planner.specs.Answers.{StepAnswer}
 
 abbrev pub joined : Planner → Answer → MovedOn
 joined q r = record { planner = q; answer = r }
 
 abbrev pub MovedInPlace : List ℕ → Planner → Planner → Answer → List ℕ → List ℕ → Type 0
-MovedInPlace f p q r was now = StepAnswer (fileAsk f) p (joined q r) was now
+MovedInPlace f p q r was now = StepAnswer (file_ask f) p (joined q r) was now

@@ -8,20 +8,16 @@
 --   Stands n h s rate totals xs                 xs are the rows' standings, and 0 past the last row
 --
 -- In units of 1 / h a share is rate × s (document 01, "Loads and bound").
-use mathlib.Core.Path.{_≡_}
-use mathlib.Core.List.{List}
-use Prim.Native.Nat.{ℕ, _*_, _≤_, _<_}
-use lib.IntN.{ℤ, pos, _-ℤ_}
-use lib.ListN.{length, getD}
-use Rattle·numbers.specs.Finite.{sumIn}
-use Rattle·numbers.specs.Word.{bit}
-use Rattle·numbers.specs.Rounding.{Rounded}
-use Rattle·rules.specs.Bounds.{max-rows, max-slots}
+use Rattle.std.specs.Prelude.{◌≡◌, List, ℕ, ◌*◌, ◌≤◌, ◌<◌, ℤ, pos, ◌-ℤ◌, length, get_or}
+use Rattle.numbers.specs.Finite.{sum_in}
+use Rattle.numbers.specs.Word.{bit}
+use Rattle.numbers.specs.Rounding.{Rounded}
+use Rattle.rules.specs.Bounds.{max_rows, max_slots}
 
 pub record Bounded (n h s : ℕ) (rate : ℕ → ℕ) : Type 0 where
-  pub few : n ≤ max-rows
+  pub few : n ≤ max_rows
   pub some : 0 < h
-  pub short : h ≤ max-slots
+  pub short : h ≤ max_slots
   pub inside : s ≤ h
   pub light : (i : ℕ) → i < n → rate i ≤ h
 
@@ -30,16 +26,16 @@ RowsKeep n h s rate totals = (i : ℕ) → i < n → Rounded (totals i) (rate i 
 
 abbrev pub SetsKeep : (n h s : ℕ) (rate : ℕ → ℕ) (m : ℕ) (words totals : ℕ → ℕ) → Type 0
 SetsKeep n h s rate m words totals =
-    (k : ℕ) → k < m → Rounded (sumIn n (bit (words k)) totals) (sumIn n (bit (words k)) (λ i. rate i * s)) h
+    (k : ℕ) → k < m → Rounded (sum_in n (bit (words k)) totals) (sum_in n (bit (words k)) (λ i. rate i * s)) h
 
 pub record KeepsStep (n h s : ℕ) (rate : ℕ → ℕ) (m : ℕ) (words totals : ℕ → ℕ) : Type 0 where
   pub rows : RowsKeep n h s rate totals
   pub sets : SetsKeep n h s rate m words totals
 
 abbrev pub SpareClear : ℕ → (ℕ → ℕ) → Type 0
-SpareClear n totals = (i : ℕ) → n ≤ i → i < max-rows → totals i ≡ 0
+SpareClear n totals = (i : ℕ) → n ≤ i → i < max_rows → totals i ≡ 0
 
 pub record Stands (n h s : ℕ) (rate totals : ℕ → ℕ) (xs : List ℤ) : Type 0 where
-  pub size : length xs ≡ max-rows
-  pub row : (i : ℕ) → i < n → getD xs i (pos 0) ≡ pos (totals i * h) -ℤ pos (rate i * s)
-  pub rest : (i : ℕ) → n ≤ i → i < max-rows → getD xs i (pos 0) ≡ pos 0
+  pub size : length xs ≡ max_rows
+  pub row : (i : ℕ) → i < n → get_or xs i (pos 0) ≡ pos (totals i * h) -ℤ pos (rate i * s)
+  pub rest : (i : ℕ) → n ≤ i → i < max_rows → get_or xs i (pos 0) ≡ pos 0

@@ -1,14 +1,13 @@
 // The planning intervals of an admitted table, one after the other. Arrays are lent where they can be: the supervisor's stack is small.
-use loads::NODES;
-use loads::Size;
+ghost use Rattle.std.specs.Prelude.{ℕ, length};
+ghost use Rattle.rules.specs.Bus as bus;
+ghost use Rattle.planner.specs.Plannable.{Plannable};
+ghost use Rattle.planner.specs.Course.{Coursed};
+
+use loads::{NODES, Size};
 use sets::HEADS;
 use table::Table;
 use verdict::Analysis;
-ghost use Prim.Native.Nat.{ℕ};
-ghost use lib.ListN.{length};
-ghost use Rattle·rules.specs.Bus as bus;
-ghost use Rattle·planner·specs.specs.Plannable.{Plannable};
-ghost use Rattle·planner·specs.specs.Course.{Coursed};
 
 // Plans the intervals from slot `from` up to slot `until` of an admitted table, for rows that have had `totals`: writes their words to the
 // front of `plan`, each interval's to its own stretch, plainly (#114) or not, and gives the totals after the last. What the intervals
@@ -21,9 +20,9 @@ pub fn plan_intervals(
     totals: [u64; Table::ROWS],
     plan: &mut [u64],
 ) -> [u64; Table::ROWS]
-    requires { ⌜ ((t : bus.Table) × (k : ℕ) × (m : ℕ) × Plannable t table k m from until totals (length (now plan))) ⌝ }
-    ensures { λ r. ⌜ ((t : bus.Table) (k m : ℕ) → Plannable t table k m from until totals (length (now (plan .entry)))
-        → Coursed t k m totals r (now (plan .entry)) (now (plan .exit))) ⌝ }
+    requires { (t : bus.Table) × (k : ℕ) × (m : ℕ) × Plannable t table k m from until totals (length plan.old) }
+    ensures { (t : bus.Table) (k m : ℕ) → Plannable t table k m from until totals (length plan.old)
+        → Coursed t k m totals result plan.old plan.new }
 {
     let rows = table.outline.rows;
     let top = table.outline.top;

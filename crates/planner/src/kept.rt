@@ -1,12 +1,13 @@
 // The planner moved on where it is kept (document 01, "The planner"). The supervisor keeps one planner, and the step takes it by value: so
 // it is copied out, stepped, and the planner handed back is stored where it was.
+ghost use Rattle.planner.specs.InPlace.{MovedInPlace};
+
 use crate::Planner;
 use table::Answer;
-ghost use Rattle·planner·specs.specs.InPlace.{MovedInPlace};
 
 // The same answers as a step's: number and place are returned, and the planner is left at `p`.
 pub fn move_on(p: &mut Planner, file: &[u8], out: &mut [u64]) -> Answer
-    ensures { λ r. ⌜ MovedInPlace (now (file .entry)) (now (p .entry)) (now (p .exit)) r (now (out .entry)) (now (out .exit)) ⌝ }
+    ensures { MovedInPlace file.now p.old p.new result out.old out.new }
 {
     let moved = Planner::step(*p, file, out);
     *p = moved.planner;

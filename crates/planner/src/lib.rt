@@ -5,46 +5,51 @@
 //
 // A planner is kept by the caller and any state may be handed in. So the slot that it has reached is held to the hyperperiod first, then
 // its spare totals, and then its totals row by row, before any product is taken.
+#![tactic(auto)]
+
 mod course;
 mod kept;
 mod steady;
 
+ghost use Rattle.std.specs.Prelude.{◌≡◌, ℕ};
+ghost use Rattle.rules.specs.Bus as bus;
+ghost use Rattle.rules.specs.Planner.{Off};
+ghost use Rattle.rules.specs.Calls.{file_ask};
+ghost use Rattle.numbers.specs.Decides.{Decides};
+ghost use Rattle.time.specs.Time.{Timed};
+ghost use Rattle.verdict.specs.Analysed.{Accepted};
+ghost use Rattle.planner.specs.State.{planner_of, fresh_planner, slot_of, late_at, stage_after, unmoved_of, no_standings};
+ghost use Rattle.planner.specs.Answers.{StepAnswer, StandingsAnswer, PlanAnswer};
+ghost use Rattle.planner.specs.Analysed.{Usable, SteppedOn, StandingsOn, PlannedOn};
+
 pub use kept::move_on;
-use table::Answer;
-use table::Table;
+use table::{Answer, Table};
 use time::Time;
 use verdict::Analysis;
-ghost use mathlib.Core.Path.{_≡_};
-ghost use Prim.Native.Nat.{ℕ};
-ghost use Rattle·rules.specs.Bus as bus;
-ghost use Rattle·rules.specs.Planner.{Off};
-ghost use Rattle·rules.specs.Calls.{fileAsk};
-ghost use Rattle·numbers.specs.Decides.{Decides};
-ghost use Rattle·time.specs.Time.{Timed};
-ghost use Rattle·verdict.specs.Analysed.{Accepted};
-ghost use Rattle·planner·specs.specs.State.{plannerOf, freshPlanner, slotOf, lateAt, stageAfter, unmovedOf, noStandings};
-ghost use Rattle·planner·specs.specs.Answers.{StepAnswer, StandingsAnswer, PlanAnswer};
-ghost use Rattle·planner·specs.specs.Analysed.{Usable, SteppedOn, StandingsOn, PlannedOn};
 
 // Due, with the number of the next interval, or finished.
+#[derive(Clone, Copy)]
 pub enum Stage {
     Due(u64),
     Finished,
 }
 
 // A stage, and beside it the totals, one for each row.
+#[derive(Clone, Copy)]
 pub struct Planner {
     pub stage: Stage,
     pub totals: [u64; Table::ROWS],
 }
 
 // What a step answers: the planner moved on by one interval, or the one it was given and a refusal.
+#[derive(Clone, Copy)]
 pub struct MovedOn {
     pub planner: Planner,
     pub answer: Answer,
 }
 
 // All standings together, 0 past the last row.
+#[derive(Clone, Copy)]
 pub struct Standings {
     pub answer: Answer,
     pub values: [i64; Table::ROWS],
@@ -54,8 +59,8 @@ pub struct Standings {
 
 // The first slot of the interval due, or h when finished; h also where the interval due is none of the table's.
 fn slot_reached(stage: Stage, time: Time) -> u64
-    requires { ⌜ ((t : bus.Table) × Timed t time) ⌝ }
-    ensures { λ r. ⌜ ((t : bus.Table) → Timed t time → r ≡ slotOf t stage) ⌝ }
+    requires { (t : bus.Table) × Timed t time }
+    ensures { (t : bus.Table) → Timed t time → result ≡ slot_of t stage }
 {
     match stage {
         Stage::Due(k) => time.start_of(k),
@@ -65,7 +70,7 @@ fn slot_reached(stage: Stage, time: Time) -> u64
 
 // The interval due is none of the table's: no interval starts at h.
 fn is_late(stage: Stage, slot: u64, hyper: u64) -> bool
-    ensures { λ r. ⌜ r ≡ lateAt stage slot hyper ⌝ }
+    ensures { result ≡ late_at stage slot hyper }
 {
     match stage {
         Stage::Due(_) => slot == hyper,
@@ -75,7 +80,7 @@ fn is_late(stage: Stage, slot: u64, hyper: u64) -> bool
 
 // The stage after an interval that ends at slot `end`: finished after the last, and else the next is due.
 fn stage_after(end: u64, hyper: u64, next: u64) -> Stage
-    ensures { λ r. ⌜ r ≡ stageAfter end hyper next ⌝ }
+    ensures { result ≡ stage_after end hyper next }
 {
     if end == hyper {
         return Stage::Finished;
@@ -86,7 +91,7 @@ fn stage_after(end: u64, hyper: u64, next: u64) -> Stage
 // ---- standings
 
 fn no_standings(answer: Answer) -> Standings
-    ensures { λ r. ⌜ r ≡ noStandings answer ⌝ }
+    ensures { result ≡ no_standings answer }
 {
     Standings {
         answer: answer,
@@ -97,7 +102,7 @@ fn no_standings(answer: Answer) -> Standings
 impl Planner {
     // Interval 0 due, and all totals 0.
     pub fn fresh() -> Planner
-        ensures { λ r. ⌜ r ≡ freshPlanner ⌝ }
+        ensures { result ≡ fresh_planner }
     {
         Planner {
             stage: Stage::Due(0),
@@ -107,8 +112,8 @@ impl Planner {
 
     // The state is off, on an admitted table, where it has reached `slot`.
     fn is_off(self, slot: u64, table: Analysis) -> bool
-        requires { ⌜ ((t : bus.Table) × Accepted t table × (slot ≡ slotOf t (self .stage))) ⌝ }
-        ensures { λ r. ⌜ ((t : bus.Table) → Accepted t table → slot ≡ slotOf t (self .stage) → Decides (Off t (plannerOf self)) r) ⌝ }
+        requires { (t : bus.Table) × Accepted t table × (slot ≡ slot_of t self.stage) }
+        ensures { (t : bus.Table) → Accepted t table → slot ≡ slot_of t self.stage → Decides (Off t (planner_of self)) result }
     {
         let stage = self.stage;
         let hyper = table.outline.time.hyper;
@@ -133,8 +138,8 @@ impl Planner {
 
     // The standings on an analysed table: each row's total × h, less its share at the slot reached in units of 1 / h.
     pub fn standings_on(self, table: Analysis) -> Standings
-        requires { ⌜ Usable table ⌝ }
-        ensures { λ r. ⌜ StandingsOn table self r ⌝ }
+        requires { Usable table }
+        ensures { StandingsOn table self result }
     {
         let answer = table.outline.answer;
         if answer.number != Answer::DONE {
@@ -155,14 +160,14 @@ impl Planner {
 
     // The standings on a file's table.
     pub fn standings(self, file: &[u8]) -> Standings
-        ensures { λ r. ⌜ StandingsAnswer (fileAsk (now (file .entry))) self r ⌝ }
+        ensures { StandingsAnswer (file_ask file.now) self result }
     {
         self.standings_on(verdict::analyse(file))
     }
 
     // A step refused: the planner is the one given.
     fn unmoved(self, answer: Answer) -> MovedOn
-        ensures { λ r. ⌜ r ≡ unmovedOf self answer ⌝ }
+        ensures { result ≡ unmoved_of self answer }
     {
         MovedOn {
             planner: self,
@@ -172,8 +177,8 @@ impl Planner {
 
     // One interval of an analysed table: writes its words to the front of `out` and hands back the planner moved on by it.
     pub fn step_on(mut self, table: Analysis, out: &mut [u64]) -> MovedOn
-        requires { ⌜ Usable table ⌝ }
-        ensures { λ r. ⌜ SteppedOn table self r (now (out .entry)) (now (out .exit)) ⌝ }
+        requires { Usable table }
+        ensures { SteppedOn table self result out.old out.new }
     {
         let answer = table.outline.answer;
         if answer.number != Answer::DONE {
@@ -206,7 +211,7 @@ impl Planner {
 
     // One interval of a file's table.
     pub fn step(mut self, file: &[u8], out: &mut [u64]) -> MovedOn
-        ensures { λ r. ⌜ StepAnswer (fileAsk (now (file .entry))) self r (now (out .entry)) (now (out .exit)) ⌝ }
+        ensures { StepAnswer (file_ask file.now) self result out.old out.new }
     {
         self.step_on(verdict::analyse(file), out)
     }
@@ -214,8 +219,8 @@ impl Planner {
 
 // The whole plan of an analysed table: the words of every interval, each at its own slots, as a fresh planner's steps write them.
 pub fn plan_on(table: Analysis, plain: bool, plan: &mut [u64]) -> Answer
-    requires { ⌜ Usable table ⌝ }
-    ensures { λ r. ⌜ PlannedOn table r (now (plan .entry)) (now (plan .exit)) ⌝ }
+    requires { Usable table }
+    ensures { PlannedOn table result plan.old plan.new }
 {
     let answer = table.outline.answer;
     if answer.number != Answer::DONE {
@@ -232,14 +237,14 @@ pub fn plan_on(table: Analysis, plain: bool, plan: &mut [u64]) -> Answer
 
 // The whole plan of a file's table.
 pub fn whole_plan(file: &[u8], plan: &mut [u64]) -> Answer
-    ensures { λ r. ⌜ PlanAnswer (fileAsk (now (file .entry))) r (now (plan .entry)) (now (plan .exit)) ⌝ }
+    ensures { PlanAnswer (file_ask file.now) result plan.old plan.new }
 {
     plan_on(verdict::analyse(file), false, plan)
 }
 
 // The same by the plain planner (#114).
 pub fn plain_plan(file: &[u8], plan: &mut [u64]) -> Answer
-    ensures { λ r. ⌜ PlanAnswer (fileAsk (now (file .entry))) r (now (plan .entry)) (now (plan .exit)) ⌝ }
+    ensures { PlanAnswer (file_ask file.now) result plan.old plan.new }
 {
     plan_on(verdict::analyse(file), true, plan)
 }

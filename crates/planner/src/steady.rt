@@ -3,29 +3,29 @@
 // A share is rate × slot, in units of 1 / h. A total n is a share x rounded down or up exactly if x < (n + 1) × h and n × h < x + h, so
 // nothing is divided. Any totals may be handed in: rows come first, and each row's total is held to the slot before any product is
 // taken; then no product and no set's sum can be too large.
+ghost use Rattle.std.specs.Prelude.{◌≡◌, ℕ, ◌*◌, ◌<◌, ◌≤◌};
+ghost use Rattle.numbers.specs.Finite.{sum_in};
+ghost use Rattle.numbers.specs.Word.{bit};
+ghost use Rattle.numbers.specs.Lists.{at};
+ghost use Rattle.numbers.specs.Rounding.{Rounded};
+ghost use Rattle.numbers.specs.Decides.{Decides};
+ghost use Rattle.rules.specs.Bounds.{max_rows, max_slots};
+ghost use Rattle.planner.specs.Step.{Bounded, RowsKeep, SetsKeep, KeepsStep, SpareClear, Stands};
+
 use table::Table;
-ghost use mathlib.Core.Path.{_≡_};
-ghost use Prim.Native.Nat.{ℕ, _*_, _<_, _≤_};
-ghost use Rattle·numbers.specs.Finite.{sumIn};
-ghost use Rattle·numbers.specs.Word.{bit};
-ghost use Rattle·numbers.specs.Lists.{at};
-ghost use Rattle·numbers.specs.Rounding.{Rounded};
-ghost use Rattle·numbers.specs.Decides.{Decides};
-ghost use Rattle·rules.specs.Bounds.{max-rows, max-slots};
-ghost use Rattle·planner·specs.specs.Step.{Bounded, RowsKeep, SetsKeep, KeepsStep, SpareClear, Stands};
 
 // `total` is `share` / `hyper`, rounded down or up.
 fn is_rounded(total: u64, share: u64, hyper: u64) -> bool
-    requires { ⌜ (total ≤ max-rows * max-slots) × (share ≤ max-rows * (max-slots * max-slots)) × (0 < hyper) × (hyper ≤ max-slots) ⌝ }
-    ensures { λ r. ⌜ Decides (Rounded total share hyper) r ⌝ }
+    requires { (total ≤ max_rows * max_slots) × (share ≤ max_rows * (max_slots * max_slots)) × (0 < hyper) × (hyper ≤ max_slots) }
+    ensures { Decides (Rounded total share hyper) result }
 {
     share < (total + 1) * hyper && total * hyper < share + hyper
 }
 
 // A row's total is its share rounded down or up. No row has had more slots than have passed, so a total above the slot is not.
 fn row_keeps_step(hyper: u64, slot: u64, rate: u64, total: u64) -> bool
-    requires { ⌜ (0 < hyper) × (hyper ≤ max-slots) × (slot ≤ hyper) × (rate ≤ hyper) ⌝ }
-    ensures { λ r. ⌜ Decides (Rounded total (rate * slot) hyper) r ⌝ }
+    requires { (0 < hyper) × (hyper ≤ max_slots) × (slot ≤ hyper) × (rate ≤ hyper) }
+    ensures { Decides (Rounded total (rate * slot) hyper) result }
 {
     if total > slot {
         return false;
@@ -41,8 +41,8 @@ fn rows_keep_step(
     rate: &[u16; Table::ROWS],
     totals: &[u64; Table::ROWS],
 ) -> bool
-    requires { ⌜ Bounded rows hyper slot (at (now rate)) ⌝ }
-    ensures { λ r. ⌜ Decides (RowsKeep rows hyper slot (at (now (rate .entry))) (at (now (totals .entry)))) r ⌝ }
+    requires { Bounded rows hyper slot (at rate.now) }
+    ensures { Decides (RowsKeep rows hyper slot (at rate.now) (at totals.now)) result }
 {
     let mut i: usize = 0;
     while i < rows {
@@ -55,6 +55,7 @@ fn rows_keep_step(
 }
 
 // The rates and the totals of the rows of a set, summed.
+#[derive(Clone, Copy)]
 struct Sums {
     rate: u64,
     total: u64,
@@ -62,9 +63,9 @@ struct Sums {
 
 // The sums over the rows of the set whose word is `word`. Only these are gone through.
 fn sums_in(rows: usize, word: u64, rate: &[u16; Table::ROWS], totals: &[u64; Table::ROWS]) -> Sums
-    requires { ⌜ (rows ≤ max-rows) × ((i : ℕ) → i < rows → (at (now rate) i ≤ max-slots) × (at (now totals) i ≤ max-slots)) ⌝ }
-    ensures { λ r. ⌜ (r .rate ≡ sumIn rows (bit word) (at (now (rate .entry)))) × (r .rate ≤ max-rows * max-slots)
-        × (r .total ≡ sumIn rows (bit word) (at (now (totals .entry)))) × (r .total ≤ max-rows * max-slots) ⌝ }
+    requires { (rows ≤ max_rows) × ((i : ℕ) → i < rows → (at rate.now i ≤ max_slots) × (at totals.now i ≤ max_slots)) }
+    ensures { (result.rate ≡ sum_in rows (bit word) (at rate.now)) × (result.rate ≤ max_rows * max_slots)
+        × (result.total ≡ sum_in rows (bit word) (at totals.now)) × (result.total ≤ max_rows * max_slots) }
 {
     let mut rates: u64 = 0;
     let mut all: u64 = 0;
@@ -93,10 +94,10 @@ fn sets_keep_step(
     words: &[u64; Table::ROWS],
     totals: &[u64; Table::ROWS],
 ) -> bool
-    requires { ⌜ Bounded rows hyper slot (at (now rate)) × (sets ≤ max-rows)
-        × RowsKeep rows hyper slot (at (now rate)) (at (now totals)) ⌝ }
-    ensures { λ r. ⌜ Decides
-        (SetsKeep rows hyper slot (at (now (rate .entry))) sets (at (now (words .entry))) (at (now (totals .entry)))) r ⌝ }
+    requires { Bounded rows hyper slot (at rate.now) × (sets ≤ max_rows)
+        × RowsKeep rows hyper slot (at rate.now) (at totals.now) }
+    ensures { Decides
+        (SetsKeep rows hyper slot (at rate.now) sets (at words.now) (at totals.now)) result }
 {
     let mut k: usize = 0;
     while k < sets {
@@ -119,9 +120,9 @@ pub fn keeps_step<'a>(
     words: &'a [u64; Table::ROWS],
     totals: &'a [u64; Table::ROWS],
 ) -> bool
-    requires { ⌜ Bounded rows hyper slot (at (now rate)) × (sets ≤ max-rows) ⌝ }
-    ensures { λ r. ⌜ Decides
-        (KeepsStep rows hyper slot (at (now (rate .entry))) sets (at (now (words .entry))) (at (now (totals .entry)))) r ⌝ }
+    requires { Bounded rows hyper slot (at rate.now) × (sets ≤ max_rows) }
+    ensures { Decides
+        (KeepsStep rows hyper slot (at rate.now) sets (at words.now) (at totals.now)) result }
 {
     if !rows_keep_step(rows, hyper, slot, rate, totals) {
         return false;
@@ -131,7 +132,7 @@ pub fn keeps_step<'a>(
 
 // No total past the last row is above 0.
 pub fn spare_clear(rows: usize, totals: &[u64; Table::ROWS]) -> bool
-    ensures { λ r. ⌜ Decides (SpareClear rows (at (now (totals .entry)))) r ⌝ }
+    ensures { Decides (SpareClear rows (at totals.now)) result }
 {
     let mut i = rows;
     while i < Table::ROWS {
@@ -151,8 +152,8 @@ pub fn standings<'a>(
     rate: &'a [u16; Table::ROWS],
     totals: &'a [u64; Table::ROWS],
 ) -> [i64; Table::ROWS]
-    requires { ⌜ Bounded rows hyper slot (at (now rate)) × RowsKeep rows hyper slot (at (now rate)) (at (now totals)) ⌝ }
-    ensures { λ r. ⌜ Stands rows hyper slot (at (now (rate .entry))) (at (now (totals .entry))) r ⌝ }
+    requires { Bounded rows hyper slot (at rate.now) × RowsKeep rows hyper slot (at rate.now) (at totals.now) }
+    ensures { Stands rows hyper slot (at rate.now) (at totals.now) result }
 {
     let mut standing = [0i64; Table::ROWS];
     let mut i: usize = 0;

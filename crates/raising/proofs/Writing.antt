@@ -1,198 +1,196 @@
 -- The raised table, written: its numbers pass the writer's checks, and its file is as long as the file that was given.
-use mathlib.Core.Path.{_≡_, refl, sym, ap, ap₂, subst, _∙_}
-use mathlib.Core.Logic.{_≢_, ⊎-elim, inl}
-use mathlib.Core.List.{List, [], _∷_, _++_}
-use Prim.Native.Nat.{ℕ, _+_, _*_, _≤_, _<_}
-use native.Mathlib.Nat.{mul-comm}
+use mathlib.Core.Path.{◌≡◌, refl, sym, ap, subst, ◌∙◌}
+use mathlib.Core.Logic.{◌≢◌, ⊎_elim, inl}
+use mathlib.Core.List.{List, [], ◌∷◌}
+use Prim.Native.Nat.{ℕ, ◌+◌, ◌*◌, ◌≤◌, ◌<◌}
 use native.Mathlib.Omega.{arith}
 use lib.ListN.{length, take}
-use Rattle·numbers.specs.Lists.{at}
-use Rattle·numbers.proofs.Lists.{zeros-at}
-use Rattle·rules.specs.Bounds.{max-rows}
-use Rattle·rules.specs.Bus.{Table, Labelled, clockwise}
-use Rattle·rules.specs.TableFile.{table-mark, ringsOf, headerSize, rowSize, rowNumbers, version, fileRings, fileTable, fileLabelled}
-use Rattle·rules.specs.TableFile.{memoryLabelledWith, numbers, bytes}
-use Rattle·rules.specs.Refusals.{Check, Answers, unknown-mark, short-output, file-checks, header-checks, given-checks, line-checks}
-use Rattle·rules.specs.Refusals.{pasted-checks, version-checks, writer-checks}
-use Rattle·rules.specs.Calls.{lent, Written}
-use Rattle·rules.specs.Raising.{raised, raisedLabelled, raisedFile, before-13, raise-checks, Raised}
-use Rattle·rules.proofs.Answers.{None, Numbered, joined, unjoined, none-of, none-left, numbered-join}
-use Rattle·rules.proofs.Calls.{lent-take, call-refused, call-only}
-use Rattle·table.specs.Sound.{Sound}
-use Rattle·table.specs.Columns.{columnLabelled, tableOf, noLabels}
-use Rattle·table.proofs.Faults.{known-right, header-split, passed-none}
-use Rattle·decoding.proofs.OneRing.{one-numbered, one-rest, one-rings}
-use Rattle·round_trip.proofs.RoundTrip.{Alike, Told, file-told, numbers-alike, bytes-alike, memory-back, numbers-length, bytes-length}
-use Rattle·round_trip.proofs.RoundTrip.{table-passes, bare}
-use Rattle·outline.specs.Outlined.{outline-checks}
-use Rattle·outline.proofs.Outlined.{answers-zero, outline-numbered}
-use Rattle·decoding.specs.declared.Decoded.{Decoded}
-use Rattle·raising·specs.specs.declared.Raising.{Raising}
-use Rattle·raising·specs.specs.Raises.{RaisedBeside}
-use Rattle·raising·proofs.proofs.Costs.{raised-low, raised-least}
+use Rattle.numbers.proofs.Lists.{zeros_at}
+use Rattle.rules.specs.Bounds.{max_rows}
+use Rattle.rules.specs.Bus.{Table, Labelled, clockwise}
+use Rattle.rules.specs.TableFile.{table_mark, rings_of, header_size, row_size, row_numbers, version, file_rings, file_labelled}
+use Rattle.rules.specs.TableFile.{memory_labelled_with, numbers}
+use Rattle.rules.specs.Refusals.{Check, Answers, unknown_mark, short_output, file_checks, header_checks, given_checks, line_checks}
+use Rattle.rules.specs.Refusals.{pasted_checks, version_checks, writer_checks}
+use Rattle.rules.specs.Calls.{lent, Written}
+use Rattle.rules.specs.Raising.{raised, raised_labelled, raised_file, before_13, raise_checks, Raised}
+use Rattle.rules.proofs.Answers.{None, Numbered, joined, unjoined, none_of, none_left}
+use Rattle.rules.proofs.Calls.{lent_take, call_refused, call_only}
+use Rattle.table.specs.Sound.{Sound}
+use Rattle.table.specs.Columns.{column_labelled, table_of, no_labels}
+use Rattle.table.proofs.Faults.{known_right, header_split, passed_none}
+use Rattle.decoding.proofs.OneRing.{one_numbered, one_rest, one_rings}
+use Rattle.round_trip.proofs.RoundTrip.{Alike, Told, file_told, numbers_alike, bytes_alike, memory_back, numbers_length, bytes_length}
+use Rattle.round_trip.proofs.RoundTrip.{table_passes, bare}
+use Rattle.outline.specs.Outlined.{outline_checks}
+use Rattle.outline.proofs.Outlined.{answers_zero, outline_numbered}
+use Rattle.decoding.specs.declared.Decoded.{Decoded}
+use Rattle.raising.specs.declared.Raising.{Raising}
+use Rattle.raising.specs.Raises.{RaisedBeside}
+use Rattle.raising.proofs.Costs.{raised_low, raised_least}
 
 -- a table without a fault has none when its rows are raised
-pub raised-sound : {t : Table} → Sound t → Sound (raised t)
-raised-sound {t} s = record {
-  elements-low = s .elements-low;
-  elements-high = s .elements-high;
-  rows-low = s .rows-low;
-  rows-high = s .rows-high;
-  rings-few = s .rings-few;
+pub raised_sound : {t : Table} → Sound t → Sound (raised t)
+raised_sound {t} s = record {
+  elements_low = s.elements_low;
+  elements_high = s.elements_high;
+  rows_low = s.rows_low;
+  rows_high = s.rows_high;
+  rings_few = s.rings_few;
   row = λ i l.
-      let r = s .row i l in
+      let r = s.row i l in
       record {
-        first-low = r .first-low;
-        first-high = r .first-high;
-        second-low = r .second-low;
-        second-high = r .second-high;
-        ends-differ = r .ends-differ;
-        period-low = r .period-low;
-        period-high = r .period-high;
-        cost-low = omega (arith, raised-least t s i l, r .cost-low);
-        cost-high = raised-low t s i l;
-        way-known = r .way-known;
+        first_low = r.first_low;
+        first_high = r.first_high;
+        second_low = r.second_low;
+        second_high = r.second_high;
+        ends_differ = r.ends_differ;
+        period_low = r.period_low;
+        period_high = r.period_high;
+        cost_low = omega (arith, raised_least t s i l, r.cost_low);
+        cost_high = raised_low t s i l;
+        way_known = r.way_known;
       };
 }
 
-pub before-numbered : (f : List ℕ) → Numbered (before-13 f)
-before-numbered f = one-numbered f (outline-checks f) (outline-numbered f)
+pub before_numbered : (f : List ℕ) → Numbered (before_13 f)
+before_numbered f = one_numbered f (outline_checks f) (outline_numbered f)
 
-pub raising-none : (f : List ℕ) (x : Raising) → RaisedBeside f x → x .given .answer .number ≡ 0 → None (before-13 f)
-raising-none f x R z =
-    none-of (before-13 f) (x .given .answer .place) (before-numbered f)
-    (answers-zero (before-13 f) (x .given .answer) z (R .given .answers))
+pub raising_none : (f : List ℕ) (x : Raising) → RaisedBeside f x → x.given.answer.number ≡ 0 → None (before_13 f)
+raising_none f x R z =
+    none_of (before_13 f) x.given.answer.place (before_numbered f)
+    (answers_zero (before_13 f) x.given.answer z R.given.answers)
 
 module _ (f : List ℕ) where
   abbrev given : Labelled
-  given = fileLabelled f
+  given = file_labelled f
 
   abbrev g : Labelled
-  g = raisedLabelled given
+  g = raised_labelled given
 
   abbrev v : ℕ
   v = version f
 
   abbrev M : ℕ
-  M = given .table .elements
+  M = given.table.elements
 
   abbrev n : ℕ
-  n = given .table .rows
+  n = given.table.rows
 
   -- 1 to 9, 18, 10 or 11 refuse
-  pub raise-refused : (was : List ℕ) {m p : ℕ} → Answers (before-13 f) m p → m ≢ 0 → Raised f was was m p
-  unfolding raise-checks
-  raise-refused was a h = call-refused (before-13 f) (length was < length f) a h refl
+  pub raise_refused : (was : List ℕ) {m p : ℕ} → Answers (before_13 f) m p → m ≢ 0 → Raised f was was m p
+  unfolding raise_checks
+  raise_refused was a h = call_refused (before_13 f) (length was < length f) a h refl
 
-  module _ (none : None (before-13 f)) where
-    pub outline-none : None (outline-checks f)
-    outline-none = one-rest f (outline-checks f) none
+  module _ (none : None (before_13 f)) where
+    pub outline_none : None (outline_checks f)
+    outline_none = one_rest f (outline_checks f) none
 
-    pub one : fileRings f ≡ 1
-    one = one-rings f (outline-checks f) none
+    pub one : file_rings f ≡ 1
+    one = one_rings f (outline_checks f) none
 
-    pub file-none : None (file-checks f)
-    unfolding given-checks
-    file-none =
-        none-left (file-checks f) (pasted-checks (given .table)) (none-left (given-checks f) (line-checks (given .table)) outline-none)
+    pub file_none : None (file_checks f)
+    unfolding given_checks
+    file_none =
+        none_left (file_checks f) (pasted_checks given.table) (none_left (given_checks f) (line_checks given.table) outline_none)
 
-    sound : Sound (given .table)
-    sound = passed-none f file-none .sound
+    sound : Sound given.table
+    sound = (passed_none f file_none).sound
 
-    long : length f ≡ headerSize + rowSize 1 v * n
-    long = passed-none f file-none .size ∙ ap (λ (r : ℕ). headerSize + rowSize r v * n) one
+    long : length f ≡ header_size + row_size 1 v * n
+    long = (passed_none f file_none).size ∙ ap (λ (r : ℕ). header_size + row_size r v * n) one
 
-    pub few : n ≤ max-rows
-    few = sound .rows-high
+    pub few : n ≤ max_rows
+    few = sound.rows_high
 
-    pub long-enough : headerSize ≤ length f
-    long-enough = omega (arith, long)
+    pub long_enough : header_size ≤ length f
+    long_enough = omega (arith, long)
 
-    pub raised-told : Told g
-    raised-told = file-told f
+    pub raised_told : Told g
+    raised_told = file_told f
 
-    pub raised-passes : None (version-checks 1 v M n (numbers g))
-    unfolding file-checks
-    raised-passes =
-        subst (λ (r : ℕ). None (version-checks r v M n (numbers g))) one
-        (table-passes v g (known-right (header-split f (none-left (header-checks f) _ file-none) .2)) raised-told (raised-sound sound)
-        (λ i l e. bare f file-none i e))
+    pub raised_passes : None (version_checks 1 v M n (numbers g))
+    unfolding file_checks
+    raised_passes =
+        subst (λ (r : ℕ). None (version_checks r v M n (numbers g))) one
+        (table_passes v g (known_right (header_split f (none_left (header_checks f) _ file_none)).2) raised_told (raised_sound sound)
+        (λ i l e. bare f file_none i e))
 
-    pub raised-back : Alike (memoryLabelledWith 1 M n (numbers g)) g
-    raised-back = subst (λ (r : ℕ). Alike (memoryLabelledWith r M n (numbers g)) g) one (memory-back g raised-told)
+    pub raised_back : Alike (memory_labelled_with 1 M n (numbers g)) g
+    raised_back = subst (λ (r : ℕ). Alike (memory_labelled_with r M n (numbers g)) g) one (memory_back g raised_told)
 
-    pub raised-length : length (raisedFile f) ≡ length f
-    raised-length =
-        bytes-length v g (inl one) ∙ ap (λ (r : ℕ). headerSize + rowSize r v * n) one ∙ sym long
+    pub raised_length : length (raised_file f) ≡ length f
+    raised_length =
+        bytes_length v g (inl one) ∙ ap (λ (r : ℕ). header_size + row_size r v * n) one ∙ sym long
 
     -- the writer refuses nothing but too short an output
     abbrev written : List Check
-    written = unknown-mark table-mark ∷ version-checks 1 v M n (numbers g)
+    written = unknown_mark table_mark ∷ version_checks 1 v M n (numbers g)
 
-    written-none : None written
+    written_none : None written
     unfolding None
-    written-none = (λ w. w .0 refl, raised-passes)
+    written_none = (λ w. w.0 refl, raised_passes)
 
-    written-raises : {was now : List ℕ} {m p : ℕ} → Written table-mark v M n (numbers g) was now m p → Raised f was now m p
-    unfolding raise-checks writer-checks ringsOf
-    written-raises {was} {now} {m} {p} w = record {
+    written_raises : {was now : List ℕ} {m p : ℕ} → Written table_mark v M n (numbers g) was now m p → Raised f was now m p
+    unfolding raise_checks writer_checks rings_of
+    written_raises {was} {now} {m} {p} w = record {
       answers =
-          joined (before-13 f) (short-output (length was < length f) ∷ []) m p none
-          (rw long (unjoined written (short-output (length was < headerSize + rowSize 1 v * n) ∷ []) m p written-none (w .answers)));
-      done = λ e. w .done e ∙ ap (λ (xs : List ℕ). lent xs was) (bytes-alike v raised-back);
-      refused = w .refused;
+          joined (before_13 f) (short_output (length was < length f) ∷ []) m p none
+          (rw long (unjoined written (short_output (length was < header_size + row_size 1 v * n) ∷ []) m p written_none w.answers));
+      done = λ e. w.done e ∙ ap (λ (xs : List ℕ). lent xs was) (bytes_alike v raised_back);
+      refused = w.refused;
     }
 
     -- what the writer answers to them
-    pub raise-written : {v′ M′ n′ : ℕ} {xs was now : List ℕ} {m p : ℕ} → v′ ≡ v → M′ ≡ M → n′ ≡ n → xs ≡ numbers g
-        → Written table-mark v′ M′ n′ xs was now m p → Raised f was now m p
-    raise-written a b c d w = written-raises (rw (a, b, c, d) at w)
+    pub raise_written : {v' M' n' : ℕ} {xs was now : List ℕ} {m p : ℕ} → v' ≡ v → M' ≡ M → n' ≡ n → xs ≡ numbers g
+        → Written table_mark v' M' n' xs was now m p → Raised f was now m p
+    raise_written a b c d w = written_raises (rw (a, b, c, d) at w)
 
     -- the columns' numbers are those of the raised table
-    module _ (x : Raising) (R : RaisedBeside f x) (z : x .given .answer .number ≡ 0) where
+    module _ (x : Raising) (R : RaisedBeside f x) (z : x.given.answer.number ≡ 0) where
       abbrev d : Decoded
-      d = x .given
+      d = x.given
 
-      held : tableOf (d .columns) ≡ given .table
-      held = R .given .passed z .table
+      held : table_of d.columns ≡ given.table
+      held = (R.given.passed z).table
 
-      pub rows-are : d .columns .rows ≡ n
-      rows-are = ap (λ (t : Table). t .rows) held
+      pub rows_are : d.columns.rows ≡ n
+      rows_are = ap (λ (t : Table). t.rows) held
 
-      pub elements-are : d .columns .elements ≡ M
-      elements-are = ap (λ (t : Table). t .elements) held
+      pub elements_are : d.columns.elements ≡ M
+      elements_are = ap (λ (t : Table). t.elements) held
 
       abbrev own : Labelled
       own =
-          columnLabelled M (d .columns .rows) 1 (x .cost) (d .columns .period) (d .columns .first) (d .columns .second) noLabels (d .labels)
+          column_labelled M d.columns.rows 1 x.cost d.columns.period d.columns.first d.columns.second no_labels d.labels
 
       like : Alike own g
       like = record {
         elements = refl;
-        rows = rows-are;
-        cost = λ i l. R .costs z .row i l;
-        period = λ i l. ap (λ (t : Table). t .period i) held;
-        first = λ i l. ap (λ (t : Table). t .first i) held;
-        second = λ i l. ap (λ (t : Table). t .second i) held;
+        rows = rows_are;
+        cost = λ i l. (R.costs z).row i l;
+        period = λ i l. ap (λ (t : Table). t.period i) held;
+        first = λ i l. ap (λ (t : Table). t.first i) held;
+        second = λ i l. ap (λ (t : Table). t.second i) held;
         rings = sym one;
         way = λ i l.
-            let w : given .table .way i ≡ clockwise = omega (arith, one, sound .row i l .way-known) in
-            zeros-at max-rows i ∙ sym w;
-        label = λ i l. ap (λ (h : ℕ → ℕ). h i) (R .given .labelled z .labels);
+            let w : given.table.way i ≡ clockwise = omega (arith, one, (sound.row i l).way_known) in
+            zeros_at max_rows i ∙ sym w;
+        label = λ i l. ap (λ (h : ℕ → ℕ). h i) (R.given.labelled z).labels;
       }
 
-      pub numbers-are : (was : List ℕ)
-          → take (rowNumbers * d .columns .rows)
+      pub numbers_are : (was : List ℕ)
+          → take (row_numbers * d.columns.rows)
           (lent
           (numbers
-          (columnLabelled 0 (d .columns .rows) 1 (x .cost) (d .columns .period) (d .columns .first) (d .columns .second) noLabels
-          (d .labels)))
+          (column_labelled 0 d.columns.rows 1 x.cost d.columns.period d.columns.first d.columns.second no_labels
+          d.labels))
           was)
           ≡ numbers g
       unfolding numbers
-      numbers-are was = lent-take (numbers own) was (rowNumbers * d .columns .rows) (numbers-length own) ∙ numbers-alike like
+      numbers_are was = lent_take (numbers own) was (row_numbers * d.columns.rows) (numbers_length own) ∙ numbers_alike like
 
-pub raised-only : (f was now then : List ℕ) (m n p q : ℕ) → Raised f was now m p → Raised f was then n q → (m ≡ n) × (p ≡ q) × (now ≡ then)
-raised-only f was now then m n p q A B =
-    let e = call-only A B in
-    (e .0, e .1, ⊎-elim (λ w. w .0 ∙ sym (w .1)) (λ w. w .0 ∙ sym (w .1)) (e .2))
+pub raised_only : (f was now then : List ℕ) (m n p q : ℕ) → Raised f was now m p → Raised f was then n q → (m ≡ n) × (p ≡ q) × (now ≡ then)
+raised_only f was now then m n p q A B =
+    let e = call_only A B in
+    (e.0, e.1, ⊎_elim (λ w. w.0 ∙ sym w.1) (λ w. w.0 ∙ sym w.1) e.2)

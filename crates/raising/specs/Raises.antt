@@ -1,73 +1,67 @@
 -- What raising light rows promises (#111), and what is found of a file's table. The promises are statements only; `proofs/Costs.antt`,
--- `proofs/Result.antt` and `proofs/Data.antt` prove `Raise-raises`, `Raised-verdict` and `Data-arrives`.
+-- `proofs/Result.antt` and `proofs/Data.antt` prove `RaiseRaises`, `RaisedVerdict` and `DataArrives`.
 --
 --   unraised a         answer a beside no table and no costs
 --   RaisedBeside f r   r answers the refusals before 13, and holds the file's table and its raised costs where none of them applies
 --   Raises t           what raising the rows of table t does
---   Raised-verdict     what the verdict on the raised file can be
+--   RaisedVerdict     what the verdict on the raised file can be
 --   carries ws i a c s in the plan ws, row i's slot a + s carries data: it is among the first c of the row's slots from slot a on
---   Data-arrives       of every raised table that is admitted: each job's data moves before its deadline
-use mathlib.Core.Path.{_≡_}
-use mathlib.Core.Logic.{_⊎_, _≢_}
-use mathlib.Core.Bool.{Bool, _&&_}
-use mathlib.Core.List.{List}
-use Prim.Native.Nat.{ℕ, _+_, _*_, _≤_, _<_}
-use lib.Dec.{T, ltb}
-use lib.ListN.{replicate}
-use Rattle·numbers.specs.Finite.{count}
-use Rattle·rules.specs.Bounds.{max-rows}
-use Rattle·rules.specs.Bus.{Table}
-use Rattle·rules.specs.TableFile.{fileTable, fileLabelled}
-use Rattle·rules.specs.Loads.{hyperperiod, shortest, equalPeriods, light}
-use Rattle·rules.specs.Planner.{WholePlan}
-use Rattle·rules.specs.Refusals.{Answers, verdict-checks}
-use Rattle·rules.specs.Raising.{priced, raisedCost, raised, raisedLabelled, raisedFile, before-13}
-use Rattle·table.specs.Sound.{Sound}
-use Rattle·table.specs.Columns.{ByRow}
-use Rattle·table.specs.declared.Answer.{Answer}
-use Rattle·decoding.specs.Decoded.{refusal, Decodes}
-use Rattle·lags.specs.Lags.{Admissible}
-use Rattle·promises.specs.Demands.{endless, moved}
-use Rattle·raising·specs.specs.declared.Raising.{Raising}
+--   DataArrives       of every raised table that is admitted: each job's data moves before its deadline
+use Rattle.std.specs.Prelude.{◌≡◌, ◌⊎◌, ◌≢◌, Bool, ◌&&◌, List, ℕ, ◌+◌, ◌*◌, ◌≤◌, ◌<◌, T, ltb, replicate}
+use Rattle.numbers.specs.Finite.{count}
+use Rattle.rules.specs.Bounds.{max_rows}
+use Rattle.rules.specs.Bus.{Table}
+use Rattle.rules.specs.TableFile.{file_table, file_labelled}
+use Rattle.rules.specs.Loads.{hyperperiod, shortest, equal_periods, light}
+use Rattle.rules.specs.Planner.{WholePlan}
+use Rattle.rules.specs.Refusals.{Answers, verdict_checks}
+use Rattle.rules.specs.Raising.{priced, raised_cost, raised, raised_labelled, raised_file, before_13}
+use Rattle.table.specs.Sound.{Sound}
+use Rattle.table.specs.Columns.{ByRow}
+use Rattle.table.specs.declared.Answer.{Answer}
+use Rattle.decoding.specs.Decoded.{refusal, Decodes}
+use Rattle.lags.specs.Lags.{Admissible}
+use Rattle.promises.specs.Demands.{endless, moved}
+use Rattle.raising.specs.declared.Raising.{Raising}
 
 abbrev pub unraised : Answer → Raising
-unraised a = record { given = refusal a; cost = replicate max-rows 0 }
+unraised a = record { given = refusal a; cost = replicate max_rows 0 }
 
 pub record RaisedBeside (f : List ℕ) (r : Raising) : Type 0 where
-  pub given : Decodes (before-13 f) (fileLabelled f) (r .given)
-  pub costs : r .given .answer .number ≡ 0 → ByRow (fileTable f .rows) (raisedCost (fileTable f)) (r .cost)
-  pub none : r .given .answer .number ≢ 0 → r .cost ≡ replicate max-rows 0
+  pub given : Decodes (before_13 f) (file_labelled f) r.given
+  pub costs : r.given.answer.number ≡ 0 → ByRow (file_table f).rows (raised_cost (file_table f)) r.cost
+  pub none : r.given.answer.number ≢ 0 → r.cost ≡ replicate max_rows 0
 
 pub record Raises (t : Table) : Type 0 where
   -- No row is light afterwards, so 13 is never given.
-  pub passes : (i : ℕ) → i < t .rows → ¬ T (light (raised t) i)
+  pub passes : (i : ℕ) → i < t.rows → ¬ T (light (raised t) i)
   -- A raised cost is the least with which its row is not light,
-  pub least : (i c : ℕ) → i < t .rows → T (light t i) → c < raisedCost t i → T (light (priced t i c) i)
+  pub least : (i c : ℕ) → i < t.rows → T (light t i) → c < raised_cost t i → T (light (priced t i c) i)
   -- more than the cost was, and at most the period.
-  pub more : (i : ℕ) → i < t .rows → T (light t i) → t .cost i < raisedCost t i
-  pub within : (i : ℕ) → i < t .rows → raisedCost t i ≤ t .period i
+  pub more : (i : ℕ) → i < t.rows → T (light t i) → t.cost i < raised_cost t i
+  pub within : (i : ℕ) → i < t.rows → raised_cost t i ≤ t.period i
   -- Any other row's cost stays.
-  pub stays : (i : ℕ) → ¬ T (light t i) → raisedCost t i ≡ t .cost i
+  pub stays : (i : ℕ) → ¬ T (light t i) → raised_cost t i ≡ t.cost i
   -- So do h, L, and whether all periods are equal.
   pub hyper : hyperperiod (raised t) ≡ hyperperiod t
   pub interval : shortest (raised t) ≡ shortest t
-  pub equal : equalPeriods (raised t) ≡ equalPeriods t
+  pub equal : equal_periods (raised t) ≡ equal_periods t
 
-abbrev pub Raise-raises : Type 0
-Raise-raises = (t : Table) → Sound t → Raises t
+abbrev pub RaiseRaises : Type 0
+RaiseRaises = (t : Table) → Sound t → Raises t
 
 -- Where nothing before 13 is refused of a file, the raised file holds the raised table, and all that can be refused of it is 14.
-abbrev pub Raised-verdict : Type 0
-Raised-verdict =
-    (f : List ℕ) → Answers (before-13 f) 0 0
-    → (fileLabelled (raisedFile f) ≡ raisedLabelled (fileLabelled f))
-    × ((number place : ℕ) → Answers (verdict-checks (raisedFile f)) number place → (number ≡ 0) ⊎ (number ≡ 14))
+abbrev pub RaisedVerdict : Type 0
+RaisedVerdict =
+    (f : List ℕ) → Answers (before_13 f) 0 0
+    → (file_labelled (raised_file f) ≡ raised_labelled (file_labelled f))
+    × ((number place : ℕ) → Answers (verdict_checks (raised_file f)) number place → (number ≡ 0) ⊎ (number ≡ 14))
 
 abbrev pub carries : List ℕ → (i a c s : ℕ) → Bool
 carries ws i a c s = endless ws i (a + s) && ltb (moved ws i a (a + s)) c
 
 -- With the plan repeated for ever, as many slots of each job carry data before its deadline as its cost was before it was raised.
-abbrev pub Data-arrives : Type 0
-Data-arrives =
+abbrev pub DataArrives : Type 0
+DataArrives =
     (t : Table) (ws : List ℕ) → Sound t → Admissible (raised t) → WholePlan (raised t) ws
-    → (i j : ℕ) → i < t .rows → count (t .period i) (carries ws i (j * t .period i) (t .cost i)) ≡ t .cost i
+    → (i j : ℕ) → i < t.rows → count (t.period i) (carries ws i (j * t.period i) (t.cost i)) ≡ t.cost i

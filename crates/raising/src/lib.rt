@@ -1,22 +1,22 @@
 // Raising light rows (document 02, #111): each light row's cost becomes the least that passes, and nothing else changes.
+#![tactic(auto)]
+
+ghost use Rattle.std.specs.Prelude.{◌≡◌, ◌≤◌, max};
+ghost use Rattle.numbers.specs.Lists.{at};
+ghost use Rattle.numbers.specs.Rounding.{up};
+ghost use Rattle.rules.specs.Bounds.{max_slots};
+ghost use Rattle.rules.specs.Raising.{Raised};
+ghost use Rattle.table.specs.Columns.{ByRow};
+ghost use Rattle.verdict.specs.Weights.{Times};
+ghost use Rattle.raising.specs.Raises.{unraised, RaisedBeside};
+
 use decoding::Decoded;
-use table::Answer;
-use table::Table;
-use table::version_of;
-ghost use mathlib.Core.Path.{_≡_};
-ghost use Prim.Native.Nat.{_≤_, max};
-ghost use Rattle·numbers.specs.Lists.{at};
-ghost use Rattle·numbers.specs.Rounding.{up};
-ghost use Rattle·rules.specs.Bounds.{max-slots};
-ghost use Rattle·rules.specs.Raising.{Raised};
-ghost use Rattle·table.specs.Columns.{ByRow};
-ghost use Rattle·verdict.specs.Weights.{Times};
-ghost use Rattle·raising·specs.specs.Raises.{unraised, RaisedBeside};
+use table::{Answer, Table, version_of};
 
 // A row's cost, or period / L rounded up where that is more. Where all periods are equal, L is as long as they are, and 1 is never more.
 fn raised_cost(cost: u64, period: u64, interval: u64) -> u64
-    requires { ⌜ (1 ≤ interval) × (interval ≤ max-slots) × (period ≤ max-slots) ⌝ }
-    ensures { λ r. ⌜ r ≡ max cost (up period interval) ⌝ }
+    requires { (1 ≤ interval) × (interval ≤ max_slots) × (period ≤ max_slots) }
+    ensures { result ≡ max cost (up period interval) }
 {
     let least = (period + (interval - 1)) / interval;
     if cost < least {
@@ -32,8 +32,8 @@ fn raised_costs<'a>(
     period: &'a [u16; Table::ROWS],
     interval: u64,
 ) -> [u16; Table::ROWS]
-    requires { ⌜ Times rows (at (now cost)) (at (now period)) × (1 ≤ interval) × (interval ≤ max-slots) ⌝ }
-    ensures { λ r. ⌜ ByRow rows (λ i. max (at (now (cost .entry)) i) (up (at (now (period .entry)) i) interval)) r ⌝ }
+    requires { Times rows (at cost.now) (at period.now) × (1 ≤ interval) × (interval ≤ max_slots) }
+    ensures { ByRow rows (λ i. max (at cost.now i) (up (at period.now i) interval)) result }
 {
     let mut raised = [0u16; Table::ROWS];
     let mut i: usize = 0;
@@ -49,13 +49,14 @@ fn raised_costs<'a>(
 }
 
 // A file's table as it is given, and its rows' costs with the light ones raised; all 0 beside a refusal.
+#[derive(Clone, Copy)]
 pub struct Raising {
     pub given: Decoded,
     pub cost: [u16; Table::ROWS],
 }
 
 fn refused(answer: Answer) -> Raising
-    ensures { λ r. ⌜ r ≡ unraised answer ⌝ }
+    ensures { result ≡ unraised answer }
 {
     Raising {
         given: Decoded::refused(answer),
@@ -65,7 +66,7 @@ fn refused(answer: Answer) -> Raising
 
 // A file's table and its raised costs, or the first refusal of 1 to 9, 18, 10 and 11. A table of one ring alone is taken.
 pub fn raised_table(file: &[u8]) -> Raising
-    ensures { λ r. ⌜ RaisedBeside (now (file .entry)) r ⌝ }
+    ensures { RaisedBeside file.now result }
 {
     let found = pasted::given_one_ring(file);
     let answer = found.answer;
@@ -100,7 +101,7 @@ pub fn raised_table(file: &[u8]) -> Raising
 // The raised table's file, written to the front of `out` in the version that it was given in; or a refusal of 1 to 9, 18, 10 and 11, then
 // 17.
 pub fn raise(file: &[u8], out: &mut [u8]) -> Answer
-    ensures { λ r. ⌜ Raised (now (file .entry)) (now (out .entry)) (now (out .exit)) (r .number) (r .place) ⌝ }
+    ensures { Raised file.now out.old out.new result.number result.place }
 {
     let found = raised_table(file);
     let answer = found.given.answer;

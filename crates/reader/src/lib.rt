@@ -1,26 +1,21 @@
 // The reader: from a file to numbers in memory.
-use table::Answer;
-use table::Row;
-use table::Table;
-use table::last_of;
-use table::mark_byte;
-use table::row_at;
-use table::version_of;
-ghost use mathlib.Core.Path.{_≡_};
-ghost use Prim.Native.Nat.{_+_, _*_, _≤_};
-ghost use lib.ListN.{length};
-ghost use lib.Seq.{sets};
-ghost use Rattle·rules.specs.Bounds.{max-rows};
-ghost use Rattle·numbers.specs.Lists.{at};
-ghost use Rattle·rules.specs.TableFile.{rowNumbers, lastOf, numbers};
-ghost use Rattle·rules.specs.Calls.{lent, no-mark, Read, ReadVersion1};
-ghost use Rattle·table.specs.Rows.{inMemory};
-ghost use Rattle·table.specs.Columns.{ByRow, columnLabelled, noLabels};
+#![tactic(auto)]
+
+ghost use Rattle.std.specs.Prelude.{◌≡◌, ◌+◌, ◌*◌, ◌≤◌, length};
+ghost use Rattle.std.proofs.lemmas.List.Edits.{sets};
+ghost use Rattle.rules.specs.Bounds.{max_rows};
+ghost use Rattle.numbers.specs.Lists.{at};
+ghost use Rattle.rules.specs.TableFile.{row_numbers, last_of, numbers};
+ghost use Rattle.rules.specs.Calls.{lent, no_mark, Read, ReadVersion1};
+ghost use Rattle.table.specs.Rows.{in_memory};
+ghost use Rattle.table.specs.Columns.{ByRow, column_labelled, no_labels};
+
+use table::{Answer, Row, Table, last_of, mark_byte, row_at, version_of};
 
 // The numbers of a row, from `at` on, its label the last.
 pub fn put_numbers(row: Row, at: usize, out: &mut [u16])
-    requires { ⌜ at + rowNumbers ≤ length (now out) ⌝ }
-    ensures { λ _. ⌜ now (out .exit) ≡ sets (now (out .entry)) at (inMemory 1 row) ⌝ }
+    requires { at + row_numbers ≤ length out.old }
+    ensures { out.new ≡ sets out.old at (in_memory 1 row) }
 {
     out[at] = row.cost;
     out[at + 1] = row.period;
@@ -39,11 +34,11 @@ pub fn put_all_numbers<'a>(
     last: &'a [u16; Table::ROWS],
     out: &mut [u16],
 )
-    requires { ⌜ (rows ≤ max-rows) × (rowNumbers * rows ≤ length (now out)) ⌝ }
-    ensures { λ _. ⌜ now (out .exit) ≡ lent
-        (numbers (columnLabelled 0 rows 1 (now (cost .entry)) (now (period .entry)) (now (first .entry)) (now (second .entry)) noLabels
-        (now (last .entry))))
-        (now (out .entry)) ⌝ }
+    requires { (rows ≤ max_rows) × (row_numbers * rows ≤ length out.old) }
+    ensures { out.new ≡ lent
+        (numbers (column_labelled 0 rows 1 cost.now period.now first.now second.now no_labels
+        last.now))
+        out.old }
 {
     let mut i: usize = 0;
     while i < rows {
@@ -57,7 +52,7 @@ pub fn put_all_numbers<'a>(
 }
 
 fn last_number(rings: usize, way: u8, label: u16) -> u16
-    ensures { λ r. ⌜ r ≡ lastOf rings way label ⌝ }
+    ensures { result ≡ last_of rings way label }
 {
     last_of(rings, way as u16, label)
 }
@@ -69,8 +64,8 @@ fn last_numbers<'a>(
     way: &'a [u8; Table::ROWS],
     labels: &'a [u16; Table::ROWS],
 ) -> [u16; Table::ROWS]
-    requires { ⌜ rows ≤ max-rows ⌝ }
-    ensures { λ r. ⌜ ByRow rows (λ i. lastOf rings (at (now (way .entry)) i) (at (now (labels .entry)) i)) r ⌝ }
+    requires { rows ≤ max_rows }
+    ensures { ByRow rows (λ i. last_of rings (at way.now i) (at labels.now i)) result }
 {
     let mut last = [0u16; Table::ROWS];
     let mut i: usize = 0;
@@ -82,6 +77,7 @@ fn last_numbers<'a>(
 }
 
 // What the reader returns beside the numbers that it fills in.
+#[derive(Clone, Copy)]
 pub struct Reading {
     pub answer: Answer,
     pub mark: [u8; 3],
@@ -90,7 +86,7 @@ pub struct Reading {
 }
 
 fn refuse_read(answer: Answer) -> Reading
-    ensures { λ r. ⌜ (r .answer ≡ answer) × (r .mark ≡ no-mark) × (r .version ≡ 0) × (r .table .elements ≡ 0) × (r .table .rows ≡ 0) ⌝ }
+    ensures { (result.answer ≡ answer) × (result.mark ≡ no_mark) × (result.version ≡ 0) × (result.table.elements ≡ 0) × (result.table.rows ≡ 0) }
 {
     Reading {
         answer: answer,
@@ -105,8 +101,8 @@ fn refuse_read(answer: Answer) -> Reading
 
 // The reader: checks 1 to 9 and 26, then 17. Takes both marks and both versions. Fills the front of `out` with five numbers a row.
 pub fn read(file: &[u8], out: &mut [u16]) -> Reading
-    ensures { λ r. ⌜ Read (now (file .entry)) (now (out .entry)) (now (out .exit))
-        (r .answer .number) (r .answer .place) (r .mark) (r .version) (r .table .elements) (r .table .rows) ⌝ }
+    ensures { Read file.now out.old out.new
+        result.answer.number result.answer.place result.mark result.version result.table.elements result.table.rows }
 {
     let found = decoding::decode(file);
     let answer = found.answer;
@@ -140,8 +136,8 @@ pub fn read(file: &[u8], out: &mut [u16]) -> Reading
 
 // The reader of version 1 alone, and of one ring: it refuses version 2 with 3 and RB2 with 2.
 pub fn read_version_1(file: &[u8], out: &mut [u16]) -> Reading
-    ensures { λ r. ⌜ ReadVersion1 (now (file .entry)) (now (out .entry)) (now (out .exit))
-        (r .answer .number) (r .answer .place) (r .mark) (r .version) (r .table .elements) (r .table .rows) ⌝ }
+    ensures { ReadVersion1 file.now out.old out.new
+        result.answer.number result.answer.place result.mark result.version result.table.elements result.table.rows }
 {
     if decoding::has_other_mark(file) {
         return refuse_read(Answer::at(Answer::WRONG_MARK, 0));

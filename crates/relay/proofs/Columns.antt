@@ -1,193 +1,193 @@
 -- Columns that are filled row by row.
-use mathlib.Core.Path.{_≡_, refl, sym, ap, ap₂, subst, fun-ext, _∙_}
-use mathlib.Core.Logic.{⊎-elim}
+use mathlib.Core.Path.{◌≡◌, refl, sym, ap, ap₂, subst, fun_ext, ◌∙◌}
+use mathlib.Core.Logic.{⊎_elim}
 use mathlib.Core.Bool.{Bool, true, false}
-use mathlib.Core.List.{List, [], _∷_, _++_, append-assoc}
-use Prim.Native.Nat.{ℕ, _+_, _≤_, _<_}
+use mathlib.Core.List.{List, [], ◌∷◌, ◌++◌, append_assoc}
+use Prim.Native.Nat.{ℕ, ◌+◌, ◌≤◌, ◌<◌}
 use native.Mathlib.Omega.{arith}
-use lib.ListN.{length, getD, set, replicate, length-append, length-set, length-replicate, List·getD-append, List·getD-eq-default}
-use lib.Seq.{getD-append-add, getD-set-same, getD-set-other}
-use Rattle·numbers.specs.Lists.{at}
-use Rattle·numbers.proofs.Truth.{le-or-lt}
-use Rattle·numbers.proofs.Lists.{zeros-at}
-use Rattle·rules.specs.Bounds.{max-rows}
-use Rattle·rules.specs.Bus.{Table, mirror, routeThrough, through}
-use Rattle·table.specs.declared.columns.Columns.{Columns}
-use Rattle·table.specs.declared.Row as code
-use Rattle·table.specs.Sound.{Sound}
-use Rattle·table.specs.Columns.{tableOf, Holds, HasRow}
-use Rattle·rules.specs.Relay.{Row, rowOf, noRow, ofRows, toRelay, fromRelay, becomes, splitRows, split}
-use Rattle·relay·specs.specs.Splitting.{numbersOf, placed, Fits}
-use Rattle·relay·proofs.proofs.Rows.{stands-more, stands-most}
+use lib.ListN.{length, get_or, set, replicate, length-append, length-set, length-replicate, get_or-append, get_or-eq_default}
+use lib.Seq.{get_or-append-add, get_or-set_same, get_or-set_other}
+use Rattle.numbers.specs.Lists.{at}
+use Rattle.numbers.proofs.Truth.{le_or_lt}
+use Rattle.numbers.proofs.Lists.{zeros_at}
+use Rattle.rules.specs.Bounds.{max_rows}
+use Rattle.rules.specs.Bus.{Table, mirror, route_through, through}
+use Rattle.table.specs.declared.columns.Columns.{Columns}
+use Rattle.table.specs.declared.Row as code
+use Rattle.table.specs.Sound.{Sound}
+use Rattle.table.specs.Columns.{table_of, Holds, HasRow}
+use Rattle.rules.specs.Relay.{Row, row_of, no_row, of_rows, to_relay, from_relay, becomes, split_rows, split}
+use Rattle.relay.specs.Splitting.{numbers_of, placed, Fits}
+use Rattle.relay.proofs.Rows.{stands_more, stands_most}
 
 -- ---- no rows
 
-zeros : (g : Row → ℕ) → g noRow ≡ 0 → at (replicate max-rows 0) ≡ (λ j. g (getD [] j noRow))
-zeros g e = fun-ext (λ j. zeros-at max-rows j ∙ sym e)
+zeros : (g : Row → ℕ) → g no_row ≡ 0 → at (replicate max_rows 0) ≡ (λ j. g (get_or [] j no_row))
+zeros g e = fun_ext (λ j. zeros_at max_rows j ∙ sym e)
 
-pub holds-none : (M d : ℕ) → Holds (ofRows M d []) (record {
+pub holds_none : (M d : ℕ) → Holds (of_rows M d []) (record {
   elements = M;
   rows = 0;
   rings = d;
-  cost = replicate max-rows 0;
-  period = replicate max-rows 0;
-  first = replicate max-rows 0;
-  second = replicate max-rows 0;
-  way = replicate max-rows 0;
+  cost = replicate max_rows 0;
+  period = replicate max_rows 0;
+  first = replicate max_rows 0;
+  second = replicate max_rows 0;
+  way = replicate max_rows 0;
 })
-holds-none M d = record {
+holds_none M d = record {
   table = λ j. record {
     elements = M;
     rows = 0;
     rings = d;
-    cost = zeros (λ y. y .cost) refl j;
-    period = zeros (λ y. y .period) refl j;
-    first = zeros (λ y. y .first) refl j;
-    second = zeros (λ y. y .second) refl j;
-    way = zeros (λ y. y .way) refl j;
+    cost = zeros (λ y. y.cost) refl j;
+    period = zeros (λ y. y.period) refl j;
+    first = zeros (λ y. y.first) refl j;
+    second = zeros (λ y. y.second) refl j;
+    way = zeros (λ y. y.way) refl j;
   };
-  costs = length-replicate {A = ℕ} max-rows 0;
-  periods = length-replicate {A = ℕ} max-rows 0;
-  firsts = length-replicate {A = ℕ} max-rows 0;
-  seconds = length-replicate {A = ℕ} max-rows 0;
-  ways = length-replicate {A = ℕ} max-rows 0;
+  costs = length-replicate {A = ℕ} max_rows 0;
+  periods = length-replicate {A = ℕ} max_rows 0;
+  firsts = length-replicate {A = ℕ} max_rows 0;
+  seconds = length-replicate {A = ℕ} max_rows 0;
+  ways = length-replicate {A = ℕ} max_rows 0;
 }
 
 -- ---- one row more
 
 -- in one column
-column-more : (g : Row → ℕ) (xs : List Row) (y : Row) (col : List ℕ) {k : ℕ} → k ≡ length xs → k < length col
-    → at col ≡ (λ j. g (getD xs j noRow)) → at (set col k (g y)) ≡ (λ j. g (getD (xs ++ (y ∷ [])) j noRow))
-column-more g xs y col {k} e l h = fun-ext go
+column_more : (g : Row → ℕ) (xs : List Row) (y : Row) (col : List ℕ) {k : ℕ} → k ≡ length xs → k < length col
+    → at col ≡ (λ j. g (get_or xs j no_row)) → at (set col k (g y)) ≡ (λ j. g (get_or (xs ++ (y ∷ [])) j no_row))
+column_more g xs y col {k} e l h = fun_ext go
   where
-    was : (j : ℕ) → at col j ≡ g (getD xs j noRow)
+    was : (j : ℕ) → at col j ≡ g (get_or xs j no_row)
     was j = ap (λ (f : ℕ → ℕ). f j) h
 
     long : length (xs ++ (y ∷ [])) ≡ k + 1
     long = omega (arith, length-append xs (y ∷ []), e)
 
-    here : (j : ℕ) → j ≡ k → at (set col k (g y)) j ≡ g (getD (xs ++ (y ∷ [])) j noRow)
+    here : (j : ℕ) → j ≡ k → at (set col k (g y)) j ≡ g (get_or (xs ++ (y ∷ [])) j no_row)
     here j q =
         let z : length xs + 0 ≡ k = omega (arith, e) in
-        rw q (getD-set-same col k (g y) 0 l
-        ∙ ap g (sym (ap (λ (i : ℕ). getD (xs ++ (y ∷ [])) i noRow) (sym z) ∙ getD-append-add xs (y ∷ []) 0 noRow)))
+        rw q (get_or-set_same col k (g y) 0 l
+        ∙ ap g (sym (ap (λ (i : ℕ). get_or (xs ++ (y ∷ [])) i no_row) (sym z) ∙ get_or-append-add xs (y ∷ []) 0 no_row)))
 
-    past : (j : ℕ) → k < j → at (set col k (g y)) j ≡ g (getD (xs ++ (y ∷ [])) j noRow)
+    past : (j : ℕ) → k < j → at (set col k (g y)) j ≡ g (get_or (xs ++ (y ∷ [])) j no_row)
     past j m =
-        getD-set-other col k j (g y) 0 (λ q. let z : ⊥ = omega (arith, q, m) in z) ∙ was j
-        ∙ ap g (List·getD-eq-default xs noRow (omega (arith, e, m))
-        ∙ sym (List·getD-eq-default (xs ++ (y ∷ [])) noRow (omega (arith, long, m))))
+        get_or-set_other col k j (g y) 0 (λ q. let z : ⊥ = omega (arith, q, m) in z) ∙ was j
+        ∙ ap g (get_or-eq_default xs no_row (omega (arith, e, m))
+        ∙ sym (get_or-eq_default (xs ++ (y ∷ [])) no_row (omega (arith, long, m))))
 
-    before : (j : ℕ) → j < k → at (set col k (g y)) j ≡ g (getD (xs ++ (y ∷ [])) j noRow)
+    before : (j : ℕ) → j < k → at (set col k (g y)) j ≡ g (get_or (xs ++ (y ∷ [])) j no_row)
     before j m =
-        getD-set-other col k j (g y) 0 (λ q. let z : ⊥ = omega (arith, q, m) in z) ∙ was j
-        ∙ ap g (sym (List·getD-append xs (y ∷ []) noRow j (omega (arith, e, m))))
+        get_or-set_other col k j (g y) 0 (λ q. let z : ⊥ = omega (arith, q, m) in z) ∙ was j
+        ∙ ap g (sym (get_or-append xs (y ∷ []) no_row j (omega (arith, e, m))))
 
-    go : (j : ℕ) → at (set col k (g y)) j ≡ g (getD (xs ++ (y ∷ [])) j noRow)
+    go : (j : ℕ) → at (set col k (g y)) j ≡ g (get_or (xs ++ (y ∷ [])) j no_row)
     go j =
-        ⊎-elim
-        (λ (m : k ≤ j). ⊎-elim (λ (a : j ≤ k). here j (omega arith)) (past j) (le-or-lt j k))
+        ⊎_elim
+        (λ (m : k ≤ j). ⊎_elim (λ (a : j ≤ k). here j (omega arith)) (past j) (le_or_lt j k))
         (before j)
-        (le-or-lt k j)
+        (le_or_lt k j)
 
-pub holds-more : (M d : ℕ) (xs : List Row) (c : Columns) (x : code.Row) → c .rows < max-rows → Holds (ofRows M d xs) c
-    → Holds (ofRows M d (xs ++ (numbersOf x ∷ []))) (placed c x)
-holds-more M d xs c x l H =
-    let y = numbersOf x in
-    let rows : c .rows ≡ length xs = ap (λ (t : Table). t .rows) (H .table) in
+pub holds_more : (M d : ℕ) (xs : List Row) (c : Columns) (x : code.Row) → c.rows < max_rows → Holds (of_rows M d xs) c
+    → Holds (of_rows M d (xs ++ (numbers_of x ∷ []))) (placed c x)
+holds_more M d xs c x l H =
+    let y = numbers_of x in
+    let rows : c.rows ≡ length xs = ap (λ (t : Table). t.rows) H.table in
     let cost =
-    column-more (λ y. y .cost) xs y (c .cost) rows (omega (arith, H .costs)) (ap (λ (t : Table). t .cost) (H .table)) in
+    column_more (λ y. y.cost) xs y c.cost rows (omega (arith, H.costs)) (ap (λ (t : Table). t.cost) H.table) in
     let period =
-    column-more (λ y. y .period) xs y (c .period) rows (omega (arith, H .periods)) (ap (λ (t : Table). t .period) (H .table)) in
+    column_more (λ y. y.period) xs y c.period rows (omega (arith, H.periods)) (ap (λ (t : Table). t.period) H.table) in
     let first =
-    column-more (λ y. y .first) xs y (c .first) rows (omega (arith, H .firsts)) (ap (λ (t : Table). t .first) (H .table)) in
+    column_more (λ y. y.first) xs y c.first rows (omega (arith, H.firsts)) (ap (λ (t : Table). t.first) H.table) in
     let second =
-    column-more (λ y. y .second) xs y (c .second) rows (omega (arith, H .seconds)) (ap (λ (t : Table). t .second) (H .table)) in
+    column_more (λ y. y.second) xs y c.second rows (omega (arith, H.seconds)) (ap (λ (t : Table). t.second) H.table) in
     let way =
-    column-more (λ y. y .way) xs y (c .way) rows (omega (arith, H .ways)) (ap (λ (t : Table). t .way) (H .table)) in
-    let long : c .rows + 1 ≡ length (xs ++ (y ∷ [])) = omega (arith, rows, length-append xs (y ∷ [])) in
+    column_more (λ y. y.way) xs y c.way rows (omega (arith, H.ways)) (ap (λ (t : Table). t.way) H.table) in
+    let long : c.rows + 1 ≡ length (xs ++ (y ∷ [])) = omega (arith, rows, length-append xs (y ∷ [])) in
     record {
       table = λ j. record {
-        elements = H .table j .elements;
+        elements = (H.table j).elements;
         rows = long j;
-        rings = H .table j .rings;
+        rings = (H.table j).rings;
         cost = cost j;
         period = period j;
         first = first j;
         second = second j;
         way = way j;
       };
-      costs = length-set (c .cost) (c .rows) (x .cost) ∙ H .costs;
-      periods = length-set (c .period) (c .rows) (x .period) ∙ H .periods;
-      firsts = length-set (c .first) (c .rows) (x .first) ∙ H .firsts;
-      seconds = length-set (c .second) (c .rows) (x .second) ∙ H .seconds;
-      ways = length-set (c .way) (c .rows) (x .way) ∙ H .ways;
+      costs = length-set c.cost c.rows x.cost ∙ H.costs;
+      periods = length-set c.period c.rows x.period ∙ H.periods;
+      firsts = length-set c.first c.rows x.first ∙ H.firsts;
+      seconds = length-set c.second c.rows x.second ∙ H.seconds;
+      ways = length-set c.way c.rows x.way ∙ H.ways;
     }
 
 -- ---- what a row becomes
 
 -- bytes that hold a row hold both halves of it
-pub fits-first : {x y : code.Row} {r : ℕ} → Fits x → r < 256 → numbersOf y ≡ toRelay r (numbersOf x) → Fits y
-fits-first F l e = record {
-  first = rw (ap (λ (z : Row). z .first) e) (F .first);
-  second = rw (ap (λ (z : Row). z .second) e) l;
-  way = rw (ap (λ (z : Row). z .way) e) (F .way);
+pub fits_first : {x y : code.Row} {r : ℕ} → Fits x → r < 256 → numbers_of y ≡ to_relay r (numbers_of x) → Fits y
+fits_first F l e = record {
+  first = rw (ap (λ (z : Row). z.first) e) F.first;
+  second = rw (ap (λ (z : Row). z.second) e) l;
+  way = rw (ap (λ (z : Row). z.way) e) F.way;
 }
 
-pub fits-second : {x y : code.Row} {r : ℕ} → Fits x → r < 256 → numbersOf y ≡ fromRelay r (numbersOf x) → Fits y
-fits-second F l e = record {
-  first = rw (ap (λ (z : Row). z .first) e) l;
-  second = rw (ap (λ (z : Row). z .second) e) (F .second);
-  way = rw (ap (λ (z : Row). z .way) e) (F .way);
+pub fits_second : {x y : code.Row} {r : ℕ} → Fits x → r < 256 → numbers_of y ≡ from_relay r (numbers_of x) → Fits y
+fits_second F l e = record {
+  first = rw (ap (λ (z : Row). z.first) e) l;
+  second = rw (ap (λ (z : Row). z.second) e) F.second;
+  way = rw (ap (λ (z : Row). z.way) e) F.way;
 }
 
 -- columns that got one row, or two
-pub holds-one : (M d : ℕ) (xs : List Row) {c : Columns} (r : ℕ) (goes : Bool) (x : Row) → goes ≡ false
-    → Holds (ofRows M d (xs ++ (x ∷ []))) c → Holds (ofRows M d (xs ++ becomes r goes x)) c
-holds-one M d xs r goes x e H = rw e H
+pub holds_one : (M d : ℕ) (xs : List Row) {c : Columns} (r : ℕ) (goes : Bool) (x : Row) → goes ≡ false
+    → Holds (of_rows M d (xs ++ (x ∷ []))) c → Holds (of_rows M d (xs ++ becomes r goes x)) c
+holds_one M d xs r goes x e H = rw e H
 
-pub holds-two : (M d : ℕ) (xs : List Row) {c : Columns} (r : ℕ) (goes : Bool) (x y z : Row) → goes ≡ true → y ≡ toRelay r x
-    → z ≡ fromRelay r x → Holds (ofRows M d ((xs ++ (y ∷ [])) ++ (z ∷ []))) c → Holds (ofRows M d (xs ++ becomes r goes x)) c
-holds-two M d xs {c} r goes x y z e p q H =
-    subst (λ (ys : List Row). Holds (ofRows M d ys) c)
-    (append-assoc xs (y ∷ []) (z ∷ []) ∙ ap (λ (ys : List Row). xs ++ ys) (ap₂ (λ (a b : Row). a ∷ b ∷ []) p q)
+pub holds_two : (M d : ℕ) (xs : List Row) {c : Columns} (r : ℕ) (goes : Bool) (x y z : Row) → goes ≡ true → y ≡ to_relay r x
+    → z ≡ from_relay r x → Holds (of_rows M d ((xs ++ (y ∷ [])) ++ (z ∷ []))) c → Holds (of_rows M d (xs ++ becomes r goes x)) c
+holds_two M d xs {c} r goes x y z e p q H =
+    subst (λ (ys : List Row). Holds (of_rows M d ys) c)
+    (append_assoc xs (y ∷ []) (z ∷ []) ∙ ap (λ (ys : List Row). xs ++ ys) (ap₂ (λ (a b : Row). a ∷ b ∷ []) p q)
     ∙ ap (λ (b : Bool). xs ++ becomes r b x) (sym e)) H
 
 -- ---- a table's own rows
 
 module _ (t : Table) where
-  pub fits-row : Sound t → {i : ℕ} → i < t .rows → {x : code.Row} → numbersOf x ≡ rowOf t i → Fits x
-  fits-row S {i} l e =
-      let R = S .row i l in
+  pub fits_row : Sound t → {i : ℕ} → i < t.rows → {x : code.Row} → numbers_of x ≡ row_of t i → Fits x
+  fits_row S {i} l e =
+      let R = S.row i l in
       record {
-        first = omega (arith, ap (λ (z : Row). z .first) e, R .first-high, S .elements-high);
-        second = omega (arith, ap (λ (z : Row). z .second) e, R .second-high, S .elements-high);
-        way = omega (arith, ap (λ (z : Row). z .way) e, R .way-known, S .rings-few);
+        first = omega (arith, ap (λ (z : Row). z.first) e, R.first_high, S.elements_high);
+        second = omega (arith, ap (λ (z : Row). z.second) e, R.second_high, S.elements_high);
+        way = omega (arith, ap (λ (z : Row). z.way) e, R.way_known, S.rings_few);
       }
 
   -- there is room for what row i becomes
-  pub room-for : (r i : ℕ) {b : Bool} (x : Row) {c : Columns} {M d : ℕ} → i < t .rows → split t r .rows ≤ max-rows → b ≡ through t i r
-      → Holds (ofRows M d (splitRows t r i)) c → c .rows + length (becomes r b x) ≤ max-rows
-  room-for r i x l few e H =
+  pub room_for : (r i : ℕ) {b : Bool} (x : Row) {c : Columns} {M d : ℕ} → i < t.rows → (split t r).rows ≤ max_rows → b ≡ through t i r
+      → Holds (of_rows M d (split_rows t r i)) c → c.rows + length (becomes r b x) ≤ max_rows
+  room_for r i x l few e H =
       omega (
         arith,
-        ap (λ (u : Table). u .rows) (H .table),
-        stands-more t r i x e,
-        stands-most t r (i + 1) (t .rows) (omega arith),
+        ap (λ (u : Table). u.rows) H.table,
+        stands_more t r i x e,
+        stands_most t r (i + 1) t.rows (omega arith),
         few,
       )
 
   -- what stands in the columns of one end, or of the directions, is what the row has
-  pub through-is : (i e : ℕ) {w a b : ℕ} {x : Bool} → w ≡ t .way i → a ≡ t .first i → b ≡ t .second i
-      → x ≡ routeThrough (t .elements) (mirror (t .elements) w a) (mirror (t .elements) w b) (mirror (t .elements) w e) → x ≡ through t i e
+  pub through_is : (i e : ℕ) {w a b : ℕ} {x : Bool} → w ≡ t.way i → a ≡ t.first i → b ≡ t.second i
+      → x ≡ route_through t.elements (mirror t.elements w a) (mirror t.elements w b) (mirror t.elements w e) → x ≡ through t i e
   unfolding through
-  through-is i e p q s h =
+  through_is i e p q s h =
       h
       ∙ (λ j.
-      routeThrough (t .elements) (mirror (t .elements) (p j) (q j)) (mirror (t .elements) (p j) (s j)) (mirror (t .elements) (p j) e))
+      route_through t.elements (mirror t.elements (p j) (q j)) (mirror t.elements (p j) (s j)) (mirror t.elements (p j) e))
 
 -- a row of columns has these numbers
-pub row-numbers : (c : Columns) {i w l : ℕ} {x : code.Row} → HasRow (c .cost) (c .period) (c .first) (c .second) i w l x
-    → w ≡ at (c .way) i → numbersOf x ≡ rowOf (tableOf c) i
-row-numbers c H e =
-    λ j. record { cost = H .cost j; period = H .period j; first = H .first j; second = H .second j; way = (H .way ∙ e) j }
+pub row_numbers_lem : (c : Columns) {i w l : ℕ} {x : code.Row} → HasRow c.cost c.period c.first c.second i w l x
+    → w ≡ at c.way i → numbers_of x ≡ row_of (table_of c) i
+row_numbers_lem c H e =
+    λ j. record { cost = H.cost j; period = H.period j; first = H.first j; second = H.second j; way = (H.way ∙ e) j }

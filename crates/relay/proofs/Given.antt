@@ -1,141 +1,141 @@
 -- A file's table split at a relay: 1 to 9 and 18 of the table as it is given, then 27 and 28.
-use mathlib.Core.Path.{_≡_, refl, sym, subst, _∙_}
-use mathlib.Core.Logic.{_≢_}
-use mathlib.Core.List.{List, [], _∷_, _++_}
-use Prim.Native.Nat.{ℕ, _≤_, _<_}
+use mathlib.Core.Path.{◌≡◌, refl, sym, subst, ◌∙◌}
+use mathlib.Core.Logic.{◌≢◌}
+use mathlib.Core.List.{List, []}
+use Prim.Native.Nat.{ℕ, ◌≤◌, ◌<◌}
 use native.Mathlib.Omega.{arith}
-use Rattle·numbers.proofs.Truth.{limits}
-use Rattle·rules.specs.Bounds.{max-rows}
-use Rattle·rules.specs.Bus.{Table}
-use Rattle·rules.specs.TableFile.{fileTable}
-use Rattle·rules.specs.Refusals.{Check, Answers, one-ring-checks, given-checks, wrong-relay, many-rows, relay-checks, split-checks}
-use Rattle·rules.proofs.Answers.{None, Numbered, applied, passed, done, stopped, joined, answered, none-of, none-join, none-left}
-use Rattle·rules.proofs.Answers.{none-right, numbered-join}
-use Rattle·table.specs.Sound.{Sound}
-use Rattle·table.specs.Columns.{Holds}
-use Rattle·table.specs.declared.Answer.{Answer}
-use Rattle·table.specs.declared.columns.Columns.{Columns}
-use Rattle·ring.specs.Route.{Element}
-use Rattle·pasted.proofs.AsGiven.{given-passed}
-use Rattle·pasted.proofs.OneRing.{one-ring-numbered}
-use Rattle·rules.specs.Relay.{split}
-use Rattle·relay·specs.specs.Splits.{unsplit, Splits}
-use Rattle·relay·proofs.proofs.Clear.{sound-split}
+use Rattle.numbers.proofs.Truth.{limits}
+use Rattle.rules.specs.Bounds.{max_rows}
+use Rattle.rules.specs.Bus.{Table}
+use Rattle.rules.specs.TableFile.{file_table}
+use Rattle.rules.specs.Refusals.{Check, Answers, one_ring_checks, given_checks, wrong_relay, many_rows, relay_checks, split_checks}
+use Rattle.rules.proofs.Answers.{None, Numbered, applied, passed, done, stopped, joined, answered, none_of, none_join, none_left}
+use Rattle.rules.proofs.Answers.{none_right, numbered_join}
+use Rattle.table.specs.Sound.{Sound}
+use Rattle.table.specs.Columns.{Holds}
+use Rattle.table.specs.declared.Answer.{Answer}
+use Rattle.table.specs.declared.columns.Columns.{Columns}
+use Rattle.ring.specs.Route.{Element}
+use Rattle.pasted.proofs.AsGiven.{given_passed}
+use Rattle.pasted.proofs.OneRing.{one_ring_numbered}
+use Rattle.rules.specs.Relay.{split}
+use Rattle.relay.specs.Splits.{unsplit, Splits}
+use Rattle.relay.proofs.Clear.{sound_split}
 
 -- ---- 27 and 28
 
 module _ (t : Table) (r : ℕ) where
   abbrev within : Type 0
-  within = (1 ≤ r) × (r ≤ t .elements)
+  within = (1 ≤ r) × (r ≤ t.elements)
 
-  pub no-relay : ¬ within → Answers (relay-checks t r) 27 0
-  unfolding relay-checks
-  no-relay h = applied (wrong-relay t r) _ 27 0 h refl refl
+  pub no_relay : ¬ within → Answers (relay_checks t r) 27 0
+  unfolding relay_checks
+  no_relay h = applied (wrong_relay t r) _ 27 0 h refl refl
 
-  pub too-many : within → max-rows < split t r .rows → Answers (relay-checks t r) 28 0
-  unfolding relay-checks
-  too-many w l = passed (wrong-relay t r) _ 28 0 (λ h. h w) (applied (many-rows t r) [] 28 0 l refl refl)
+  pub too_many : within → max_rows < (split t r).rows → Answers (relay_checks t r) 28 0
+  unfolding relay_checks
+  too_many w l = passed (wrong_relay t r) _ 28 0 (λ h. h w) (applied (many_rows t r) [] 28 0 l refl refl)
 
-  pub right-relay : within → split t r .rows ≤ max-rows → Answers (relay-checks t r) 0 0
-  unfolding relay-checks
-  right-relay w l =
-      passed (wrong-relay t r) _ 0 0 (λ h. h w) (passed (many-rows t r) [] 0 0 (λ m. let z : ⊥ = omega (arith, l, m) in z) done)
+  pub right_relay : within → (split t r).rows ≤ max_rows → Answers (relay_checks t r) 0 0
+  unfolding relay_checks
+  right_relay w l =
+      passed (wrong_relay t r) _ 0 0 (λ h. h w) (passed (many_rows t r) [] 0 0 (λ m. let z : ⊥ = omega (arith, l, m) in z) done)
 
-  pub relay-numbered : Numbered (relay-checks t r)
-  unfolding relay-checks Numbered
-  relay-numbered = (omega arith, (omega arith, tt))
+  pub relay_numbered : Numbered (relay_checks t r)
+  unfolding relay_checks Numbered
+  relay_numbered = (omega arith, (omega arith, tt))
 
-  pub relay-zero : (n : ℕ) → n ≡ 0 → Answers (relay-checks t r) n 0 → None (relay-checks t r)
-  relay-zero n z a = none-of (relay-checks t r) 0 relay-numbered (rw z at a)
+  pub relay_zero : (n : ℕ) → n ≡ 0 → Answers (relay_checks t r) n 0 → None (relay_checks t r)
+  relay_zero n z a = none_of (relay_checks t r) 0 relay_numbered (rw z at a)
 
   -- what passes them
-  module _ (n : None (relay-checks t r)) where
-    pub relay-element : Element (t .elements) r
-    unfolding relay-checks None
-    relay-element = let w = limits r 1 (t .elements) (n .0) in record { low = w .0; high = w .1 }
+  module _ (n : None (relay_checks t r)) where
+    pub relay_element : Element t.elements r
+    unfolding relay_checks None
+    relay_element = let w = limits r 1 t.elements n.0 in record { low = w.0; high = w.1 }
 
-    pub few-rows : split t r .rows ≤ max-rows
-    unfolding relay-checks None
-    few-rows = let m = n .1 .0 in omega (arith, m)
+    pub few_rows : (split t r).rows ≤ max_rows
+    unfolding relay_checks None
+    few_rows = let m = n.1.0 in omega (arith, m)
 
 -- ---- of a file
 
 module _ (f : List ℕ) (r : ℕ) where
   abbrev t : Table
-  t = fileTable f
+  t = file_table f
 
   abbrev given : List Check
-  given = one-ring-checks f (given-checks f)
+  given = one_ring_checks f (given_checks f)
 
-  pub given-zero : (a : Answer) → a .number ≡ 0 → Answers given (a .number) (a .place) → None given
-  given-zero a z g = none-of given (a .place) (one-ring-numbered f) (rw z at g)
+  pub given_zero : (a : Answer) → a.number ≡ 0 → Answers given a.number a.place → None given
+  given_zero a z g = none_of given a.place (one_ring_numbered f) (rw z at g)
 
-  pub sound-given : None given → Sound t
+  pub sound_given : None given → Sound t
   unfolding None
-  sound-given n = given-passed f (n .1 .1) .sound
+  sound_given n = (given_passed f n.1.1).sound
 
   -- columns that hold the table
   module _ (u : Table) where
-    pub columns-sound : None given → u ≡ t → Sound u
-    columns-sound n e = subst Sound (sym e) (sound-given n)
+    pub columns_sound : None given → u ≡ t → Sound u
+    columns_sound n e = subst Sound (sym e) (sound_given n)
 
-    pub relay-held : u ≡ t → (n : ℕ) → Answers (relay-checks u r) n 0 → Answers (relay-checks t r) n 0
-    relay-held e n a = subst (λ (v : Table). Answers (relay-checks v r) n 0) e a
+    pub relay_held : u ≡ t → (n : ℕ) → Answers (relay_checks u r) n 0 → Answers (relay_checks t r) n 0
+    relay_held e n a = subst (λ (v : Table). Answers (relay_checks v r) n 0) e a
 
-    pub none-held : u ≡ t → None (relay-checks u r) → None (relay-checks t r)
-    none-held e n = subst (λ (v : Table). None (relay-checks v r)) e n
+    pub none_held : u ≡ t → None (relay_checks u r) → None (relay_checks t r)
+    none_held e n = subst (λ (v : Table). None (relay_checks v r)) e n
 
-    pub split-held : u ≡ t → {c : Columns} → Holds (split u r) c → Holds (split t r) c
-    split-held e {c} H = subst (λ (v : Table). Holds (split v r) c) e H
+    pub split_held : u ≡ t → {c : Columns} → Holds (split u r) c → Holds (split t r) c
+    split_held e {c} H = subst (λ (v : Table). Holds (split v r) c) e H
 
-  pub split-numbered : Numbered (split-checks f r)
-  unfolding split-checks
-  split-numbered = numbered-join given (relay-checks t r) (one-ring-numbered f) (relay-numbered t r)
+  pub split_numbered : Numbered (split_checks f r)
+  unfolding split_checks
+  split_numbered = numbered_join given (relay_checks t r) (one_ring_numbered f) (relay_numbered t r)
 
   -- what passes all of them is a sound table, split at an element
-  module _ (n : None (split-checks f r)) where
-    given-none : None given
-    unfolding split-checks
-    given-none = none-left given (relay-checks t r) n
+  module _ (n : None (split_checks f r)) where
+    given_none : None given
+    unfolding split_checks
+    given_none = none_left given (relay_checks t r) n
 
-    relay-none : None (relay-checks t r)
-    unfolding split-checks
-    relay-none = none-right given (relay-checks t r) n
+    relay_none : None (relay_checks t r)
+    unfolding split_checks
+    relay_none = none_right given (relay_checks t r) n
 
-    pub split-element : Element (t .elements) r
-    split-element = relay-element t r relay-none
+    pub split_element : Element t.elements r
+    split_element = relay_element t r relay_none
 
-    pub given-sound : Sound t
-    given-sound = sound-given given-none
+    pub given_sound : Sound t
+    given_sound = sound_given given_none
 
-    pub split-sound : Sound (split t r)
-    split-sound = sound-split t split-element given-sound (few-rows t r relay-none)
+    pub split_sound : Sound (split t r)
+    split_sound = sound_split t split_element given_sound (few_rows t r relay_none)
 
   -- ---- the columns of each outcome
 
   module _ (a : Answer) where
-    pub splits-given : a .number ≢ 0 → Answers given (a .number) (a .place) → Splits f r (unsplit a)
-    unfolding split-checks
-    splits-given h g = record {
-      answers = stopped given (relay-checks t r) (a .number) (a .place) h g;
+    pub splits_given : a.number ≢ 0 → Answers given a.number a.place → Splits f r (unsplit a)
+    unfolding split_checks
+    splits_given h g = record {
+      answers = stopped given (relay_checks t r) a.number a.place h g;
       passed = λ z. absurd (h z);
       refused = λ z. refl;
     }
 
-    pub splits-relay : {n : ℕ} → None given → Answers (relay-checks t r) n 0 → n ≢ 0 → (a .number ≡ n) × (a .place ≡ 0)
+    pub splits_relay : {n : ℕ} → None given → Answers (relay_checks t r) n 0 → n ≢ 0 → (a.number ≡ n) × (a.place ≡ 0)
         → Splits f r (unsplit a)
-    unfolding split-checks
-    splits-relay {n} p q h e = record {
-      answers = rw (e .0, e .1) (joined given (relay-checks t r) n 0 p q);
-      passed = λ z. absurd (h (sym (e .0) ∙ z));
+    unfolding split_checks
+    splits_relay {n} p q h e = record {
+      answers = rw (e.0, e.1) (joined given (relay_checks t r) n 0 p q);
+      passed = λ z. absurd (h (sym e.0 ∙ z));
       refused = λ z. refl;
     }
 
-    pub splits-done : {c : Columns} → None given → None (relay-checks t r) → (a .number ≡ 0) × (a .place ≡ 0) → Holds (split t r) c
+    pub splits_done : {c : Columns} → None given → None (relay_checks t r) → (a.number ≡ 0) × (a.place ≡ 0) → Holds (split t r) c
         → Splits f r (record { answer = a; columns = c })
-    unfolding split-checks
-    splits-done p q e H = record {
-      answers = rw (e .0, e .1) (answered (split-checks f r) (none-join given (relay-checks t r) p q));
+    unfolding split_checks
+    splits_done p q e H = record {
+      answers = rw (e.0, e.1) (answered (split_checks f r) (none_join given (relay_checks t r) p q));
       passed = λ z. H;
-      refused = λ z. absurd (z (e .0));
+      refused = λ z. absurd (z e.0);
     }

@@ -1,26 +1,23 @@
 // A table split at a relay (#113): each row through it becomes two rows, to the relay and from there.
-use table::Answer;
-use table::Columns;
-use table::Row;
-use table::Table;
-ghost use mathlib.Core.Path.{_≡_};
-ghost use mathlib.Core.List.{List, [], _∷_, _++_};
-ghost use Prim.Native.Nat.{ℕ, _+_, _≤_, _<_};
-ghost use lib.ListN.{length};
-ghost use Rattle·rules.specs.Bounds.{max-rows};
-ghost use Rattle·rules.specs.Bus as bus;
-ghost use Rattle·rules.specs.Refusals.{Answers, relay-checks};
-ghost use Rattle·table.specs.Sound.{Sound};
-ghost use Rattle·table.specs.Columns.{tableOf, Holds};
-ghost use Rattle·ring.specs.Route.{Element};
-ghost use Rattle·rules.specs.Relay.{ofRows, toRelay, fromRelay, becomes};
-ghost use Rattle·rules.specs.Relay as rules;
-ghost use Rattle·relay·specs.specs.Splitting.{numbersOf, Fits};
-ghost use Rattle·relay·specs.specs.Splits.{unsplit, Splits};
+#![tactic(auto)]
+
+ghost use Rattle.std.specs.Prelude.{◌≡◌, List, [], ◌∷◌, ◌++◌, ℕ, ◌+◌, ◌≤◌, ◌<◌, length};
+ghost use Rattle.rules.specs.Bounds.{max_rows};
+ghost use Rattle.rules.specs.Bus as bus;
+ghost use Rattle.rules.specs.Refusals.{Answers, relay_checks};
+ghost use Rattle.table.specs.Sound.{Sound};
+ghost use Rattle.table.specs.Columns.{table_of, Holds};
+ghost use Rattle.ring.specs.Route.{Element};
+ghost use Rattle.rules.specs.Relay.{of_rows, to_relay, from_relay, becomes};
+ghost use Rattle.rules.specs.Relay as rules;
+ghost use Rattle.relay.specs.Splitting.{numbers_of, Fits};
+ghost use Rattle.relay.specs.Splits.{unsplit, Splits};
+
+use table::{Answer, Columns, Row, Table};
 
 // The first half of a row: to the relay.
 fn to_relay(row: Row, relay: u16) -> Row
-    ensures { λ r. ⌜ numbersOf r ≡ toRelay relay (numbersOf row) ⌝ }
+    ensures { numbers_of result ≡ to_relay relay (numbers_of row) }
 {
     Row {
         cost: row.cost,
@@ -34,7 +31,7 @@ fn to_relay(row: Row, relay: u16) -> Row
 
 // Its second half: from there.
 fn from_relay(row: Row, relay: u16) -> Row
-    ensures { λ r. ⌜ numbersOf r ≡ fromRelay relay (numbersOf row) ⌝ }
+    ensures { numbers_of result ≡ from_relay relay (numbers_of row) }
 {
     Row {
         cost: row.cost,
@@ -48,7 +45,7 @@ fn from_relay(row: Row, relay: u16) -> Row
 
 // The columns of a table with no rows yet.
 fn no_rows(elements: usize, rings: usize) -> Columns
-    ensures { λ r. ⌜ Holds (ofRows elements rings []) r ⌝ }
+    ensures { Holds (of_rows elements rings []) result }
 {
     Columns {
         elements: elements,
@@ -64,9 +61,9 @@ fn no_rows(elements: usize, rings: usize) -> Columns
 
 // Columns with one more row.
 fn with_row(columns: Columns, row: Row) -> Columns
-    requires { ⌜ (columns .rows < max-rows) × Fits row ⌝ }
-    ensures { λ r. ⌜ (r .rows ≡ columns .rows + 1) × ((M d : ℕ) (xs : List rules.Row) → Holds (ofRows M d xs) columns
-        → Holds (ofRows M d (xs ++ (numbersOf row ∷ []))) r) ⌝ }
+    requires { (columns.rows < max_rows) × Fits row }
+    ensures { (result.rows ≡ columns.rows + 1) × ((M d : ℕ) (xs : List rules.Row) → Holds (of_rows M d xs) columns
+        → Holds (of_rows M d (xs ++ (numbers_of row ∷ []))) result) }
 {
     let k = columns.rows;
     let mut cost = columns.cost;
@@ -93,9 +90,9 @@ fn with_row(columns: Columns, row: Row) -> Columns
 
 // Columns with what a row becomes, which goes through the relay or doesn't.
 fn with_parts(columns: Columns, row: Row, relay: u16, goes: bool) -> Columns
-    requires { ⌜ (columns .rows + length (becomes relay goes (numbersOf row)) ≤ max-rows) × Fits row × (relay < 256) ⌝ }
-    ensures { λ r. ⌜ ((M d : ℕ) (xs : List rules.Row) → Holds (ofRows M d xs) columns
-        → Holds (ofRows M d (xs ++ becomes relay goes (numbersOf row))) r) ⌝ }
+    requires { (columns.rows + length (becomes relay goes (numbers_of row)) ≤ max_rows) × Fits row × (relay < 256) }
+    ensures { (M d : ℕ) (xs : List rules.Row) → Holds (of_rows M d xs) columns
+        → Holds (of_rows M d (xs ++ becomes relay goes (numbers_of row))) result }
 {
     if goes {
         let half = with_row(columns, to_relay(row, relay));
@@ -105,8 +102,8 @@ fn with_parts(columns: Columns, row: Row, relay: u16, goes: bool) -> Columns
 }
 
 fn row_of(columns: Columns, i: usize) -> Row
-    requires { ⌜ i < max-rows ⌝ }
-    ensures { λ r. ⌜ numbersOf r ≡ rules.rowOf (tableOf columns) i ⌝ }
+    requires { i < max_rows }
+    ensures { numbers_of result ≡ rules.row_of (table_of columns) i }
 {
     let way = table::end_at(&columns.way, i);
     table::row_at(
@@ -122,8 +119,8 @@ fn row_of(columns: Columns, i: usize) -> Row
 
 // Row `i` goes through the relay.
 fn goes(columns: Columns, i: usize, relay: usize) -> bool
-    requires { ⌜ Sound (tableOf columns) × Element (columns .elements) relay × (i < columns .rows) ⌝ }
-    ensures { λ r. ⌜ r ≡ bus.through (tableOf columns) i relay ⌝ }
+    requires { Sound (table_of columns) × Element columns.elements relay × (i < columns.rows) }
+    ensures { result ≡ bus.through (table_of columns) i relay }
 {
     ring::goes_through(
         columns.elements,
@@ -136,15 +133,15 @@ fn goes(columns: Columns, i: usize, relay: usize) -> bool
 
 // How many rows a row becomes, which goes through the relay or doesn't.
 fn parts(goes: bool) -> usize
-    ensures { λ r. ⌜ ((relay : ℕ) (row : rules.Row) → r ≡ length (becomes relay goes row)) × (r ≤ 2) ⌝ }
+    ensures { ((relay : ℕ) (row : rules.Row) → result ≡ length (becomes relay goes row)) × (result ≤ 2) }
 {
     if goes { 2 } else { 1 }
 }
 
 // How many rows a table has when it is split.
 fn rows_split(given: Columns, relay: usize) -> usize
-    requires { ⌜ Sound (tableOf given) × Element (given .elements) relay ⌝ }
-    ensures { λ r. ⌜ r ≡ rules.split (tableOf given) relay .rows ⌝ }
+    requires { Sound (table_of given) × Element given.elements relay }
+    ensures { result ≡ (rules.split (table_of given) relay).rows }
 {
     let mut rows: usize = 0;
     let mut i: usize = 0;
@@ -157,8 +154,8 @@ fn rows_split(given: Columns, relay: usize) -> usize
 
 // The table split, where its rows have room then.
 fn split_at(given: Columns, relay: usize) -> Columns
-    requires { ⌜ Sound (tableOf given) × Element (given .elements) relay × (rules.split (tableOf given) relay .rows ≤ max-rows) ⌝ }
-    ensures { λ r. ⌜ Holds (rules.split (tableOf given) relay) r ⌝ }
+    requires { Sound (table_of given) × Element given.elements relay × ((rules.split (table_of given) relay).rows ≤ max_rows) }
+    ensures { Holds (rules.split (table_of given) relay) result }
 {
     let mut split = no_rows(given.elements, given.rings);
     let mut i: usize = 0;
@@ -174,6 +171,7 @@ fn split_at(given: Columns, relay: usize) -> Columns
 // ---- a file's table
 
 // A file's table split at a relay, or why it is refused; the columns are all 0 then.
+#[derive(Clone, Copy)]
 pub struct Split {
     pub answer: Answer,
     pub columns: Columns,
@@ -181,7 +179,7 @@ pub struct Split {
 
 impl Split {
     fn refused(answer: Answer) -> Split
-        ensures { λ r. ⌜ r ≡ unsplit answer ⌝ }
+        ensures { result ≡ unsplit answer }
     {
         Split {
             answer: answer,
@@ -192,8 +190,8 @@ impl Split {
 
 // Checks 27 and 28.
 fn relay_fault(given: Columns, relay: usize) -> u32
-    requires { ⌜ Sound (tableOf given) ⌝ }
-    ensures { λ r. ⌜ Answers (relay-checks (tableOf given) relay) r 0 ⌝ }
+    requires { Sound (table_of given) }
+    ensures { Answers (relay_checks (table_of given) relay) result 0 }
 {
     if relay == 0 {
         return Answer::WRONG_RELAY;
@@ -209,7 +207,7 @@ fn relay_fault(given: Columns, relay: usize) -> u32
 
 // The table of a file split at a relay, or the first refusal of 1 to 9, 18, 27 and 28. One ring alone is taken.
 pub fn split_file(file: &[u8], relay: usize) -> Split
-    ensures { λ r. ⌜ Splits (now (file .entry)) relay r ⌝ }
+    ensures { Splits file.now relay result }
 {
     let found = pasted::given_one_ring(file);
     let answer = found.answer;

@@ -1,135 +1,135 @@
 -- The analysis and the outline with a relay of each outcome, the checks of the verdict with a relay as a whole, and that only one answer
 -- fits.
-use mathlib.Core.Path.{_≡_, sym, subst}
-use mathlib.Core.Logic.{_≢_}
-use mathlib.Core.List.{List, [], _∷_, _++_, append-assoc}
+use mathlib.Core.Path.{◌≡◌, sym, subst}
+use mathlib.Core.Logic.{◌≢◌}
+use mathlib.Core.List.{List, [], ◌∷◌, ◌++◌, append_assoc}
 use Prim.Native.Nat.{ℕ}
 use native.Mathlib.Omega.{arith}
-use Rattle·rules.specs.Bus.{Table}
-use Rattle·rules.specs.TableFile.{fileTable}
-use Rattle·rules.specs.Relay.{split}
-use Rattle·rules.specs.Refusals.{Check, Answers, long-hyperperiod, cut-checks, line-checks, bound-checks}
-use Rattle·rules.specs.Refusals.{split-checks, relayed-line-checks, relayed-checks}
-use Rattle·rules.specs.Calls.{relayedLineAsk, Listed}
-use Rattle·rules.proofs.Answers.{None, Numbered, stopped, joined, unjoined, none-of, none-join, none-left, none-right, numbered-join}
-use Rattle·table.specs.Sound.{Sound}
-use Rattle·table.specs.declared.Answer.{Answer}
-use Rattle·relay.proofs.Clear.{no-uncut}
-use Rattle·relay.proofs.Given.{split-numbered, split-element, split-sound}
-use Rattle·lags.specs.Lags.{Admissible}
-use Rattle·outline.specs.declared.Outline.{Outline}
-use Rattle·outline.specs.Outlined.{Outlined}
-use Rattle·outline.specs.Outlined as outline
-use Rattle·outline.proofs.Outlined.{outlined-refused}
-use Rattle·outline.proofs.Listed.{listed-only}
-use Rattle·verdict.specs.declared.Analysis.{Analysis}
-use Rattle·verdict.specs.declared.Verdict.{Verdict}
-use Rattle·verdict.specs.Verdict.{JudgedBy}
-use Rattle·verdict.specs.Analysed.{table-checks, blank, Analysed}
-use Rattle·verdict.proofs.Bound.{bound-numbered, table-admissible}
-use Rattle·verdict.proofs.Judging.{judged-by-only}
-use Rattle·verdict.proofs.Analysing.{analysed-refused, analysed-after}
+use Rattle.rules.specs.Bus.{Table}
+use Rattle.rules.specs.TableFile.{file_table}
+use Rattle.rules.specs.Relay.{split}
+use Rattle.rules.specs.Refusals.{Check, Answers, long_hyperperiod, cut_checks, line_checks, bound_checks}
+use Rattle.rules.specs.Refusals.{split_checks, relayed_line_checks, relayed_checks}
+use Rattle.rules.specs.Calls.{relayed_line_ask, Listed}
+use Rattle.rules.proofs.Answers.{None, Numbered, stopped, joined, unjoined, none_of, none_join, none_left, none_right, numbered_join}
+use Rattle.table.specs.Sound.{Sound}
+use Rattle.table.specs.declared.Answer.{Answer}
+use Rattle.relay.proofs.Clear.{no_uncut}
+use Rattle.relay.proofs.Given.{split_numbered, split_element, split_sound}
+use Rattle.lags.specs.Lags.{Admissible}
+use Rattle.outline.specs.declared.Outline.{Outline}
+use Rattle.outline.specs.Outlined.{Outlined}
+use Rattle.outline.specs.Outlined as outline
+use Rattle.outline.proofs.Outlined.{outlined_refused}
+use Rattle.outline.proofs.Listed.{listed_only}
+use Rattle.verdict.specs.declared.Analysis.{Analysis}
+use Rattle.verdict.specs.declared.Verdict.{Verdict}
+use Rattle.verdict.specs.Verdict.{JudgedBy}
+use Rattle.verdict.specs.Analysed.{table_checks, blank, Analysed}
+use Rattle.verdict.proofs.Bound.{bound_numbered, table_admissible}
+use Rattle.verdict.proofs.Judging.{judged_by_only}
+use Rattle.verdict.proofs.Analysing.{analysed_refused, analysed_after}
 
 module _ (f : List ℕ) (r : ℕ) where
   abbrev t : Table
-  t = split (fileTable f) r
+  t = split (file_table f) r
 
   -- 11
   abbrev long : List Check
-  long = long-hyperperiod t ∷ []
+  long = long_hyperperiod t ∷ []
 
   -- 11, 13 and 14
   abbrev pub past : List Check
-  past = long-hyperperiod t ∷ bound-checks t
+  past = long_hyperperiod t ∷ bound_checks t
 
-  pub relayed-whole : relayed-checks f r ≡ split-checks f r ++ past
-  unfolding relayed-checks relayed-line-checks
-  relayed-whole = append-assoc (split-checks f r) long (bound-checks t)
+  pub relayed_whole : relayed_checks f r ≡ split_checks f r ++ past
+  unfolding relayed_checks relayed_line_checks
+  relayed_whole = append_assoc (split_checks f r) long (bound_checks t)
 
   -- with 10 before them they are the checks of any table
-  pub past-cut : table-checks t ≡ cut-checks t ++ past
-  unfolding line-checks
-  past-cut = append-assoc (cut-checks t) long (bound-checks t)
+  pub past_cut : table_checks t ≡ cut_checks t ++ past
+  unfolding line_checks
+  past_cut = append_assoc (cut_checks t) long (bound_checks t)
 
-  pub split-zero : (a : Answer) → a .number ≡ 0 → Answers (split-checks f r) (a .number) (a .place) → None (split-checks f r)
-  split-zero a z g = none-of (split-checks f r) (a .place) (split-numbered f r) (rw z at g)
+  pub split_zero : (a : Answer) → a.number ≡ 0 → Answers (split_checks f r) a.number a.place → None (split_checks f r)
+  split_zero a z g = none_of (split_checks f r) a.place (split_numbered f r) (rw z at g)
 
   -- columns that hold the split table
-  pub columns-sound : None (split-checks f r) → (u : Table) → u ≡ t → Sound u
-  columns-sound n u e = subst Sound (sym e) (split-sound f r n)
+  pub columns_sound : None (split_checks f r) → (u : Table) → u ≡ t → Sound u
+  columns_sound n u e = subst Sound (sym e) (split_sound f r n)
 
   -- 10 does not occur
-  no-cuts : None (split-checks f r) → None (cut-checks t)
-  no-cuts n = no-uncut (fileTable f) (split-element f r n)
+  no_cuts : None (split_checks f r) → None (cut_checks t)
+  no_cuts n = no_uncut (file_table f) (split_element f r n)
 
   -- ---- the analysis of each outcome
 
   -- 1 to 9, 18, 27 or 28
-  pub relayed-stopped : (a : Answer) → a .number ≢ 0 → Answers (split-checks f r) (a .number) (a .place)
-      → Analysed (relayed-checks f r) t (blank a)
-  relayed-stopped a h g =
-      rw relayed-whole (analysed-refused a h (stopped (split-checks f r) past (a .number) (a .place) h g))
+  pub relayed_stopped : (a : Answer) → a.number ≢ 0 → Answers (split_checks f r) a.number a.place
+      → Analysed (relayed_checks f r) t (blank a)
+  relayed_stopped a h g =
+      rw relayed_whole (analysed_refused a h (stopped (split_checks f r) past a.number a.place h g))
 
   -- past these the analysis of columns that hold the split table is the file's
-  pub relayed-past : None (split-checks f r) → (u : Table) → u ≡ t → {a : Analysis} → Analysed (table-checks u) u a
-      → Analysed (relayed-checks f r) t a
-  relayed-past n u e {a} A =
-      let B : Analysed (table-checks t) t a = subst (λ (v : Table). Analysed (table-checks v) v a) e A in
-      rw relayed-whole
-      (analysed-after (split-checks f r) past n
+  pub relayed_past : None (split_checks f r) → (u : Table) → u ≡ t → {a : Analysis} → Analysed (table_checks u) u a
+      → Analysed (relayed_checks f r) t a
+  relayed_past n u e {a} A =
+      let B : Analysed (table_checks t) t a = subst (λ (v : Table). Analysed (table_checks v) v a) e A in
+      rw relayed_whole
+      (analysed_after (split_checks f r) past n
       (record {
-        answers = unjoined (cut-checks t) past (a .outline .answer .number) (a .outline .answer .place) (no-cuts n)
-            (rw past-cut at (B .answers));
-        found = B .found;
-        refused = B .refused;
+        answers = unjoined (cut_checks t) past a.outline.answer.number a.outline.answer.place (no_cuts n)
+            (rw past_cut at B.answers);
+        found = B.found;
+        refused = B.refused;
       }))
 
   -- ---- and the outline
 
-  pub line-stopped : (a : Answer) → a .number ≢ 0 → Answers (split-checks f r) (a .number) (a .place)
-      → Outlined (relayed-line-checks f r) t (outline.blank a)
-  unfolding relayed-line-checks
-  line-stopped a h g = outlined-refused a h (stopped (split-checks f r) long (a .number) (a .place) h g)
+  pub line_stopped : (a : Answer) → a.number ≢ 0 → Answers (split_checks f r) a.number a.place
+      → Outlined (relayed_line_checks f r) t (outline.blank a)
+  unfolding relayed_line_checks
+  line_stopped a h g = outlined_refused a h (stopped (split_checks f r) long a.number a.place h g)
 
-  pub line-past : None (split-checks f r) → (u : Table) → u ≡ t → {o : Outline} → Outlined (line-checks u) u o
-      → Outlined (relayed-line-checks f r) t o
-  unfolding relayed-line-checks line-checks
-  line-past n u e {o} O =
-      let B : Outlined (line-checks t) t o = subst (λ (v : Table). Outlined (line-checks v) v o) e O in
+  pub line_past : None (split_checks f r) → (u : Table) → u ≡ t → {o : Outline} → Outlined (line_checks u) u o
+      → Outlined (relayed_line_checks f r) t o
+  unfolding relayed_line_checks line_checks
+  line_past n u e {o} O =
+      let B : Outlined (line_checks t) t o = subst (λ (v : Table). Outlined (line_checks v) v o) e O in
       record {
-        answers = joined (split-checks f r) long (o .answer .number) (o .answer .place) n
-            (unjoined (cut-checks t) long (o .answer .number) (o .answer .place) (no-cuts n) (B .answers));
-        found = B .found;
-        refused = B .refused;
+        answers = joined (split_checks f r) long o.answer.number o.answer.place n
+            (unjoined (cut_checks t) long o.answer.number o.answer.place (no_cuts n) B.answers);
+        found = B.found;
+        refused = B.refused;
       }
 
   -- ---- the checks as a whole
 
-  pub relayed-numbered : Numbered (relayed-checks f r)
+  pub relayed_numbered : Numbered (relayed_checks f r)
   unfolding Numbered
-  relayed-numbered =
-      rw relayed-whole (numbered-join (split-checks f r) past (split-numbered f r) (omega arith, bound-numbered t))
+  relayed_numbered =
+      rw relayed_whole (numbered_join (split_checks f r) past (split_numbered f r) (omega arith, bound_numbered t))
 
-  pub line-numbered : Numbered (relayed-line-checks f r)
-  unfolding relayed-line-checks Numbered
-  line-numbered = numbered-join (split-checks f r) long (split-numbered f r) (omega arith, tt)
+  pub line_numbered : Numbered (relayed_line_checks f r)
+  unfolding relayed_line_checks Numbered
+  line_numbered = numbered_join (split_checks f r) long (split_numbered f r) (omega arith, tt)
 
-  pub relayed-split : None (relayed-checks f r) → None (split-checks f r)
-  relayed-split n = none-left (split-checks f r) past (rw relayed-whole at n)
+  pub relayed_split : None (relayed_checks f r) → None (split_checks f r)
+  relayed_split n = none_left (split_checks f r) past (rw relayed_whole at n)
 
-  pub relayed-admissible : None (relayed-checks f r) → Admissible t
-  relayed-admissible n =
-      let s = relayed-split n in
-      table-admissible t (split-sound f r s)
-      (rw past-cut (none-join (cut-checks t) past (no-cuts s) (none-right (split-checks f r) past (rw relayed-whole at n))))
+  pub relayed_admissible : None (relayed_checks f r) → Admissible t
+  relayed_admissible n =
+      let s = relayed_split n in
+      table_admissible t (split_sound f r s)
+      (rw past_cut (none_join (cut_checks t) past (no_cuts s) (none_right (split_checks f r) past (rw relayed_whole at n))))
 
   -- ---- only one answer fits
 
-  pub relayed-only : (v w : Verdict) → JudgedBy (relayed-checks f r) t v → JudgedBy (relayed-checks f r) t w → v ≡ w
-  relayed-only = judged-by-only (λ n. relayed-admissible n .sound .rows-low) relayed-numbered
+  pub relayed_only : (v w : Verdict) → JudgedBy (relayed_checks f r) t v → JudgedBy (relayed_checks f r) t w → v ≡ w
+  relayed_only = judged_by_only (λ n. (relayed_admissible n).sound.rows_low) relayed_numbered
 
-  pub relayed-list-only : (was now then : List ℕ) (n m p q s k : ℕ) → Listed (relayedLineAsk f r) was now n p s
-      → Listed (relayedLineAsk f r) was then m q k → (now ≡ then) × (n ≡ m) × (p ≡ q) × (s ≡ k)
-  unfolding relayed-line-checks
-  relayed-list-only =
-      listed-only (relayedLineAsk f r) line-numbered (λ n. split-sound f r (none-left (split-checks f r) long n) .rows-low)
+  pub relayed_list_only : (was now then : List ℕ) (n m p q s k : ℕ) → Listed (relayed_line_ask f r) was now n p s
+      → Listed (relayed_line_ask f r) was then m q k → (now ≡ then) × (n ≡ m) × (p ≡ q) × (s ≡ k)
+  unfolding relayed_line_checks
+  relayed_list_only =
+      listed_only (relayed_line_ask f r) line_numbered (λ n. (split_sound f r (none_left (split_checks f r) long n)).rows_low)

@@ -1,27 +1,27 @@
 -- Lines of the bits of a word that are set.
-use mathlib.Core.Path.{_≡_, ap, subst, fun-ext}
+use mathlib.Core.Path.{◌≡◌, ap, subst, fun_ext}
 use mathlib.Core.Bool.{Bool, cond}
-use mathlib.Core.List.{List, [], _∷_}
-use Prim.Native.Nat.{ℕ, _/_, _%_, _^_}
-use borrow.Author.Tests.{ne-eqb}
+use mathlib.Core.List.{List, [], ◌∷◌}
+use Prim.Native.Nat.{ℕ, ◌/◌, ◌%◌, ◌^◌}
+use borrow.Author.Tests.{ne_eqb}
 use lib.Dec.{eqb}
-use Rattle·numbers.specs.Word.{bit}
-use Rattle·rules.specs.Text.{Line, text}
-use Rattle·decimal.specs.Puts.{Puts, PutsLines}
-use Rattle·report·specs.specs.MeetLines.{memberLines}
+use Rattle.numbers.specs.Word.{bit}
+use Rattle.rules.specs.Text.{Line, text}
+use Rattle.decimal.specs.Puts.{Puts, PutsLines}
+use Rattle.report.specs.MeetLines.{member_lines}
 
 -- `(word >> k) % 2 == 1`, as the loop tests it
 module _ (l : Line) (w k : ℕ) where
-  pub member-line : w / 2 ^ k % 2 ≡ 1 → cond (bit w k) (l ∷ []) [] ≡ l ∷ []
+  pub member_line : w / 2 ^ k % 2 ≡ 1 → cond (bit w k) (l ∷ []) [] ≡ l ∷ []
   unfolding bit
-  member-line e = ap (λ (x : ℕ). cond (eqb x 1) (l ∷ []) []) e
+  member_line e = ap (λ (x : ℕ). cond (eqb x 1) (l ∷ []) []) e
 
-  pub no-line : (w / 2 ^ k % 2 ≡ 1 → ⊥) → cond (bit w k) (l ∷ []) [] ≡ []
+  pub no_line : (w / 2 ^ k % 2 ≡ 1 → ⊥) → cond (bit w k) (l ∷ []) [] ≡ []
   unfolding bit
-  no-line h = ap (λ (b : Bool). cond b (l ∷ []) []) (ne-eqb (w / 2 ^ k % 2) 1 h)
+  no_line h = ap (λ (b : Bool). cond b (l ∷ []) []) (ne_eqb (w / 2 ^ k % 2) 1 h)
 
 -- the same lines under another name
-pub put-same : (f g : ℕ → Line) (n w : ℕ) {was now : List ℕ} {at next : ℕ} → ((k : ℕ) → f k ≡ g k)
-    → PutsLines (memberLines f n w) n was at now next → PutsLines (memberLines g n w) n was at now next
-put-same f g n w {was} {now} {at} {next} e P =
-    (subst (λ (h : ℕ → Line). Puts (text (memberLines h n w)) was at now next) (fun-ext e) (P .0), P .1)
+pub put_same : (f g : ℕ → Line) (n w : ℕ) {was now : List ℕ} {at next : ℕ} → ((k : ℕ) → f k ≡ g k)
+    → PutsLines (member_lines f n w) n was at now next → PutsLines (member_lines g n w) n was at now next
+put_same f g n w {was} {now} {at} {next} e P =
+    (subst (λ (h : ℕ → Line). Puts (text (member_lines h n w)) was at now next) (fun_ext e) P.0, P.1)

@@ -1,64 +1,64 @@
 -- Only one answer of `render`, of `render_relayed` and of `put_analysis` fits.
-use mathlib.Core.Path.{_≡_, sym, ap, ap₂, _∙_}
-use mathlib.Core.List.{List, [], _∷_}
-use Prim.Native.Nat.{ℕ, _+_}
-use native.Mathlib.Decide.{ℕ-discrete}
+use mathlib.Core.Path.{◌≡◌, sym, ap, ap₂, ◌∙◌}
+use mathlib.Core.List.{List, [], ◌∷◌}
+use Prim.Native.Nat.{ℕ, ◌+◌}
+use native.Mathlib.Decide.{ℕ_discrete}
 use lib.ListN.{length, take}
 use lib.Seq.{sets}
-use Rattle·rules.specs.Calls.{Ask, fileAsk, relayedAsk}
-use Rattle·rules.specs.Calls as calls
-use Rattle·rules.specs.Text.{Line, text}
-use Rattle·rules.specs.Program.{verdict, table-lines, max-input, PrintedFor, refused, admitted}
-use Rattle·rules.proofs.Answers.{Numbered, none-of, answers-only}
-use Rattle·rules.proofs.Sets.{sets-only}
-use Rattle·rules.proofs.Plans.{plan-only}
-use Rattle·verdict.specs.declared.Analysis.{Analysis}
-use Rattle·planner.specs.Proper.{Proper}
-use Rattle·planner.specs.Analysed.{Usable}
-use Rattle·planner.proofs.Asks.{file-proper}
-use Rattle·relayed.proofs.Checked.{relayed-numbered, relayed-admissible}
-use Rattle·report·specs.specs.Rendered.{RenderedFor, Rendered, RelayRendered, RenderedOn}
+use Rattle.rules.specs.Calls.{Ask, file_ask, relayed_ask}
+use Rattle.rules.specs.Calls as calls
+use Rattle.rules.specs.Text.{Line, text}
+use Rattle.rules.specs.Program.{verdict, table_lines, max_input, PrintedFor, refused, admitted}
+use Rattle.rules.proofs.Answers.{Numbered, none_of, answers_only}
+use Rattle.rules.proofs.Sets.{sets_only}
+use Rattle.rules.proofs.Plans.{plan_only}
+use Rattle.verdict.specs.declared.Analysis.{Analysis}
+use Rattle.planner.specs.Proper.{Proper}
+use Rattle.planner.specs.Analysed.{Usable}
+use Rattle.planner.proofs.Asks.{file_proper}
+use Rattle.relayed.proofs.Checked.{relayed_numbered, relayed_admissible}
+use Rattle.report.specs.Rendered.{RenderedFor, Rendered, RelayRendered, RenderedOn}
 
 module _ (q : Ask) (P : Proper q) where
-  lines-only : (ks ls : List Line) → PrintedFor q ks → PrintedFor q ls → ks ≡ ls
-  lines-only _ _ (refused m p a h) (refused n r b g) =
-      let e = answers-only (q .checks) m n p r a b in
-      ap₂ (λ (x y : ℕ). verdict x y ∷ []) (e .0) (e .1)
-  lines-only _ _ (refused m p a h) (admitted ws vs b S W) = absurd (h (answers-only (q .checks) m 0 p 0 a b .0))
-  lines-only _ _ (admitted ws vs b S W) (refused m p a h) = absurd (h (answers-only (q .checks) m 0 p 0 a b .0))
-  lines-only _ _ (admitted ws vs a S W) (admitted xs ys b R X) =
-      let some = P .admissible (none-of (q .checks) 0 (P .numbered) a) .sound .rows-low in
-      ap₂ (table-lines (q .table)) (sets-only some S R) (plan-only (q .table) vs ys W X)
+  lines_only : (ks ls : List Line) → PrintedFor q ks → PrintedFor q ls → ks ≡ ls
+  lines_only _ _ (refused m p a h) (refused n r b g) =
+      let e = answers_only q.checks m n p r a b in
+      ap₂ (λ (x y : ℕ). verdict x y ∷ []) e.0 e.1
+  lines_only _ _ (refused m p a h) (admitted ws vs b S W) = absurd (h (answers_only q.checks m 0 p 0 a b).0)
+  lines_only _ _ (admitted ws vs b S W) (refused m p a h) = absurd (h (answers_only q.checks m 0 p 0 a b).0)
+  lines_only _ _ (admitted ws vs a S W) (admitted xs ys b R X) =
+      let some = (P.admissible (none_of q.checks 0 P.numbered a)).sound.rows_low in
+      ap₂ (table_lines q.table) (sets_only some S R) (plan_only q.table vs ys W X)
 
-  pub rendered-only : (was now then : List ℕ) (m n : ℕ) → RenderedFor q was now m → RenderedFor q was then n → (now ≡ then) × (m ≡ n)
-  rendered-only was now then m n A B =
-      let e = lines-only (A .lines) (B .lines) (A .printed) (B .printed) in (
-        A .puts .holds ∙ ap (λ (ls : List Line). sets was 0 (text ls)) e ∙ sym (B .puts .holds),
-        A .puts .after ∙ ap (λ (ls : List Line). 0 + length (text ls)) e ∙ sym (B .puts .after),
+  pub rendered_only : (was now then : List ℕ) (m n : ℕ) → RenderedFor q was now m → RenderedFor q was then n → (now ≡ then) × (m ≡ n)
+  rendered_only was now then m n A B =
+      let e = lines_only A.lines B.lines A.printed B.printed in (
+        A.puts.holds ∙ ap (λ (ls : List Line). sets was 0 (text ls)) e ∙ sym B.puts.holds,
+        A.puts.after ∙ ap (λ (ls : List Line). 0 + length (text ls)) e ∙ sym B.puts.after,
       )
 
-pub file-rendered-only : (input was now then : List ℕ) (m n : ℕ) → Rendered input was now m → Rendered input was then n
+pub file_rendered_only : (input was now then : List ℕ) (m n : ℕ) → Rendered input was now m → Rendered input was then n
     → (now ≡ then) × (m ≡ n)
-file-rendered-only input = rendered-only (fileAsk (take max-input input)) (file-proper (take max-input input))
+file_rendered_only input = rendered_only (file_ask (take max_input input)) (file_proper (take max_input input))
 
-pub relay-rendered-only : (input : List ℕ) (r : ℕ) (was now then : List ℕ) (m n : ℕ) → RelayRendered input r was now m
+pub relay_rendered_only : (input : List ℕ) (r : ℕ) (was now then : List ℕ) (m n : ℕ) → RelayRendered input r was now m
     → RelayRendered input r was then n → (now ≡ then) × (m ≡ n)
-relay-rendered-only input r =
-    let f = take max-input input in
-    rendered-only (relayedAsk f r) (record { numbered = relayed-numbered f r; admissible = relayed-admissible f r })
+relay_rendered_only input r =
+    let f = take max_input input in
+    rendered_only (relayed_ask f r) (record { numbered = relayed_numbered f r; admissible = relayed_admissible f r })
 
 -- of an analysis
-pub rendered-on-only : {a : Analysis} → Usable a → (was now then : List ℕ) (m n : ℕ) → RenderedOn a was now m → RenderedOn a was then n
+pub rendered_on_only : {a : Analysis} → Usable a → (was now then : List ℕ) (m n : ℕ) → RenderedOn a was now m → RenderedOn a was then n
     → (now ≡ then) × (m ≡ n)
 unfolding Numbered
-rendered-on-only {a} U was now then m n A B = go (ℕ-discrete (a .outline .answer .number) 0)
+rendered_on_only {a} U was now then m n A B = go (ℕ_discrete a.outline.answer.number 0)
   where
-    go : Dec (a .outline .answer .number ≡ 0) → (now ≡ then) × (m ≡ n)
+    go : Dec (a.outline.answer.number ≡ 0) → (now ≡ then) × (m ≡ n)
     go (yes z) =
         let w = U z in
-        rendered-only (calls.admitted (w .0)) (record { numbered = tt; admissible = λ x. w .1 .admissible }) was now then m n
-        (A .done z (w .0) (w .1)) (B .done z (w .0) (w .1))
+        rendered_only (calls.admitted w.0) (record { numbered = tt; admissible = λ x. w.1.admissible }) was now then m n
+        (A.done z w.0 w.1) (B.done z w.0 w.1)
     go (no h) =
-        let x = A .refused h .0 in
-        let y = B .refused h .0 in
-        (x .holds ∙ sym (y .holds), x .after ∙ sym (y .after))
+        let x = (A.refused h).0 in
+        let y = (B.refused h).0 in
+        (x.holds ∙ sym y.holds, x.after ∙ sym y.after)

@@ -1,197 +1,196 @@
 -- The lines that `render` writes are those that the program prints, and only one answer fits.
-use mathlib.Core.Path.{_≡_, refl, sym, ap, ap₂, subst, _∙_}
-use mathlib.Core.Logic.{_≢_, ⊎-elim}
+use mathlib.Core.Path.{◌≡◌, sym, ap, ap₂, subst, ◌∙◌}
+use mathlib.Core.Logic.{◌≢◌, ⊎_elim}
 use mathlib.Core.Bool.{Bool, cond}
-use mathlib.Core.List.{List, [], _∷_, _++_}
-use Prim.Native.Nat.{ℕ, _+_, _*_, _≤_, _<_}
-use native.Mathlib.Nat.{mul-le-mul-left}
-use native.Mathlib.Decide.{ℕ-discrete}
+use mathlib.Core.List.{List, [], ◌∷◌, ◌++◌}
+use Prim.Native.Nat.{ℕ, ◌+◌, ◌≤◌, ◌<◌}
+use native.Mathlib.Nat.{mul-le-mul_left}
+use native.Mathlib.Decide.{ℕ_discrete}
 use native.Mathlib.Omega.{arith}
 use lib.Dec.{T, ltb, ltb→lt, lt→ltb}
 use lib.ListN.{length, take}
 use lib.Seq.{sets}
-use Rattle·numbers.specs.Lists.{at, each}
-use Rattle·numbers.proofs.Truth.{same, is-true, is-false, decide}
-use Rattle·numbers.proofs.Lists.{each-eq}
-use Rattle·rules.specs.Bounds.{max-rows, max-slots}
-use Rattle·rules.specs.Bus.{Table}
-use Rattle·rules.specs.TableFile.{version-2, labelSize, rowSize, version, fileRings, fileTable}
-use Rattle·rules.specs.Loads.{light}
-use Rattle·rules.specs.Refusals.{Answers, short-output, verdict-checks}
-use Rattle·rules.specs.Text.{Line, text}
-use Rattle·rules.specs.Program.{verdict}
-use Rattle·rules.specs.Raising.{
-  leastCost,
-  raisedCost,
-  raisedFile,
-  before-13,
-  raise-checks,
+use Rattle.numbers.specs.Lists.{at}
+use Rattle.numbers.proofs.Truth.{is_true, is_false, decide}
+use Rattle.numbers.proofs.Lists.{each_eq}
+use Rattle.rules.specs.Bus.{Table}
+use Rattle.rules.specs.TableFile.{version_2, label_size, row_size, version, file_rings, file_table}
+use Rattle.rules.specs.Loads.{light}
+use Rattle.rules.specs.Refusals.{short_output, verdict_checks}
+use Rattle.rules.specs.Text.{Line, text}
+use Rattle.rules.specs.Program.{verdict}
+use Rattle.rules.specs.Raising.{
+  least_cost,
+  raised_cost,
+  raised_file,
+  before_13,
+  raise_checks,
   Raised,
   raise,
-  raise-lines,
+  raise_lines,
   RaisePrinted,
   refused,
   raises,
 }
-use Rattle·rules.proofs.Answers.{None, answers-only, answered, none-join}
-use Rattle·rules.proofs.Calls.{lent-take, call-must}
-use Rattle·table.specs.Sound.{Sound, Passed}
-use Rattle·table.specs.Columns.{tableOf}
-use Rattle·table.proofs.Faults.{passed-none}
-use Rattle·table.proofs.RowSizes.{label-two, label-none, last-label}
-use Rattle·verdict.specs.declared.Verdict.{Verdict}
-use Rattle·verdict.specs.Verdict.{numberOf, placeOf, IsVerdict}
-use Rattle·decimal.specs.Puts.{Puts, PutsLine, PutsLines}
-use Rattle·decimal.proofs.Puts.{puts-more}
-use Rattle·decimal.proofs.Text.{text-join, text-one, lines-next, lines-skip}
-use Rattle·raising.specs.declared.Raising.{Raising}
-use Rattle·raising.specs.Raises.{RaisedBeside, Raises}
-use Rattle·raising.proofs.Costs.{raise-raises}
-use Rattle·raising.proofs.Writing.{raising-none, one, file-none, raised-length}
-use Rattle·report·specs.specs.RaisedLines.{Costs, raisedLines, RaiseRendered}
+use Rattle.rules.proofs.Answers.{None, answers_only, answered, none_join}
+use Rattle.rules.proofs.Calls.{lent_take, call_must}
+use Rattle.table.specs.Sound.{Sound, Passed}
+use Rattle.table.specs.Columns.{table_of}
+use Rattle.table.proofs.Faults.{passed_none}
+use Rattle.table.proofs.RowSizes.{label_two, label_none, last_label}
+use Rattle.verdict.specs.declared.Verdict.{Verdict}
+use Rattle.verdict.specs.Verdict.{number_of, place_of, IsVerdict}
+use Rattle.decimal.specs.Puts.{Puts, PutsLine, PutsLines}
+use Rattle.decimal.proofs.Puts.{puts_more}
+use Rattle.decimal.proofs.Text.{text_join, text_one, lines_next, lines_skip}
+use Rattle.raising.specs.declared.Raising.{Raising}
+use Rattle.raising.specs.Raises.{RaisedBeside, Raises}
+use Rattle.raising.proofs.Costs.{raise_raises}
+use Rattle.raising.proofs.Writing.{raising_none, one, file_none, raised_length}
+use Rattle.report.specs.RaisedLines.{Costs, raised_lines, RaiseRendered}
 
 -- ---- a line more, or none: `was < is`, as the loop tests it
 
-module _ (old new : ℕ → ℕ) (i : ℕ) {was mid : List ℕ} {next : ℕ} (P : PutsLines (raisedLines i old new) i was 0 mid next)
+module _ (old new : ℕ → ℕ) (i : ℕ) {was mid : List ℕ} {next : ℕ} (P : PutsLines (raised_lines i old new) i was 0 mid next)
     (a b : ℕ) (e : a ≡ old i) (g : b ≡ new i) where
-  line-of : {c : Bool} → ltb a b ≡ c → cond (ltb (old i) (new i)) (raise i (old i) (new i) ∷ []) [] ≡ cond c (raise i a b ∷ []) []
-  line-of h = rw (sym e, sym g, h)
+  line_of : {c : Bool} → ltb a b ≡ c → cond (ltb (old i) (new i)) (raise i (old i) (new i) ∷ []) [] ≡ cond c (raise i a b ∷ []) []
+  line_of h = rw (sym e, sym g, h)
 
-  pub lines-grown : {now : List ℕ} {last : ℕ} → a < b → PutsLine (raise i a b) mid next now last
-      → PutsLines (raisedLines (i + 1) old new) (i + 1) was 0 now last
-  lines-grown h Q = lines-next _ i P (raise i a b) (line-of (is-true (ltb a b) (lt→ltb a b h))) Q
+  pub lines_grown : {now : List ℕ} {last : ℕ} → a < b → PutsLine (raise i a b) mid next now last
+      → PutsLines (raised_lines (i + 1) old new) (i + 1) was 0 now last
+  lines_grown h Q = lines_next _ i P (raise i a b) (line_of (is_true (ltb a b) (lt→ltb a b h))) Q
 
-  pub lines-kept : b ≤ a → PutsLines (raisedLines (i + 1) old new) (i + 1) was 0 mid next
-  lines-kept h = lines-skip _ i P (line-of (is-false (ltb a b) (λ t. let m = ltb→lt a b t in omega (arith, m, h))))
+  pub lines_kept : b ≤ a → PutsLines (raised_lines (i + 1) old new) (i + 1) was 0 mid next
+  lines_kept h = lines_skip _ i P (line_of (is_false (ltb a b) (λ t. let m = ltb→lt a b t in omega (arith, m, h))))
 
 -- ---- a row's line: its cost grows exactly if it is light
 
 -- the line of one row, from its costs
-abbrev lineBy : Bool → (i a b : ℕ) → List Line
-lineBy c i a b = cond c (raise i a b ∷ []) []
+abbrev line_by : Bool → (i a b : ℕ) → List Line
+line_by c i a b = cond c (raise i a b ∷ []) []
 
-least-line : (t : Table) (i : ℕ) → T (light t i) → raisedCost t i ≡ leastCost t i
-unfolding raisedCost
-least-line t i h = ap (λ (c : Bool). cond c (leastCost t i) (t .cost i)) (is-true (light t i) h)
+least_line : (t : Table) (i : ℕ) → T (light t i) → raised_cost t i ≡ least_cost t i
+unfolding raised_cost
+least_line t i h = ap (λ (c : Bool). cond c (least_cost t i) (t.cost i)) (is_true (light t i) h)
 
-row-line : (t : Table) → Sound t → (i : ℕ) → i < t .rows
-    → lineBy (ltb (t .cost i) (raisedCost t i)) i (t .cost i) (raisedCost t i) ≡ lineBy (light t i) i (t .cost i) (leastCost t i)
-row-line t s i l =
-    ⊎-elim
+row_line : (t : Table) → Sound t → (i : ℕ) → i < t.rows
+    → line_by (ltb (t.cost i) (raised_cost t i)) i (t.cost i) (raised_cost t i) ≡ line_by (light t i) i (t.cost i) (least_cost t i)
+row_line t s i l =
+    ⊎_elim
     (λ h.
-    ap₂ (λ (c : Bool) (b : ℕ). lineBy c i (t .cost i) b)
-    (is-true (ltb (t .cost i) (raisedCost t i)) (lt→ltb (t .cost i) (raisedCost t i) (R .more i l h)) ∙ sym (is-true (light t i) h))
-    (least-line t i h))
+    ap₂ (λ (c : Bool) (b : ℕ). line_by c i (t.cost i) b)
+    (is_true (ltb (t.cost i) (raised_cost t i)) (lt→ltb (t.cost i) (raised_cost t i) (R.more i l h)) ∙ sym (is_true (light t i) h))
+    (least_line t i h))
     (λ h.
-    let e : raisedCost t i ≡ t .cost i = R .stays i h in
-    ap (λ (c : Bool). lineBy c i (t .cost i) (raisedCost t i))
-    (is-false (ltb (t .cost i) (raisedCost t i)) (λ q. let m = ltb→lt (t .cost i) (raisedCost t i) q in omega (arith, m, e)))
-    ∙ ap (λ (c : Bool). lineBy c i (t .cost i) (leastCost t i)) (sym (is-false (light t i) h)))
+    let e : raised_cost t i ≡ t.cost i = R.stays i h in
+    ap (λ (c : Bool). line_by c i (t.cost i) (raised_cost t i))
+    (is_false (ltb (t.cost i) (raised_cost t i)) (λ q. let m = ltb→lt (t.cost i) (raised_cost t i) q in omega (arith, m, e)))
+    ∙ ap (λ (c : Bool). line_by c i (t.cost i) (least_cost t i)) (sym (is_false (light t i) h)))
     (decide (light t i))
   where
     R : Raises t
-    R = raise-raises t s
+    R = raise_raises t s
 
 -- ---- what is printed
 
-label-low : (v : ℕ) → labelSize v ≤ 2
-label-low v = go (ℕ-discrete v version-2)
+label_low : (v : ℕ) → label_size v ≤ 2
+label_low v = go (ℕ_discrete v version_2)
   where
-    go : Dec (v ≡ version-2) → labelSize v ≤ 2
-    go (yes e) = omega (arith, label-two e)
-    go (no h) = omega (arith, label-none h)
+    go : Dec (v ≡ version_2) → label_size v ≤ 2
+    go (yes e) = omega (arith, label_two e)
+    go (no h) = omega (arith, label_none h)
 
 module _ (f : List ℕ) (x : Raising) (R : RaisedBeside f x) where
   abbrev t : Table
-  t = fileTable f
+  t = file_table f
 
-  pub rendered-refused : x .given .answer .number ≢ 0 → {was now : List ℕ} {size : ℕ}
-      → PutsLine (verdict (x .given .answer .number) (x .given .answer .place)) was 0 now size → RaiseRendered f was now size
-  rendered-refused h F = record {
-    lines = verdict (x .given .answer .number) (x .given .answer .place) ∷ [];
-    printed = refused (x .given .answer .number) (x .given .answer .place) (R .given .answers) h;
-    puts = rw (text-one (verdict (x .given .answer .number) (x .given .answer .place))) (F .0);
-    fits = omega (arith, F .1);
+  pub rendered_refused : x.given.answer.number ≢ 0 → {was now : List ℕ} {size : ℕ}
+      → PutsLine (verdict x.given.answer.number x.given.answer.place) was 0 now size → RaiseRendered f was now size
+  rendered_refused h F = record {
+    lines = verdict x.given.answer.number x.given.answer.place ∷ [];
+    printed = refused x.given.answer.number x.given.answer.place R.given.answers h;
+    puts = rw (text_one (verdict x.given.answer.number x.given.answer.place)) F.0;
+    fits = omega (arith, F.1);
   }
 
-  module _ (z : x .given .answer .number ≡ 0) where
-    none : None (before-13 f)
-    none = raising-none f x R z
+  module _ (z : x.given.answer.number ≡ 0) where
+    none : None (before_13 f)
+    none = raising_none f x R z
 
     passed : Passed f
-    passed = passed-none f (file-none f none)
+    passed = passed_none f (file_none f none)
 
-    held : tableOf (x .given .columns) ≡ t
-    held = R .given .passed z .table
+    held : table_of x.given.columns ≡ t
+    held = (R.given.passed z).table
 
-    pub report-costs : Costs (x .given .columns .rows) (at (x .given .columns .cost)) (at (x .cost))
-    report-costs =
-        let rows : x .given .columns .rows ≡ t .rows = ap (λ (u : Table). u .rows) held in
-        let S : Sound t = passed .sound in
+    pub report_costs : Costs x.given.columns.rows (at x.given.columns.cost) (at x.cost)
+    report_costs =
+        let rows : x.given.columns.rows ≡ t.rows = ap (λ (u : Table). u.rows) held in
+        let S : Sound t = passed.sound in
         record {
-          few = omega (arith, rows, S .rows-high);
+          few = omega (arith, rows, S.rows_high);
           was = λ i l.
-              let m : i < t .rows = rw rows at l in
-              let e : at (x .given .columns .cost) i ≡ t .cost i = ap (λ (u : Table). u .cost i) held in
-              omega (arith, e, S .row i m .cost-high, S .row i m .period-high);
+              let m : i < t.rows = rw rows at l in
+              let e : at x.given.columns.cost i ≡ t.cost i = ap (λ (u : Table). u.cost i) held in
+              omega (arith, e, (S.row i m).cost_high, (S.row i m).period_high);
           is = λ i l.
-              let m : i < t .rows = rw rows at l in
-              omega (arith, R .costs z .row i m, raise-raises t S .within i m, S .row i m .period-high);
+              let m : i < t.rows = rw rows at l in
+              omega (arith, (R.costs z).row i m, (raise_raises t S).within i m, (S.row i m).period_high);
         }
 
-    pub report-long : length f ≤ 519
-    report-long =
+    pub report_long : length f ≤ 519
+    report_long =
         omega (
           arith,
-          passed .size,
-          mul-le-mul-left (rowSize (fileRings f) (version f)) (passed .sound .rows-high),
-          last-label {r = fileRings f} (version f) (λ e. omega (arith, e, one f none)),
-          label-low (version f),
+          passed.size,
+          mul-le-mul_left (row_size (file_rings f) (version f)) passed.sound.rows_high,
+          last_label {r = file_rings f} (version f) (λ e. omega (arith, e, one f none)),
+          label_low (version f),
         )
 
     -- the raised file stands in the array
-    pub report-file : {was now : List ℕ} {m p : ℕ} → length was ≡ 519 → Raised f was now m p → take (length f) now ≡ raisedFile f
-    unfolding raise-checks None
-    report-file {was} e c =
-        let room : (length was < length f → ⊥) = λ h. omega (arith, h, e, report-long) in
-        let d = call-must (none-join (before-13 f) (short-output (length was < length f) ∷ []) none (room, tt)) c in
-        ap (take (length f)) (d .2) ∙ lent-take (raisedFile f) was (length f) (raised-length f none)
+    pub report_file : {was now : List ℕ} {m p : ℕ} → length was ≡ 519 → Raised f was now m p → take (length f) now ≡ raised_file f
+    unfolding raise_checks None
+    report_file {was} e c =
+        let room : (length was < length f → ⊥) = λ h. omega (arith, h, e, report_long) in
+        let d = call_must (none_join (before_13 f) (short_output (length was < length f) ∷ []) none (room, tt)) c in
+        ap (take (length f)) d.2 ∙ lent_take (raised_file f) was (length f) (raised_length f none)
 
-    lines-are : raisedLines (x .given .columns .rows) (at (x .given .columns .cost)) (at (x .cost)) ≡ raise-lines t
-    lines-are =
-        ap (λ (u : Table). raisedLines (u .rows) (u .cost) (at (x .cost))) held
-        ∙ each-eq (t .rows) _ _
-        (λ i l. ap (λ (b : ℕ). lineBy (ltb (t .cost i) b) i (t .cost i) b) (R .costs z .row i l) ∙ row-line t (passed .sound) i l)
+    lines_are : raised_lines x.given.columns.rows (at x.given.columns.cost) (at x.cost) ≡ raise_lines t
+    lines_are =
+        ap (λ (u : Table). raised_lines u.rows u.cost (at x.cost)) held
+        ∙ each_eq t.rows _ _
+        (λ i l. ap (λ (b : ℕ). line_by (ltb (t.cost i) b) i (t.cost i) b) ((R.costs z).row i l) ∙ row_line t passed.sound i l)
 
-    pub rendered-raised : (r : Verdict) → IsVerdict (raisedFile f) r → {was mid now : List ℕ} {next size n p : ℕ}
-        → PutsLines (raisedLines (x .given .columns .rows) (at (x .given .columns .cost)) (at (x .cost)))
-        (x .given .columns .rows) was 0 mid next
-        → n ≡ numberOf r → p ≡ placeOf r → PutsLine (verdict n p) mid next now size → RaiseRendered f was now size
-    rendered-raised r J {was} {mid} {now} {next} {size} {n} {p} P en ep Q = record {
-      lines = raise-lines t ++ (verdict n p ∷ []);
-      printed = raises n p (answered (before-13 f) none) (rw (en, ep) (J .answers));
-      puts = subst (λ (ls : List ℕ). Puts ls was 0 now size) (sym (text-join (raise-lines t) (verdict n p ∷ [])))
-          (puts-more (subst (λ (ls : List Line). Puts (text ls) was 0 mid next) lines-are (P .0)) (rw (text-one (verdict n p)) (Q .0)));
-      fits = omega (arith, P .1, Q .1, report-costs .few);
+    pub rendered_raised : (r : Verdict) → IsVerdict (raised_file f) r → {was mid now : List ℕ} {next size n p : ℕ}
+        → PutsLines (raised_lines x.given.columns.rows (at x.given.columns.cost) (at x.cost))
+        x.given.columns.rows was 0 mid next
+        → n ≡ number_of r → p ≡ place_of r → PutsLine (verdict n p) mid next now size → RaiseRendered f was now size
+    rendered_raised r J {was} {mid} {now} {next} {size} {n} {p} P en ep Q = record {
+      lines = raise_lines t ++ (verdict n p ∷ []);
+      printed = raises n p (answered (before_13 f) none) (rw (en, ep) J.answers);
+      puts = subst (λ (ls : List ℕ). Puts ls was 0 now size) (sym (text_join (raise_lines t) (verdict n p ∷ [])))
+          (puts_more (subst (λ (ls : List Line). Puts (text ls) was 0 mid next) lines_are P.0) (rw (text_one (verdict n p)) Q.0));
+      fits = omega (arith, P.1, Q.1, report_costs.few);
     }
 
 -- ---- only one answer fits
 
 module _ (f : List ℕ) where
-  lines-only : (ks ls : List Line) → RaisePrinted f ks → RaisePrinted f ls → ks ≡ ls
-  lines-only _ _ (refused m p a h) (refused n q b g) =
-      let e = answers-only (before-13 f) m n p q a b in
-      ap₂ (λ (x y : ℕ). verdict x y ∷ []) (e .0) (e .1)
-  lines-only _ _ (refused m p a h) (raises n q b c) = absurd (h (answers-only (before-13 f) m 0 p 0 a b .0))
-  lines-only _ _ (raises n q b c) (refused m p a h) = absurd (h (answers-only (before-13 f) m 0 p 0 a b .0))
-  lines-only _ _ (raises m p a c) (raises n q b d) =
-      let e = answers-only (verdict-checks (raisedFile f)) m n p q c d in
-      ap₂ (λ (x y : ℕ). raise-lines (fileTable f) ++ (verdict x y ∷ [])) (e .0) (e .1)
+  lines_only : (ks ls : List Line) → RaisePrinted f ks → RaisePrinted f ls → ks ≡ ls
+  lines_only _ _ (refused m p a h) (refused n q b g) =
+      let e = answers_only (before_13 f) m n p q a b in
+      ap₂ (λ (x y : ℕ). verdict x y ∷ []) e.0 e.1
+  lines_only _ _ (refused m p a h) (raises n q b c) = absurd (h (answers_only (before_13 f) m 0 p 0 a b).0)
+  lines_only _ _ (raises n q b c) (refused m p a h) = absurd (h (answers_only (before_13 f) m 0 p 0 a b).0)
+  lines_only _ _ (raises m p a c) (raises n q b d) =
+      let e = answers_only (verdict_checks (raised_file f)) m n p q c d in
+      ap₂ (λ (x y : ℕ). raise_lines (file_table f) ++ (verdict x y ∷ [])) e.0 e.1
 
-  pub raise-rendered-only : (was now then : List ℕ) (m n : ℕ) → RaiseRendered f was now m → RaiseRendered f was then n
+  pub raise_rendered_only : (was now then : List ℕ) (m n : ℕ) → RaiseRendered f was now m → RaiseRendered f was then n
       → (now ≡ then) × (m ≡ n)
-  raise-rendered-only was now then m n A B =
-      let e = lines-only (A .lines) (B .lines) (A .printed) (B .printed) in (
-        A .puts .holds ∙ ap (λ (ls : List Line). sets was 0 (text ls)) e ∙ sym (B .puts .holds),
-        A .puts .after ∙ ap (λ (ls : List Line). 0 + length (text ls)) e ∙ sym (B .puts .after),
+  raise_rendered_only was now then m n A B =
+      let e = lines_only A.lines B.lines A.printed B.printed in (
+        A.puts.holds ∙ ap (λ (ls : List Line). sets was 0 (text ls)) e ∙ sym B.puts.holds,
+        A.puts.after ∙ ap (λ (ls : List Line). 0 + length (text ls)) e ∙ sym B.puts.after,
       )

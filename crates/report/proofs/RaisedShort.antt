@@ -1,19 +1,19 @@
 -- A line of a raised row is short: its numbers have few digits.
-use mathlib.Core.Path.{_≡_, ap, _∙_}
-use mathlib.Core.List.{List, [], _∷_, _++_}
-use Prim.Native.Nat.{ℕ, _+_, _≤_, _<_}
+use mathlib.Core.Path.{◌≡◌, ap, ◌∙◌}
+use mathlib.Core.List.{List, [], ◌∷◌, ◌++◌}
+use Prim.Native.Nat.{ℕ, ◌+◌, ◌≤◌, ◌<◌}
 use native.Mathlib.Omega.{arith}
 use lib.ListN.{length, length-append}
-use Rattle·numbers.specs.Lists.{each}
-use Rattle·rules.specs.Bounds.{max-rows, max-slots}
-use Rattle·rules.specs.Text.{space, newline, decimal, textOf}
-use Rattle·rules.specs.Raising.{raise}
-use Rattle·decimal.specs.Puts.{max-line}
-use Rattle·decimal.proofs.Decimal.{decimal-short}
+use Rattle.numbers.specs.Lists.{each}
+use Rattle.rules.specs.Bounds.{max_rows, max_slots}
+use Rattle.rules.specs.Text.{space, newline, decimal, text_of}
+use Rattle.rules.specs.Raising.{raise}
+use Rattle.decimal.specs.Puts.{max_line}
+use Rattle.decimal.proofs.Decimal.{decimal_short}
 
-pub raise-short : (i a b : ℕ) → i < max-rows → a ≤ max-slots → b ≤ max-slots → length (textOf (raise i a b)) ≤ max-line
+pub raise_short : (i a b : ℕ) → i < max_rows → a ≤ max_slots → b ≤ max_slots → length (text_of (raise i a b)) ≤ max_line
 unfolding each
-raise-short i a b l m n =
+raise_short i a b l m n =
     let x : List ℕ = space ∷ decimal i in
     let y : List ℕ = space ∷ decimal a in
     let z : List ℕ = space ∷ decimal b in
@@ -23,7 +23,7 @@ raise-short i a b l m n =
     omega (
       arith,
       e,
-      decimal-short 3 i (omega arith),
-      decimal-short 3 a (omega arith),
-      decimal-short 3 b (omega arith),
+      decimal_short 3 i (omega arith),
+      decimal_short 3 a (omega arith),
+      decimal_short 3 b (omega arith),
     )

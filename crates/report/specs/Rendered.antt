@@ -1,57 +1,51 @@
 -- What stands in a lent slice after a call that writes lines to it.
 --
 --   cuts c o           the lines of the cuts c and o, of which o is 0 where there is one ring
---   word-line b k w    the line of slot k, whose word is w, or where b is false that of a set whose word is w
---   max-size           no report is longer
+--   word_line b k w    the line of slot k, whose word is w, or where b is false that of a set whose word is w
+--   max_size           no report is longer
 --   RenderedFor a      the lines of the ask a, as they are written
 --   Rendered input, RelayRendered input r    what `render` and `render_relayed` write and return
 --   RenderedOn a       what `put_analysis` writes and returns of an analysis
 --
 -- `was` and `now` are what the lent slice holds before and after. Only one answer fits (proofs/Only).
-use mathlib.Core.Path.{_≡_}
-use mathlib.Core.Logic.{_≢_}
-use mathlib.Core.Bool.{Bool, true, false, cond}
-use mathlib.Core.List.{List, [], _∷_}
-use Prim.Native.Nat.{ℕ, _+_, _*_, _≤_}
-use lib.Dec.{eqb}
-use lib.ListN.{take}
-use Rattle·rules.specs.Bounds.{max-rows, max-slots}
-use Rattle·rules.specs.Bus.{Table}
-use Rattle·rules.specs.Calls.{Ask, fileAsk, relayedAsk, admitted}
-use Rattle·rules.specs.Text.{Line, text}
-use Rattle·rules.specs.Program.{verdict, cut, set, slot, max-input, PrintedFor}
-use Rattle·decimal.specs.Puts.{Puts, PutsLine, max-line}
-use Rattle·verdict.specs.declared.Analysis.{Analysis}
-use Rattle·verdict.specs.Analysed.{Accepted}
+use Rattle.std.specs.Prelude.{◌≡◌, ◌≢◌, Bool, true, false, cond, List, [], ◌∷◌, ℕ, ◌+◌, ◌*◌, ◌≤◌, eqb, take}
+use Rattle.rules.specs.Bounds.{max_rows, max_slots}
+use Rattle.rules.specs.Bus.{Table}
+use Rattle.rules.specs.Calls.{Ask, file_ask, relayed_ask, admitted}
+use Rattle.rules.specs.Text.{Line, text}
+use Rattle.rules.specs.Program.{verdict, cut, set, slot, max_input, PrintedFor}
+use Rattle.decimal.specs.Puts.{Puts, PutsLine, max_line}
+use Rattle.verdict.specs.declared.Analysis.{Analysis}
+use Rattle.verdict.specs.Analysed.{Accepted}
 
 abbrev pub cuts : ℕ → ℕ → List Line
 cuts c o = cut c ∷ cond (eqb o 0) [] (cut o ∷ [])
 
-abbrev pub word-line : Bool → ℕ → ℕ → Line
-word-line true k w = slot k w
-word-line false k w = set w
+abbrev pub word_line : Bool → ℕ → ℕ → Line
+word_line true k w = slot k w
+word_line false k w = set w
 
 -- the verdict, two cuts, the three values, the sets and the slots
-abbrev pub max-size : ℕ
-max-size = max-line * (6 + max-rows + max-slots)
+abbrev pub max_size : ℕ
+max_size = max_line * (6 + max_rows + max_slots)
 
 -- The lines of an ask stand at the front of the slice, as far as there is room; `size` is how many bytes they are.
 pub record RenderedFor (a : Ask) (was now : List ℕ) (size : ℕ) : Type 0 where
   pub lines : List Line
   pub printed : PrintedFor a lines
   pub puts : Puts (text lines) was 0 now size
-  pub fits : size ≤ max-size
+  pub fits : size ≤ max_size
 
 -- those of the program
 abbrev pub Rendered : (input was now : List ℕ) (size : ℕ) → Type 0
-Rendered input = RenderedFor (fileAsk (take max-input input))
+Rendered input = RenderedFor (file_ask (take max_input input))
 
 -- and of the one with a relay (#113)
 abbrev pub RelayRendered : (input : List ℕ) (relay : ℕ) (was now : List ℕ) (size : ℕ) → Type 0
-RelayRendered input relay = RenderedFor (relayedAsk (take max-input input) relay)
+RelayRendered input relay = RenderedFor (relayed_ask (take max_input input) relay)
 
 -- Of an analysis, whatever it was made from: its refusal, or the lines of its table.
 pub record RenderedOn (a : Analysis) (was now : List ℕ) (size : ℕ) : Type 0 where
-  pub done : a .outline .answer .number ≡ 0 → (t : Table) → Accepted t a → RenderedFor (admitted t) was now size
-  pub refused : a .outline .answer .number ≢ 0
-      → PutsLine (verdict (a .outline .answer .number) (a .outline .answer .place)) was 0 now size
+  pub done : a.outline.answer.number ≡ 0 → (t : Table) → Accepted t a → RenderedFor (admitted t) was now size
+  pub refused : a.outline.answer.number ≢ 0
+      → PutsLine (verdict a.outline.answer.number a.outline.answer.place) was 0 now size

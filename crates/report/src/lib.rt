@@ -1,28 +1,27 @@
 // What the program prints, written to lent bytes (document 01, "The program and one whole output").
 //
 // Each `put_` function writes lines from place `at` on, as far as there is room, and returns the place after them.
+#![tactic(auto)]
+
 pub mod meetings;
 pub mod raised;
 
+ghost use Rattle.std.specs.Prelude.{◌≡◌, List, [], ◌∷◌, ℕ, ◌+◌, ◌*◌, ◌≤◌, min, length};
+ghost use Rattle.numbers.specs.Lists.{at as item, each};
+ghost use Rattle.rules.specs.Bounds.{max_rows, max_slots};
+ghost use Rattle.rules.specs.Bus as bus;
+ghost use Rattle.rules.specs.Line.{Sets};
+ghost use Rattle.rules.specs.Planner.{WholePlan};
+ghost use Rattle.verdict.specs.Analysed.{Accepted};
+ghost use Rattle.planner.specs.Analysed.{Usable};
+ghost use Rattle.decimal.specs.Puts.{limit, line_of, max_line, PutsLine, PutsLines};
+ghost use Rattle.rules.specs.Program.{verdict, values, set, slot, set_lines, slot_lines};
+ghost use Rattle.report.specs.Rendered.{cuts, word_line, Rendered, RelayRendered, RenderedOn};
+ghost use Rattle.report.specs.Plain.{PlainRendered};
+
 use decimal::put_line;
 use table::Table;
-use verdict::Analysis;
-use verdict::Verdict;
-ghost use mathlib.Core.Path.{_≡_};
-ghost use mathlib.Core.List.{List, [], _∷_};
-ghost use Prim.Native.Nat.{ℕ, _+_, _*_, _≤_, min};
-ghost use lib.ListN.{length};
-ghost use Rattle·numbers.specs.Lists.{at as item, each};
-ghost use Rattle·rules.specs.Bounds.{max-rows, max-slots};
-ghost use Rattle·rules.specs.Bus as bus;
-ghost use Rattle·rules.specs.Line.{Sets};
-ghost use Rattle·rules.specs.Planner.{WholePlan};
-ghost use Rattle·verdict.specs.Analysed.{Accepted};
-ghost use Rattle·planner.specs.Analysed.{Usable};
-ghost use Rattle·decimal.specs.Puts.{limit, lineOf, max-line, PutsLine, PutsLines};
-ghost use Rattle·rules.specs.Program.{verdict, values, set, slot, set-lines, slot-lines};
-ghost use Rattle·report·specs.specs.Rendered.{cuts, word-line, Rendered, RelayRendered, RenderedOn};
-ghost use Rattle·report·specs.specs.Plain.{PlainRendered};
+use verdict::{Analysis, Verdict};
 
 // The program's input: one byte more than the longest table file has, so that a longer one is refused for its length.
 pub const INPUT: usize = Table::FILE_BYTES + 1;
@@ -37,22 +36,22 @@ pub const PLAIN_SIZE: usize = 64 * 2 * Table::SLOTS;
 
 // A line of one number.
 pub(crate) fn put_value(word: &[u8], x: u64, out: &mut [u8], at: usize) -> usize
-    requires { ⌜ (length (now word) ≤ 8) × (at + max-line ≤ limit) ⌝ }
-    ensures { λ r. ⌜ PutsLine (lineOf (now (word .entry)) (x ∷ [])) (now (out .entry)) at (now (out .exit)) r ⌝ }
+    requires { (length word.now ≤ 8) × (at + max_line ≤ limit) }
+    ensures { PutsLine (line_of word.now (x ∷ [])) out.old at out.new result }
 {
     put_line(word, &[x], out, at)
 }
 
 pub fn put_verdict(number: u32, place: u32, out: &mut [u8]) -> usize
-    ensures { λ r. ⌜ PutsLine (verdict number place) (now (out .entry)) 0 (now (out .exit)) r ⌝ }
+    ensures { PutsLine (verdict number place) out.old 0 out.new result }
 {
     put_line(b"verdict", &[number as u64, place as u64], out, 0)
 }
 
 // The cut of each ring; that of the other is 0 where there is one ring.
 fn put_cuts(cut: u32, other: u32, out: &mut [u8], at: usize) -> usize
-    requires { ⌜ at + max-line * 2 ≤ limit ⌝ }
-    ensures { λ r. ⌜ PutsLines (cuts cut other) 2 (now (out .entry)) at (now (out .exit)) r ⌝ }
+    requires { at + max_line * 2 ≤ limit }
+    ensures { PutsLines (cuts cut other) 2 out.old at out.new result }
 {
     let next = put_value(b"cut", cut as u64, out, at);
     if other == 0 {
@@ -62,8 +61,8 @@ fn put_cuts(cut: u32, other: u32, out: &mut [u8], at: usize) -> usize
 }
 
 fn put_values(interval: u32, hyper: u32, load: u32, out: &mut [u8], at: usize) -> usize
-    requires { ⌜ at + max-line * 3 ≤ limit ⌝ }
-    ensures { λ r. ⌜ PutsLines (values interval hyper load) 3 (now (out .entry)) at (now (out .exit)) r ⌝ }
+    requires { at + max_line * 3 ≤ limit }
+    ensures { PutsLines (values interval hyper load) 3 out.old at out.new result }
 {
     let next = put_value(b"interval", interval as u64, out, at);
     let last = put_value(b"hyper", hyper as u64, out, next);
@@ -72,8 +71,8 @@ fn put_values(interval: u32, hyper: u32, load: u32, out: &mut [u8], at: usize) -
 
 // A slot's line, which has its number `k`, or a set's.
 fn put_word(slots: bool, k: u64, word: u64, out: &mut [u8], at: usize) -> usize
-    requires { ⌜ at + max-line ≤ limit ⌝ }
-    ensures { λ r. ⌜ PutsLine (word-line slots k word) (now (out .entry)) at (now (out .exit)) r ⌝ }
+    requires { at + max_line ≤ limit }
+    ensures { PutsLine (word_line slots k word) out.old at out.new result }
 {
     if slots {
         return put_line(b"slot", &[k, word], out, at);
@@ -82,9 +81,9 @@ fn put_word(slots: bool, k: u64, word: u64, out: &mut [u8], at: usize) -> usize
 }
 
 fn put_words(slots: bool, words: &[u64], out: &mut [u8], at: usize) -> usize
-    requires { ⌜ at + max-line * length (now words) ≤ limit ⌝ }
-    ensures { λ r. ⌜ PutsLines (each (length (now (words .entry))) (λ k. word-line slots k (item (now (words .entry)) k) ∷ []))
-        (length (now (words .entry))) (now (out .entry)) at (now (out .exit)) r ⌝ }
+    requires { at + max_line * length words.now ≤ limit }
+    ensures { PutsLines (each (length words.now) (λ k. word_line slots k (item words.now k) ∷ []))
+        (length words.now) out.old at out.new result }
 {
     let mut next = at;
     let mut k: usize = 0;
@@ -98,9 +97,9 @@ fn put_words(slots: bool, words: &[u64], out: &mut [u8], at: usize) -> usize
 // ---- an analysed table's lists
 
 fn put_list(table: Analysis, out: &mut [u8], at: usize) -> usize
-    requires { ⌜ Usable table × (table .outline .answer .number ≡ 0) × (at + max-line * max-rows ≤ limit) ⌝ }
-    ensures { λ r. ⌜ ((t : bus.Table) → Accepted t table → (ws : List ℕ) × Sets t ws
-        × PutsLines (set-lines ws) max-rows (now (out .entry)) at (now (out .exit)) r) ⌝ }
+    requires { Usable table × (table.outline.answer.number ≡ 0) × (at + max_line * max_rows ≤ limit) }
+    ensures { (t : bus.Table) → Accepted t table → (ws : List ℕ) × Sets t ws
+        × PutsLines (set_lines ws) max_rows out.old at out.new result }
 {
     let words = table.outline.words;
     let sets = table.outline.sets;
@@ -109,9 +108,9 @@ fn put_list(table: Analysis, out: &mut [u8], at: usize) -> usize
 
 // The slots of its whole plan, by the plain planner (#114) or by the other: they are the same.
 fn put_plan(table: Analysis, plain: bool, out: &mut [u8], at: usize) -> usize
-    requires { ⌜ Usable table × (table .outline .answer .number ≡ 0) × (at + max-line * max-slots ≤ limit) ⌝ }
-    ensures { λ r. ⌜ ((t : bus.Table) → Accepted t table → (ws : List ℕ) × WholePlan t ws
-        × PutsLines (slot-lines ws) max-slots (now (out .entry)) at (now (out .exit)) r) ⌝ }
+    requires { Usable table × (table.outline.answer.number ≡ 0) × (at + max_line * max_slots ≤ limit) }
+    ensures { (t : bus.Table) → Accepted t table → (ws : List ℕ) × WholePlan t ws
+        × PutsLines (slot_lines ws) max_slots out.old at out.new result }
 {
     let slots = table.outline.time.hyper as usize;
     let mut plan = [0u64; Table::SLOTS];
@@ -123,8 +122,8 @@ fn put_plan(table: Analysis, plain: bool, out: &mut [u8], at: usize) -> usize
 
 // What is printed of an analysed table, at the front of `out`; how many bytes it is. Of a refusal it is the first line only.
 fn put_analysis(table: Analysis, out: &mut [u8]) -> usize
-    requires { ⌜ Usable table ⌝ }
-    ensures { λ r. ⌜ RenderedOn table (now (out .entry)) (now (out .exit)) r ⌝ }
+    requires { Usable table }
+    ensures { RenderedOn table out.old out.new result }
 {
     let answer = verdict::verdict_of(table);
     let first = put_verdict(answer.number(), answer.place(), out);
@@ -146,14 +145,14 @@ fn put_analysis(table: Analysis, out: &mut [u8]) -> usize
 }
 
 fn least(a: usize, b: usize) -> usize
-    ensures { λ r. ⌜ r ≡ min a b ⌝ }
+    ensures { result ≡ min a b }
 {
     if a < b { a } else { b }
 }
 
 // What the program prints for its input.
 pub fn render(input: &[u8], out: &mut [u8]) -> usize
-    ensures { λ r. ⌜ Rendered (now (input .entry)) (now (out .entry)) (now (out .exit)) r ⌝ }
+    ensures { Rendered input.now out.old out.new result }
 {
     let read = least(input.len(), INPUT);
     put_analysis(verdict::analyse(&input[..read]), out)
@@ -161,7 +160,7 @@ pub fn render(input: &[u8], out: &mut [u8]) -> usize
 
 // What the program with a relay prints (#113).
 pub fn render_relayed(input: &[u8], relay: usize, out: &mut [u8]) -> usize
-    ensures { λ r. ⌜ RelayRendered (now (input .entry)) relay (now (out .entry)) (now (out .exit)) r ⌝ }
+    ensures { RelayRendered input.now relay out.old out.new result }
 {
     let read = least(input.len(), INPUT);
     put_analysis(relayed::analyse(&input[..read], relay), out)
@@ -169,7 +168,7 @@ pub fn render_relayed(input: &[u8], relay: usize, out: &mut [u8]) -> usize
 
 // What the program of both planners prints for a table file (#114). Of a refusal it is the verdict's line only.
 pub fn render_plain(file: &[u8], out: &mut [u8]) -> usize
-    ensures { λ r. ⌜ PlainRendered (now (file .entry)) (now (out .entry)) (now (out .exit)) r ⌝ }
+    ensures { PlainRendered file.now out.old out.new result }
 {
     let table = verdict::analyse(file);
     let answer = verdict::verdict_of(table);

@@ -1,30 +1,30 @@
 // What the program prints by the words `meet` and `set` (#102), in lent bytes: number and place, then each row of a set, each segment.
 //
 // Each `put_` function writes lines from place `at` on, as far as there is room, and returns the place after them.
+ghost use Rattle.std.specs.Prelude.{◌+◌, ◌*◌, ◌≤◌, length};
+ghost use Rattle.rules.specs.Bounds.{max_elements, max_rows};
+ghost use Rattle.rules.specs.Program.{shared, row_lines, segment_lines, MeetingPrinted, CrowdPrinted};
+ghost use Rattle.decimal.specs.Puts.{limit, max_line, PutsLine, PutsLines};
+ghost use Rattle.report.specs.MeetLines.{numbered, member_lines, Rendered};
+
 use crate::put_value;
 use decimal::put_line;
 use table::Table;
-ghost use Prim.Native.Nat.{_+_, _*_, _≤_};
-ghost use lib.ListN.{length};
-ghost use Rattle·rules.specs.Bounds.{max-elements, max-rows};
-ghost use Rattle·rules.specs.Program.{shared, row-lines, segment-lines, MeetingPrinted, CrowdPrinted};
-ghost use Rattle·decimal.specs.Puts.{limit, max-line, PutsLine, PutsLines};
-ghost use Rattle·report·specs.specs.MeetLines.{numbered, memberLines, Rendered};
 
 // Room for every report: 64 bytes for each line of the answer, the rows and the segments.
 pub const SIZE: usize = 64 * (1 + Table::ROWS + Table::ELEMENTS);
 
 fn put_answer(number: u32, place: u32, out: &mut [u8]) -> usize
-    ensures { λ r. ⌜ PutsLine (shared number place) (now (out .entry)) 0 (now (out .exit)) r ⌝ }
+    ensures { PutsLine (shared number place) out.old 0 out.new result }
 {
     put_line(b"shared", &[number as u64, place as u64], out, 0)
 }
 
 // A line for each of the first `bits` bits of a word that is set, numbered from `first` on.
 fn put_members(name: &[u8], word: u64, first: u64, bits: u64, out: &mut [u8], at: usize) -> usize
-    requires { ⌜ (length (now name) ≤ 8) × (first ≤ 1) × (bits ≤ 64) × (at + max-line * bits ≤ limit) ⌝ }
-    ensures { λ r. ⌜ PutsLines (memberLines (λ k. numbered (now (name .entry)) (first + k)) bits word) bits (now (out .entry)) at
-        (now (out .exit)) r ⌝ }
+    requires { (length name.now ≤ 8) × (first ≤ 1) × (bits ≤ 64) × (at + max_line * bits ≤ limit) }
+    ensures { PutsLines (member_lines (λ k. numbered name.now (first + k)) bits word) bits out.old at
+        out.new result }
 {
     let mut next = at;
     let mut k: u64 = 0;
@@ -38,22 +38,22 @@ fn put_members(name: &[u8], word: u64, first: u64, bits: u64, out: &mut [u8], at
 }
 
 fn put_rows(word: u64, out: &mut [u8], at: usize) -> usize
-    requires { ⌜ at + max-line * max-rows ≤ limit ⌝ }
-    ensures { λ r. ⌜ PutsLines (row-lines word) max-rows (now (out .entry)) at (now (out .exit)) r ⌝ }
+    requires { at + max_line * max_rows ≤ limit }
+    ensures { PutsLines (row_lines word) max_rows out.old at out.new result }
 {
     put_members(b"row", word, 0, Table::ROWS as u64, out, at)
 }
 
 fn put_segments(word: u32, out: &mut [u8], at: usize) -> usize
-    requires { ⌜ at + max-line * max-elements ≤ limit ⌝ }
-    ensures { λ r. ⌜ PutsLines (segment-lines word) max-elements (now (out .entry)) at (now (out .exit)) r ⌝ }
+    requires { at + max_line * max_elements ≤ limit }
+    ensures { PutsLines (segment_lines word) max_elements out.old at out.new result }
 {
     put_members(b"segment", word as u64, 1, Table::ELEMENTS as u64, out, at)
 }
 
 // What the program prints for rows `i` and `j` of a table file, at the front of `out`; how many bytes it is.
 pub fn rows(file: &[u8], i: usize, j: usize, out: &mut [u8]) -> usize
-    ensures { λ r. ⌜ Rendered (MeetingPrinted (now (file .entry)) i j) (now (out .entry)) (now (out .exit)) r ⌝ }
+    ensures { Rendered (MeetingPrinted file.now i j) out.old out.new result }
 {
     let found = meeting::meet(file, i, j);
     let next = put_answer(found.answer.number, found.answer.place, out);
@@ -62,7 +62,7 @@ pub fn rows(file: &[u8], i: usize, j: usize, out: &mut [u8]) -> usize
 
 // The same for set number `k`.
 pub fn set(file: &[u8], k: usize, out: &mut [u8]) -> usize
-    ensures { λ r. ⌜ Rendered (CrowdPrinted (now (file .entry)) k) (now (out .entry)) (now (out .exit)) r ⌝ }
+    ensures { Rendered (CrowdPrinted file.now k) out.old out.new result }
 {
     let found = meeting::of_set(file, k);
     let next = put_answer(found.answer.number, found.answer.place, out);

@@ -1,30 +1,30 @@
 // What the program prints by the word `raise` (document 02, #111), in lent bytes: a line for each raised row, then the result's verdict.
 //
 // Each `put_` function writes lines from place `at` on, as far as there is room, and returns the place after them.
+ghost use Rattle.std.specs.Prelude.{ℕ, ◌+◌, ◌*◌, ◌≤◌, ◌<◌};
+ghost use Rattle.numbers.specs.Lists.{at};
+ghost use Rattle.rules.specs.Bounds.{max_rows, max_slots};
+ghost use Rattle.rules.specs.Program.{verdict};
+ghost use Rattle.rules.specs.Raising.{raise};
+ghost use Rattle.decimal.specs.Puts.{limit, max_line, PutsLine, PutsLines};
+ghost use Rattle.report.specs.RaisedLines.{Costs, raised_lines, RaiseRendered};
+
 use decimal::put_line;
-use table::Answer;
-use table::Table;
-ghost use Prim.Native.Nat.{ℕ, _+_, _*_, _≤_, _<_};
-ghost use Rattle·numbers.specs.Lists.{at};
-ghost use Rattle·rules.specs.Bounds.{max-rows, max-slots};
-ghost use Rattle·rules.specs.Program.{verdict};
-ghost use Rattle·rules.specs.Raising.{raise};
-ghost use Rattle·decimal.specs.Puts.{limit, max-line, PutsLine, PutsLines};
-ghost use Rattle·report·specs.specs.RaisedLines.{Costs, raisedLines, RaiseRendered};
+use table::{Answer, Table};
 
 // Room for every report: 64 bytes for each row and the verdict.
 pub const SIZE: usize = 64 * (Table::ROWS + 1);
 
 fn put_result(number: u32, place: u32, out: &mut [u8], at: usize) -> usize
-    requires { ⌜ at + max-line ≤ limit ⌝ }
-    ensures { λ r. ⌜ PutsLine (verdict number place) (now (out .entry)) at (now (out .exit)) r ⌝ }
+    requires { at + max_line ≤ limit }
+    ensures { PutsLine (verdict number place) out.old at out.new result }
 {
     put_line(b"verdict", &[number as u64, place as u64], out, at)
 }
 
 fn put_raise(row: usize, old: u64, new: u64, out: &mut [u8], at: usize) -> usize
-    requires { ⌜ (row < max-rows) × (old ≤ max-slots) × (new ≤ max-slots) × (at + max-line * 2 ≤ limit) ⌝ }
-    ensures { λ r. ⌜ PutsLine (raise row old new) (now (out .entry)) at (now (out .exit)) r ⌝ }
+    requires { (row < max_rows) × (old ≤ max_slots) × (new ≤ max_slots) × (at + max_line * 2 ≤ limit) }
+    ensures { PutsLine (raise row old new) out.old at out.new result }
 {
     put_line(b"raise", &[row as u64, old, new], out, at)
 }
@@ -36,9 +36,9 @@ fn put_raises<'a>(
     new: &'a [u16; Table::ROWS],
     out: &mut [u8],
 ) -> usize
-    requires { ⌜ Costs rows (at (now old)) (at (now new)) ⌝ }
-    ensures { λ r. ⌜ PutsLines (raisedLines rows (at (now (old .entry))) (at (now (new .entry)))) rows (now (out .entry)) 0
-        (now (out .exit)) r ⌝ }
+    requires { Costs rows (at old.now) (at new.now) }
+    ensures { PutsLines (raised_lines rows (at old.now) (at new.now)) rows out.old 0
+        out.new result }
 {
     let mut next: usize = 0;
     let mut i: usize = 0;
@@ -55,7 +55,7 @@ fn put_raises<'a>(
 
 // What the program prints for a table file, at the front of `out`; how many bytes it is.
 pub fn render(file: &[u8], out: &mut [u8]) -> usize
-    ensures { λ r. ⌜ RaiseRendered (now (file .entry)) (now (out .entry)) (now (out .exit)) r ⌝ }
+    ensures { RaiseRendered file.now out.old out.new result }
 {
     let found = raising::raised_table(file);
     let answer = found.given.answer;

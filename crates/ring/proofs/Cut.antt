@@ -1,149 +1,149 @@
 -- The cut of a ring: in its own numbers the lowest element with none of its rows through it, or M + 1 where every element has some row
 -- through it (refusal 10). All is said of either ring d.
-use mathlib.Core.Path.{_≡_, refl, sym, ap, ap₂, _∙_}
-use mathlib.Core.Logic.{⊎-elim, _↔_, _≢_}
-use mathlib.Core.Bool.{Bool, true, false, not, _&&_, _||_}
-use Prim.Native.Nat.{ℕ, suc, _+_, _-_, _/_, _%_, _^_, _≤_, _<_}
+use mathlib.Core.Path.{◌≡◌, refl, sym, ap, ap₂, ◌∙◌}
+use mathlib.Core.Logic.{⊎_elim, ◌↔◌, ◌≢◌}
+use mathlib.Core.Bool.{Bool, true, false, not, ◌&&◌, ◌||◌}
+use Prim.Native.Nat.{ℕ, suc, ◌+◌, ◌-◌, ◌/◌, ◌%◌, ◌^◌, ◌≤◌, ◌<◌}
 use native.Mathlib.Omega.{arith}
-use lib.Bits.{bitOr}
+use lib.Bits.{bit_or}
 use lib.Dec.{T, eqb, eqb→eq, leb, ltb, leb→le, le→leb, ltb→lt, lt→ltb}
 use lib.Pow.{shr-shr}
-use borrow.Author.Tests.{eq-eqb, ne-eqb}
-use Rattle·numbers.specs.Finite.{any}
-use Rattle·numbers.specs.Word.{bit, Stretch}
-use Rattle·numbers.proofs.Truth.{both, fst, snd, orl, orr, or-cases, same, refuted, refutes, decide, is-true, of-true, of-false, le-or-lt}
-use Rattle·numbers.proofs.Truth.{eqb-of, and-under}
-use Rattle·numbers.proofs.Word.{bit-zero, bit-or, inside}
-use Rattle·numbers.proofs.Finite.{any-next, any-of, any-eq, least, lowest-le, lowest-has, lowest-below, lowest-is, lowest-none}
-use Rattle·rules.specs.Bus.{Table, mirror, steps, through, routeUses, routeThrough}
-use Rattle·rules.specs.Line.{clear, cut}
-use Rattle·rules.specs.Refusals.{no-cut}
-use Rattle·ring·specs.specs.Route.{Element, Shows}
-use Rattle·ring·proofs.proofs.Clockwise.{steps-cases, steps-less}
-use Rattle·ring·proofs.proofs.Mirror.{mirror-element, mirror-back}
+use borrow.Author.Tests.{eq-eqb, ne_eqb}
+use Rattle.numbers.specs.Finite.{any}
+use Rattle.numbers.specs.Word.{bit, Stretch}
+use Rattle.numbers.proofs.Truth.{both, fst, snd, orl, orr, or_cases, same, refuted, refutes, decide, is_true, of_true, of_false, le_or_lt}
+use Rattle.numbers.proofs.Truth.{eqb_of, and_under}
+use Rattle.numbers.proofs.Word.{bit_zero, bit_or_lem, inside}
+use Rattle.numbers.proofs.Finite.{any_next, any_of, any_eq, least, lowest_le, lowest_has, lowest_below, lowest_is, lowest_none}
+use Rattle.rules.specs.Bus.{Table, mirror, steps, through, route_uses, route_through}
+use Rattle.rules.specs.Line.{clear, cut}
+use Rattle.rules.specs.Refusals.{no_cut}
+use Rattle.ring.specs.Route.{Element, Shows}
+use Rattle.ring.proofs.Clockwise.{steps_cases, steps_less}
+use Rattle.ring.proofs.Mirror.{mirror_element, mirror_back}
 
 -- ---- clear elements
 
 module _ (t : Table) (d : ℕ) where
   abbrev M : ℕ
-  M = t .elements
+  M = t.elements
 
   -- row i runs on ring d, and goes through element e of that ring's numbers
-  abbrev pub ringThrough : ℕ → ℕ → Bool
-  ringThrough i e = eqb (t .way i) d && routeThrough M (mirror M d (t .first i)) (mirror M d (t .second i)) e
+  abbrev pub ring_through : ℕ → ℕ → Bool
+  ring_through i e = eqb (t.way i) d && route_through M (mirror M d (t.first i)) (mirror M d (t.second i)) e
 
-  ring-through : {e : ℕ} (i : ℕ) → Element M e → (eqb (t .way i) d && through t i (mirror M d e)) ≡ ringThrough i e
+  ring_through_lem : {e : ℕ} (i : ℕ) → Element M e → (eqb (t.way i) d && through t i (mirror M d e)) ≡ ring_through i e
   unfolding through
-  ring-through i x = and-under (eqb (t .way i) d) _ _ (λ h. rw (eqb→eq (t .way i) d h, mirror-back d x))
+  ring_through_lem i x = and_under (eqb (t.way i) d) _ _ (λ h. rw (eqb→eq (t.way i) d h, mirror_back d x))
 
-  pub clear-ring : {e : ℕ} → Element M e → clear t d (mirror M d e) ≡ not (any (t .rows) (λ i. ringThrough i e))
+  pub clear_ring : {e : ℕ} → Element M e → clear t d (mirror M d e) ≡ not (any t.rows (λ i. ring_through i e))
   unfolding clear
-  clear-ring x = ap not (any-eq (t .rows) _ _ (λ i l. ring-through i x))
+  clear_ring x = ap not (any_eq t.rows _ _ (λ i l. ring_through_lem i x))
 
   -- no row of the ring goes through a clear element
-  clear-none : (e i : ℕ) → T (clear t d e) → i < t .rows → t .way i ≡ d → T (through t i e) → ⊥
+  clear_none : (e i : ℕ) → T (clear t d e) → i < t.rows → t.way i ≡ d → T (through t i e) → ⊥
   unfolding clear
-  clear-none e i h l w p =
-      refutes (any (t .rows) (λ j. eqb (t .way j) d && through t j e)) h
-      (any-of (t .rows) (λ j. eqb (t .way j) d && through t j e) i l (both (eqb (t .way i) d) (through t i e) (eqb-of _ _ w) p))
+  clear_none e i h l w p =
+      refutes (any t.rows (λ j. eqb (t.way j) d && through t j e)) h
+      (any_of t.rows (λ j. eqb (t.way j) d && through t j e) i l (both (eqb (t.way i) d) (through t i e) (eqb_of _ _ w) p))
 
   -- some row of the ring goes through an element that is not clear
-  not-clear : (e : ℕ) → (T (clear t d e) → ⊥) → (i : ℕ) × (i < t .rows) × ((t .way i ≡ d) × T (through t i e))
+  not_clear : (e : ℕ) → (T (clear t d e) → ⊥) → (i : ℕ) × (i < t.rows) × ((t.way i ≡ d) × T (through t i e))
   unfolding clear
-  not-clear e h =
-      let test : ℕ → Bool = λ j. eqb (t .way j) d && through t j e in
-      let some = any (t .rows) test in
-      let w = least (t .rows) test (⊎-elim (λ a. a) (λ b. absurd (h (refuted some b))) (decide some)) in (
-        w .0,
-        w .1,
+  not_clear e h =
+      let test : ℕ → Bool = λ j. eqb (t.way j) d && through t j e in
+      let some = any t.rows test in
+      let w = least t.rows test (⊎_elim (λ a. a) (λ b. absurd (h (refuted some b))) (decide some)) in (
+        w.0,
+        w.1,
         (
-          eqb→eq (t .way (w .0)) d (fst (eqb (t .way (w .0)) d) (through t (w .0) e) (w .2)),
-          snd (eqb (t .way (w .0)) d) (through t (w .0) e) (w .2),
+          eqb→eq (t.way w.0) d (fst (eqb (t.way w.0) d) (through t w.0 e) w.2),
+          snd (eqb (t.way w.0) d) (through t w.0 e) w.2,
         ),
       )
 
   -- ---- the cut
 
-  pub cut-low : 1 ≤ cut t d
+  pub cut_low : 1 ≤ cut t d
   unfolding cut
-  cut-low = omega arith
+  cut_low = omega arith
 
-  pub cut-high : cut t d ≤ M + 1
+  pub cut_high : cut t d ≤ M + 1
   unfolding cut
-  cut-high = omega (arith, lowest-le M (λ e. clear t d (mirror M d (suc e))))
+  cut_high = omega (arith, lowest_le M (λ e. clear t d (mirror M d (suc e))))
 
   -- no row of the ring goes through it
-  pub cut-clear : cut t d ≤ M → (i : ℕ) → i < t .rows → t .way i ≡ d → T (through t i (mirror M d (cut t d))) → ⊥
+  pub cut_clear : cut t d ≤ M → (i : ℕ) → i < t.rows → t.way i ≡ d → T (through t i (mirror M d (cut t d))) → ⊥
   unfolding cut
-  cut-clear h i = clear-none (mirror M d (cut t d)) i (lowest-has M (λ e. clear t d (mirror M d (suc e))) h)
+  cut_clear h i = clear_none (mirror M d (cut t d)) i (lowest_has M (λ e. clear t d (mirror M d (suc e))) h)
 
   -- every element before the cut has some row of the ring through it
-  pub cut-lowest : (e : ℕ) → 1 ≤ e → e < cut t d → (i : ℕ) × (i < t .rows) × ((t .way i ≡ d) × T (through t i (mirror M d e)))
+  pub cut_lowest : (e : ℕ) → 1 ≤ e → e < cut t d → (i : ℕ) × (i < t.rows) × ((t.way i ≡ d) × T (through t i (mirror M d e)))
   unfolding cut
-  cut-lowest e l h =
+  cut_lowest e l h =
       let z : suc (e - 1) ≡ e = omega arith in
-      rw z at (not-clear (mirror M d (suc (e - 1))) (lowest-below M (λ k. clear t d (mirror M d (suc k))) (e - 1) (omega arith)))
+      rw z at (not_clear (mirror M d (suc (e - 1))) (lowest_below M (λ k. clear t d (mirror M d (suc k))) (e - 1) (omega arith)))
 
   -- refusal 10 is given exactly if the cut is M + 1
-  pub cut-none : no-cut t d .applies ↔ (cut t d ≡ M + 1)
-  cut-none = (
+  pub cut_none : (no_cut t d).applies ↔ (cut t d ≡ M + 1)
+  cut_none = (
     λ h.
-        ⊎-elim
+        ⊎_elim
         (λ (l : cut t d ≤ M).
-        let x = mirror-element d (record { low = cut-low; high = l }) in
-        let w = h (mirror M d (cut t d)) (x .low, x .high) in
-        absurd (cut-clear l (w .0) (w .1) (w .2 .0) (w .2 .1)))
-        (λ (l : M < cut t d). omega (arith, cut-high))
-        (le-or-lt (cut t d) M),
+        let x = mirror_element d (record { low = cut_low; high = l }) in
+        let w = h (mirror M d (cut t d)) (x.low, x.high) in
+        absurd (cut_clear l w.0 w.1 w.2.0 w.2.1))
+        (λ (l : M < cut t d). omega (arith, cut_high))
+        (le_or_lt (cut t d) M),
     λ z e w.
-        let x : Element M e = record { low = w .0; high = w .1 } in
-        let y = mirror-element d x in
-        rw (mirror-back d x) at (cut-lowest (mirror M d e) (y .low) (omega (arith, z, y .high))),
+        let x : Element M e = record { low = w.0; high = w.1 } in
+        let y = mirror_element d x in
+        rw (mirror_back d x) at (cut_lowest (mirror M d e) y.low (omega (arith, z, y.high))),
   )
 
   -- a ring with no rows has cut 1
-  pub cut-idle : 1 ≤ M → ((i : ℕ) → i < t .rows → t .way i ≢ d) → cut t d ≡ 1
-  cut-idle m h =
-      ⊎-elim (λ (l : cut t d ≤ 1). omega (arith, cut-low))
-      (λ (l : 1 < cut t d). let w = cut-lowest 1 (omega arith) l in absurd (h (w .0) (w .1) (w .2 .0)))
-      (le-or-lt (cut t d) 1)
+  pub cut_idle : 1 ≤ M → ((i : ℕ) → i < t.rows → t.way i ≢ d) → cut t d ≡ 1
+  cut_idle m h =
+      ⊎_elim (λ (l : cut t d ≤ 1). omega (arith, cut_low))
+      (λ (l : 1 < cut t d). let w = cut_lowest 1 (omega arith) l in absurd (h w.0 w.1 w.2.0))
+      (le_or_lt (cut t d) 1)
 
 -- ---- the elements that rows go through, as a word
 
-or-swap : (a b c d : Bool) → ((a || b) || (c || d)) ≡ ((a || c) || (b || d))
-or-swap true b c d = refl
-or-swap false true true d = refl
-or-swap false true false d = refl
-or-swap false false c d = refl
+or_swap : (a b c d : Bool) → ((a || b) || (c || d)) ≡ ((a || c) || (b || d))
+or_swap true b c d = refl
+or_swap false true true d = refl
+or_swap false true false d = refl
+or_swap false false c d = refl
 
-pub shows-none : (M : ℕ) (p : ℕ → ℕ → Bool) → Shows M 0 (λ e. any 0 (λ i. p i e))
+pub shows_none : (M : ℕ) (p : ℕ → ℕ → Bool) → Shows M 0 (λ e. any 0 (λ i. p i e))
 unfolding any
-shows-none M p = record { element = λ e h. ap₂ _||_ (bit-zero e) (bit-zero (M + e)) }
+shows_none M p = record { element = λ e h. ap₂ ◌||◌ (bit_zero e) (bit_zero (M + e)) }
 
 -- a row of another ring goes through none
-pub shows-off : (M : ℕ) {way d : ℕ} (p : ℕ → Bool) → way ≢ d → Shows M 0 (λ e. eqb way d && p e)
-shows-off M {way} {d} p n = record { element = λ e h. ap₂ _||_ (bit-zero e) (bit-zero (M + e)) ∙ sym (rw (ne-eqb way d n)) }
+pub shows_off : (M : ℕ) {way d : ℕ} (p : ℕ → Bool) → way ≢ d → Shows M 0 (λ e. eqb way d && p e)
+shows_off M {way} {d} p n = record { element = λ e h. ap₂ ◌||◌ (bit_zero e) (bit_zero (M + e)) ∙ sym (rw (ne_eqb way d n)) }
 
-pub shows-on : {M w way d : ℕ} (p : ℕ → Bool) → way ≡ d → Shows M w p → Shows M w (λ e. eqb way d && p e)
-shows-on {way = way} {d = d} p z S = record { element = λ e h. S .element e h ∙ sym (rw (eq-eqb way d z)) }
+pub shows_on : {M w way d : ℕ} (p : ℕ → Bool) → way ≡ d → Shows M w p → Shows M w (λ e. eqb way d && p e)
+shows_on {way = way} {d = d} p z S = record { element = λ e h. S.element e h ∙ sym (rw (eq-eqb way d z)) }
 
 -- one row more
-pub shows-next : {M v w : ℕ} (i : ℕ) (p : ℕ → ℕ → Bool) → Shows M v (λ e. any i (λ k. p k e)) → Shows M w (p i)
-    → Shows M (bitOr v w) (λ e. any (i + 1) (λ k. p k e))
-shows-next {M} {v} {w} i p before row = record {
+pub shows_next : {M v w : ℕ} (i : ℕ) (p : ℕ → ℕ → Bool) → Shows M v (λ e. any i (λ k. p k e)) → Shows M w (p i)
+    → Shows M (bit_or v w) (λ e. any (i + 1) (λ k. p k e))
+shows_next {M} {v} {w} i p before row = record {
   element = λ e h.
-      ap₂ _||_ (bit-or v w e) (bit-or v w (M + e)) ∙ or-swap (bit v e) (bit w e) (bit v (M + e)) (bit w (M + e))
-      ∙ ap₂ _||_ (before .element e h) (row .element e h) ∙ sym (any-next i (λ k. p k e));
+      ap₂ ◌||◌ (bit_or_lem v w e) (bit_or_lem v w (M + e)) ∙ or_swap (bit v e) (bit w e) (bit v (M + e)) (bit w (M + e))
+      ∙ ap₂ ◌||◌ (before.element e h) (row.element e h) ∙ sym (any_next i (λ k. p k e));
 }
 
 -- bit M + e brought to bit e
-pub shows-clear : {w : ℕ} (t : Table) (d : ℕ) → Shows (t .elements) w (λ e. any (t .rows) (λ i. ringThrough t d i e)) → (e : ℕ)
-    → Element (t .elements) e → not (bit (bitOr w (w / 2 ^ t .elements)) e) ≡ clear t d (mirror (t .elements) d e)
+pub shows_clear : {w : ℕ} (t : Table) (d : ℕ) → Shows t.elements w (λ e. any t.rows (λ i. ring_through t d i e)) → (e : ℕ)
+    → Element t.elements e → not (bit (bit_or w (w / 2 ^ t.elements)) e) ≡ clear t d (mirror t.elements d e)
 unfolding bit
-shows-clear {w} t d S e h =
-    let M = t .elements in
-    ap not (bit-or w (w / 2 ^ M) e ∙ ap (λ (b : Bool). bit w e || b) (ap (λ (k : ℕ). eqb (k % 2) 1) (shr-shr w M e)) ∙ S .element e h)
-    ∙ sym (clear-ring t d h)
+shows_clear {w} t d S e h =
+    let M = t.elements in
+    ap not (bit_or_lem w (w / 2 ^ M) e ∙ ap (λ (b : Bool). bit w e || b) (ap (λ (k : ℕ). eqb (k % 2) 1) (shr-shr w M e)) ∙ S.element e h)
+    ∙ sym (clear_ring t d h)
 
 -- ---- a route's stretch, as a word
 
@@ -158,41 +158,41 @@ module _ (x : ℕ) {M a b e : ℕ} (ea : Element M a) (eb : Element M b) (ee : E
   stands : (k : ℕ) → a + x ≤ k → k < a + steps M a b → T (here k)
   stands k l m = both (leb (a + x) k) (ltb k (a + steps M a b)) (le→leb (a + x) k l) (lt→ltb k (a + steps M a b) m)
 
-  goes-here : T (here e || here (M + e)) → T goes
-  goes-here h =
-      let less : steps M a b < M = steps-less ea eb in
+  goes_here : T (here e || here (M + e)) → T goes
+  goes_here h =
+      let less : steps M a b < M = steps_less ea eb in
       let go : x ≤ steps M a e → steps M a e < steps M a b → T goes =
       λ l m. both (leb x (steps M a e)) _ (le→leb _ _ l) (lt→ltb _ _ m) in
-      ⊎-elim
+      ⊎_elim
       (λ k.
       let w = inside (a + x) (a + steps M a b) e k in
-      ⊎-elim (λ u. go (omega arith) (omega arith)) (λ u. absurd (let z : ⊥ = omega arith in z)) (steps-cases ea ee))
+      ⊎_elim (λ u. go (omega arith) (omega arith)) (λ u. absurd (let z : ⊥ = omega arith in z)) (steps_cases ea ee))
       (λ k.
       let w = inside (a + x) (a + steps M a b) (M + e) k in
-      ⊎-elim (λ u. absurd (let z : ⊥ = omega arith in z)) (λ u. go (omega arith) (omega arith)) (steps-cases ea ee))
-      (or-cases (here e) (here (M + e)) h)
+      ⊎_elim (λ u. absurd (let z : ⊥ = omega arith in z)) (λ u. go (omega arith) (omega arith)) (steps_cases ea ee))
+      (or_cases (here e) (here (M + e)) h)
 
-  here-goes : T goes → T (here e || here (M + e))
-  here-goes h =
+  here_goes : T goes → T (here e || here (M + e))
+  here_goes h =
       let l : x ≤ steps M a e = leb→le _ _ (fst (leb x (steps M a e)) _ h) in
       let m : steps M a e < steps M a b = ltb→lt _ _ (snd (leb x (steps M a e)) _ h) in
-      ⊎-elim
+      ⊎_elim
       (λ u. orl (here e) (here (M + e)) (stands e (omega arith) (omega arith)))
       (λ u. orr (here e) (here (M + e)) (stands (M + e) (omega arith) (omega arith)))
-      (steps-cases ea ee)
+      (steps_cases ea ee)
 
-pub stretch-shows : (x : ℕ) {M a b w : ℕ} → Element M a → Element M b → Stretch (a + x) (a + steps M a b) w
+pub stretch_shows : (x : ℕ) {M a b w : ℕ} → Element M a → Element M b → Stretch (a + x) (a + steps M a b) w
     → Shows M w (λ e. leb x (steps M a e) && ltb (steps M a e) (steps M a b))
-stretch-shows x {M} ea eb S = record {
-  element = λ e ee. ap₂ _||_ (S .bits e) (S .bits (M + e)) ∙ same _ _ (goes-here x ea eb ee) (here-goes x ea eb ee);
+stretch_shows x {M} ea eb S = record {
+  element = λ e ee. ap₂ ◌||◌ (S.bits e) (S.bits (M + e)) ∙ same _ _ (goes_here x ea eb ee) (here_goes x ea eb ee);
 }
 
-pub uses-shows : {M a b w : ℕ} → Element M a → Element M b → Stretch a (a + steps M a b) w → Shows M w (routeUses M a b)
-uses-shows {M} {a} {b} {w} ea eb S = record {
+pub uses_shows : {M a b w : ℕ} → Element M a → Element M b → Stretch a (a + steps M a b) w → Shows M w (route_uses M a b)
+uses_shows {M} {a} {b} {w} ea eb S = record {
   element = λ e ee.
       let z : a + 0 ≡ a = omega arith in
-      stretch-shows 0 ea eb (rw z S) .element e ee
-      ∙ ap (λ (c : Bool). c && routeUses M a b e) (is-true (leb 0 (steps M a e)) (le→leb 0 (steps M a e) (omega arith)));
+      (stretch_shows 0 ea eb (rw z S)).element e ee
+      ∙ ap (λ (c : Bool). c && route_uses M a b e) (is_true (leb 0 (steps M a e)) (le→leb 0 (steps M a e) (omega arith)));
 }
 
 -- ---- the search for it, from element 1 up
@@ -200,31 +200,31 @@ uses-shows {M} {a} {b} {w} ea eb S = record {
 -- no element before e is clear, in the ring's numbers
 pub record Searched (t : Table) (d e : ℕ) : Type 0 where
   pub low : 1 ≤ e
-  pub high : e ≤ t .elements + 1
-  pub none : (k : ℕ) → 1 ≤ k → k < e → T (clear t d (mirror (t .elements) d k)) → ⊥
+  pub high : e ≤ t.elements + 1
+  pub none : (k : ℕ) → 1 ≤ k → k < e → T (clear t d (mirror t.elements d k)) → ⊥
 
-pub searched-start : (t : Table) (d : ℕ) → Searched t d 1
-searched-start t d = record { low = omega arith; high = omega arith; none = λ k l h c. absurd (let z : ⊥ = omega arith in z) }
+pub searched_start : (t : Table) (d : ℕ) → Searched t d 1
+searched_start t d = record { low = omega arith; high = omega arith; none = λ k l h c. absurd (let z : ⊥ = omega arith in z) }
 
-pub searched-next : {t : Table} {d e : ℕ} → Searched t d e → e ≤ t .elements → clear t d (mirror (t .elements) d e) ≡ false
+pub searched_next : {t : Table} {d e : ℕ} → Searched t d e → e ≤ t.elements → clear t d (mirror t.elements d e) ≡ false
     → Searched t d (e + 1)
-searched-next {t} {d} {e} S l n = record {
+searched_next {t} {d} {e} S l n = record {
   low = omega arith;
   high = omega arith;
   none = λ k h m c.
-      ⊎-elim (λ (p : e ≤ k). let z : k ≡ e = omega arith in of-false n (rw z at c)) (λ (p : k < e). S .none k h p c) (le-or-lt e k);
+      ⊎_elim (λ (p : e ≤ k). let z : k ≡ e = omega arith in of_false n (rw z at c)) (λ (p : k < e). S.none k h p c) (le_or_lt e k);
 }
 
-pub searched-found : {t : Table} {d e : ℕ} → Searched t d e → e ≤ t .elements → clear t d (mirror (t .elements) d e) ≡ true → e ≡ cut t d
+pub searched_found : {t : Table} {d e : ℕ} → Searched t d e → e ≤ t.elements → clear t d (mirror t.elements d e) ≡ true → e ≡ cut t d
 unfolding cut
-searched-found {t} {d} {e} S l c =
-    let M = t .elements in
+searched_found {t} {d} {e} S l c =
+    let M = t.elements in
     let z : suc (e - 1) ≡ e = omega arith in
-    let none : (k : ℕ) → k < e - 1 → T (clear t d (mirror M d (suc k))) → ⊥ = λ k m. S .none (suc k) (omega arith) (omega arith) in
-    omega (arith, lowest-is M (λ k. clear t d (mirror M d (suc k))) (e - 1) (omega arith) (rw z (of-true c)) none)
+    let none : (k : ℕ) → k < e - 1 → T (clear t d (mirror M d (suc k))) → ⊥ = λ k m. S.none (suc k) (omega arith) (omega arith) in
+    omega (arith, lowest_is M (λ k. clear t d (mirror M d (suc k))) (e - 1) (omega arith) (rw z (of_true c)) none)
 
-pub searched-all : {t : Table} {d e : ℕ} → Searched t d e → t .elements < e → e ≡ cut t d
+pub searched_all : {t : Table} {d e : ℕ} → Searched t d e → t.elements < e → e ≡ cut t d
 unfolding cut
-searched-all {t} {d} {e} S l =
-    let M = t .elements in
-    omega (arith, lowest-none M (λ k. clear t d (mirror M d (suc k))) (λ k m. S .none (suc k) (omega arith) (omega arith)))
+searched_all {t} {d} {e} S l =
+    let M = t.elements in
+    omega (arith, lowest_none M (λ k. clear t d (mirror M d (suc k))) (λ k m. S.none (suc k) (omega arith) (omega arith)))

@@ -1,32 +1,30 @@
 -- Rows on the rings by their two ends and their direction, and the line of the code.
 --
 --   Routes M n first second way   the ends of n rows are elements of a ring of M, and there is a ring for each row
---   onRing M n first second way   a table of which only the rings and the rows' ends and directions are told; cuts and line of any table
+--   on_ring M n first second way   a table of which only the rings and the rows' ends and directions are told; cuts and line of any table
 --                                 are its (proofs/Rows)
---   cutOf c q d                   c for the ring that runs clockwise, q for the other
+--   cut_of c q d                   c for the ring that runs clockwise, q for the other
 --   Renumbered M c q n first second way r   r holds the numbers of n rows' ends on the line of both rings, whose cuts are c and q, and 0
 --                                 past the last row
-use mathlib.Core.Bool.{cond}
-use Prim.Native.Nat.{ℕ, _≤_, _<_}
-use lib.Dec.{eqb}
-use Rattle·rules.specs.Bounds.{max-elements, max-rows, max-rings}
-use Rattle·rules.specs.Bus.{Table, clockwise}
-use Rattle·table.specs.Columns.{ByRow}
-use Rattle·ring·specs.specs.Route.{Element, rowElement, rowEnd}
-use Rattle·ring·specs.specs.declared.Line.{Line}
+use Rattle.std.specs.Prelude.{cond, ℕ, ◌≤◌, ◌<◌, eqb}
+use Rattle.rules.specs.Bounds.{max_elements, max_rows, max_rings}
+use Rattle.rules.specs.Bus.{Table, clockwise}
+use Rattle.table.specs.Columns.{ByRow}
+use Rattle.ring.specs.Route.{Element, row_element, row_end}
+use Rattle.ring.specs.declared.Line.{Line}
 
 pub record Routes (M n : ℕ) (first second way : ℕ → ℕ) : Type 0 where
-  pub small : M ≤ max-elements
-  pub few : n ≤ max-rows
+  pub small : M ≤ max_elements
+  pub few : n ≤ max_rows
   pub starts : (i : ℕ) → i < n → Element M (first i)
   pub ends : (i : ℕ) → i < n → Element M (second i)
-  pub ways : (i : ℕ) → i < n → way i < max-rings
+  pub ways : (i : ℕ) → i < n → way i < max_rings
 
-abbrev pub onRing : ℕ → ℕ → (first second way : ℕ → ℕ) → Table
-onRing M n first second way = record {
+abbrev pub on_ring : ℕ → ℕ → (first second way : ℕ → ℕ) → Table
+on_ring M n first second way = record {
   elements = M;
   rows = n;
-  rings = max-rings;
+  rings = max_rings;
   cost = λ i. 0;
   period = λ i. 0;
   first = first;
@@ -34,9 +32,9 @@ onRing M n first second way = record {
   way = way;
 }
 
-unfoldable pub cutOf : (c q d : ℕ) → ℕ
-cutOf c q d = cond (eqb d clockwise) c q
+unfoldable pub cut_of : (c q d : ℕ) → ℕ
+cut_of c q d = cond (eqb d clockwise) c q
 
 pub record Renumbered (M c q n : ℕ) (first second way : ℕ → ℕ) (r : Line) : Type 0 where
-  pub starts : ByRow n (λ i. rowElement M (way i) (cutOf c q (way i)) (first i)) (r .first)
-  pub ends : ByRow n (λ i. rowEnd M (way i) (cutOf c q (way i)) (second i)) (r .second)
+  pub starts : ByRow n (λ i. row_element M (way i) (cut_of c q (way i)) (first i)) r.first
+  pub ends : ByRow n (λ i. row_end M (way i) (cut_of c q (way i)) (second i)) r.second

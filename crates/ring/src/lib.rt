@@ -1,22 +1,23 @@
 // From ring to line: the elements a row goes through, each ring's cut, and the rows' ends on the line. Rows are routes between two elements
 // here, one way or the other: what they cost, when they come and which file they came from is not known. What runs counterclockwise is
 // mirrored first, and then all is as on the other ring.
+#![tactic(auto)]
+
+ghost use Rattle.std.specs.Prelude.{◌≡◌, not, ◌&&◌, ℕ, ◌+◌, ◌*◌, ◌≤◌, ◌<◌, eqb};
+ghost use Rattle.numbers.specs.Lists.{at};
+ghost use Rattle.numbers.specs.Word.{bit};
+ghost use Rattle.rules.specs.Bounds.{max_elements, max_rings};
+ghost use Rattle.rules.specs.Bus as bus;
+ghost use Rattle.rules.specs.Line as line;
+ghost use Rattle.table.specs.Columns.{ByRow, OneWay};
+ghost use Rattle.ring.specs.Route as route;
+ghost use Rattle.ring.specs.Route.{Element, Shows};
+ghost use Rattle.ring.specs.Rows.{Routes, on_ring, cut_of, Renumbered};
+
 use table::Table;
-ghost use mathlib.Core.Path.{_≡_};
-ghost use mathlib.Core.Bool.{not, _&&_};
-ghost use Prim.Native.Nat.{ℕ, _+_, _*_, _≤_, _<_};
-ghost use lib.Dec.{eqb};
-ghost use Rattle·numbers.specs.Lists.{at};
-ghost use Rattle·numbers.specs.Word.{bit};
-ghost use Rattle·rules.specs.Bounds.{max-elements, max-rings};
-ghost use Rattle·rules.specs.Bus as bus;
-ghost use Rattle·rules.specs.Line as line;
-ghost use Rattle·table.specs.Columns.{ByRow, OneWay};
-ghost use Rattle·ring·specs.specs.Route as route;
-ghost use Rattle·ring·specs.specs.Route.{Element, Shows};
-ghost use Rattle·ring·specs.specs.Rows.{Routes, onRing, cutOf, Renumbered};
 
 // The rows' ends on the line, 0 past the last row.
+#[derive(Clone, Copy)]
 pub struct Line {
     pub first: [u8; Table::ROWS],
     pub second: [u8; Table::ROWS],
@@ -24,8 +25,8 @@ pub struct Line {
 
 // How many segments lie from element `from` clockwise to element `to`.
 fn steps(m: usize, from: usize, to: usize) -> usize
-    requires { ⌜ (m ≤ max-elements) × Element m from × Element m to ⌝ }
-    ensures { λ r. ⌜ (r ≡ bus.steps m from to) × (r < m) ⌝ }
+    requires { (m ≤ max_elements) × Element m from × Element m to }
+    ensures { (result ≡ bus.steps m from to) × (result < m) }
 {
     if from <= to { to - from } else { to + m - from }
 }
@@ -33,24 +34,24 @@ fn steps(m: usize, from: usize, to: usize) -> usize
 // The elements that the route from element `from` clockwise to element `to` goes through: bit e shows element e, or bit m + e where the
 // route has passed from element m to element 1.
 fn through(m: usize, from: usize, to: usize) -> u64
-    requires { ⌜ (m ≤ max-elements) × Element m from × Element m to ⌝ }
-    ensures { λ r. ⌜ Shows m r (bus.routeThrough m from to) ⌝ }
+    requires { (m ≤ max_elements) × Element m from × Element m to }
+    ensures { Shows m result (bus.route_through m from to) }
 {
     numbers::stretch(from + 1, from + steps(m, from, to))
 }
 
 // The segments that this route uses, shown in the same way.
 fn uses(m: usize, from: usize, to: usize) -> u64
-    requires { ⌜ (m ≤ max-elements) × Element m from × Element m to ⌝ }
-    ensures { λ r. ⌜ Shows m r (bus.routeUses m from to) ⌝ }
+    requires { (m ≤ max_elements) × Element m from × Element m to }
+    ensures { Shows m result (bus.route_uses m from to) }
 {
     numbers::stretch(from, from + steps(m, from, to))
 }
 
 // The word of these segments: bit s - 1 for segment s.
 pub fn segments(m: usize, from: usize, to: usize) -> u32
-    requires { ⌜ (m ≤ max-elements) × Element m from × Element m to ⌝ }
-    ensures { λ r. ⌜ r ≡ route.segments m from to ⌝ }
+    requires { (m ≤ max_elements) × Element m from × Element m to }
+    ensures { result ≡ route.segments m from to }
 {
     let word = uses(m, from, to);
     (((word | (word >> m)) >> 1usize) & numbers::stretch(0, m)) as u32
@@ -58,16 +59,16 @@ pub fn segments(m: usize, from: usize, to: usize) -> u32
 
 // Element `e`'s number on the line that begins at `cut`.
 fn line_element(m: usize, cut: usize, e: usize) -> usize
-    requires { ⌜ (m ≤ max-elements) × Element m cut × Element m e ⌝ }
-    ensures { λ r. ⌜ (r ≡ route.lineElement m cut e) × (r ≤ m) ⌝ }
+    requires { (m ≤ max_elements) × Element m cut × Element m e }
+    ensures { (result ≡ route.line_element m cut e) × (result ≤ m) }
 {
     steps(m, cut, e) + 1
 }
 
 // The same for a second end, which at the cut stands at the end of the line.
 fn line_end(m: usize, cut: usize, e: usize) -> usize
-    requires { ⌜ (m ≤ max-elements) × Element m cut × Element m e ⌝ }
-    ensures { λ r. ⌜ (r ≡ route.lineEnd m cut e) × (r ≤ m + 1) ⌝ }
+    requires { (m ≤ max_elements) × Element m cut × Element m e }
+    ensures { (result ≡ route.line_end m cut e) × (result ≤ m + 1) }
 {
     if e == cut {
         m + 1
@@ -78,16 +79,16 @@ fn line_end(m: usize, cut: usize, e: usize) -> usize
 
 // Element `e` in the numbers of ring `d`, or an element of that ring in the board's.
 pub fn mirrored(m: usize, d: usize, e: usize) -> usize
-    requires { ⌜ (m ≤ max-elements) × Element m e ⌝ }
-    ensures { λ r. ⌜ (r ≡ bus.mirror m d e) × Element m r ⌝ }
+    requires { (m ≤ max_elements) × Element m e }
+    ensures { (result ≡ bus.mirror m d e) × Element m result }
 {
     if d == 0 { e } else { m + 1 - e }
 }
 
 // Whether a row of direction `way` goes through element `e`.
 pub fn goes_through(m: usize, way: usize, from: usize, to: usize, e: usize) -> bool
-    requires { ⌜ (m ≤ max-elements) × Element m from × Element m to × Element m e ⌝ }
-    ensures { λ r. ⌜ r ≡ bus.routeThrough m (bus.mirror m way from) (bus.mirror m way to) (bus.mirror m way e) ⌝ }
+    requires { (m ≤ max_elements) × Element m from × Element m to × Element m e }
+    ensures { result ≡ bus.route_through m (bus.mirror m way from) (bus.mirror m way to) (bus.mirror m way e) }
 {
     let start = mirrored(m, way, from);
     let on = steps(m, start, mirrored(m, way, e));
@@ -96,8 +97,8 @@ pub fn goes_through(m: usize, way: usize, from: usize, to: usize, e: usize) -> b
 
 // The elements that a row of direction `way` goes through, in the numbers of ring `d`; none where it runs on the other ring.
 fn through_row(m: usize, d: usize, way: usize, from: usize, to: usize) -> u64
-    requires { ⌜ (m ≤ max-elements) × Element m from × Element m to ⌝ }
-    ensures { λ r. ⌜ Shows m r (λ e. eqb way d && bus.routeThrough m (bus.mirror m d from) (bus.mirror m d to) e) ⌝ }
+    requires { (m ≤ max_elements) × Element m from × Element m to }
+    ensures { Shows m result (λ e. eqb way d && bus.route_through m (bus.mirror m d from) (bus.mirror m d to) e) }
 {
     if way != d {
         return 0;
@@ -115,10 +116,10 @@ fn through_rows<'a>(
     way: &'a [u8; Table::ROWS],
     d: usize,
 ) -> u64
-    requires { ⌜ Routes elements rows (at (now first)) (at (now second)) (at (now way)) × OneWay rings rows (at (now way)) ⌝ }
-    ensures { λ r. ⌜ ((e : ℕ) → Element elements e → not (bit r e)
-        ≡ line.clear (onRing elements rows (at (now (first .entry))) (at (now (second .entry))) (at (now (way .entry)))) d
-        (bus.mirror elements d e)) ⌝ }
+    requires { Routes elements rows (at first.now) (at second.now) (at way.now) × OneWay rings rows (at way.now) }
+    ensures { (e : ℕ) → Element elements e → not (bit result e)
+        ≡ line.clear (on_ring elements rows (at first.now) (at second.now) (at way.now)) d
+        (bus.mirror elements d e) }
 {
     let mut word: u64 = 0;
     let mut i: usize = 0;
@@ -146,9 +147,9 @@ pub fn find_cut<'a>(
     way: &'a [u8; Table::ROWS],
     d: usize,
 ) -> usize
-    requires { ⌜ Routes elements rows (at (now first)) (at (now second)) (at (now way)) × OneWay rings rows (at (now way)) ⌝ }
-    ensures { λ r. ⌜ r
-        ≡ line.cut (onRing elements rows (at (now (first .entry))) (at (now (second .entry))) (at (now (way .entry)))) d ⌝ }
+    requires { Routes elements rows (at first.now) (at second.now) (at way.now) × OneWay rings rows (at way.now) }
+    ensures { result
+        ≡ line.cut (on_ring elements rows (at first.now) (at second.now) (at way.now)) d }
 {
     let word = through_rows(elements, rows, rings, first, second, way, d);
     let mut e: usize = 1;
@@ -163,8 +164,8 @@ pub fn find_cut<'a>(
 
 // The word of the board's segments that a row uses: what a route uses counterclockwise, the route back uses clockwise.
 fn row_segments(m: usize, way: usize, from: usize, to: usize) -> u32
-    requires { ⌜ (m ≤ max-elements) × Element m from × Element m to ⌝ }
-    ensures { λ r. ⌜ r ≡ route.rowSegments m way from to ⌝ }
+    requires { (m ≤ max_elements) × Element m from × Element m to }
+    ensures { result ≡ route.row_segments m way from to }
 {
     if way == 0 {
         segments(m, from, to)
@@ -181,9 +182,9 @@ pub fn lay_segments<'a>(
     second: &'a [u8; Table::ROWS],
     way: &'a [u8; Table::ROWS],
 ) -> [u32; Table::ROWS]
-    requires { ⌜ Routes elements rows (at (now first)) (at (now second)) (at (now way)) ⌝ }
-    ensures { λ r. ⌜ ByRow rows
-        (λ i. route.rowSegments elements (at (now (way .entry)) i) (at (now (first .entry)) i) (at (now (second .entry)) i)) r ⌝ }
+    requires { Routes elements rows (at first.now) (at second.now) (at way.now) }
+    ensures { ByRow rows
+        (λ i. route.row_segments elements (at way.now i) (at first.now i) (at second.now i)) result }
 {
     let mut words = [0u32; Table::ROWS];
     let mut i: usize = 0;
@@ -208,9 +209,9 @@ pub fn shared<'a>(
     i: usize,
     j: usize,
 ) -> u32
-    requires { ⌜ ((n : ℕ) × Routes elements n (at (now first)) (at (now second)) (at (now way)) × (i < n) × (j < n)) ⌝ }
-    ensures { λ r. ⌜ ((n : ℕ)
-        → r ≡ bus.shared (onRing elements n (at (now (first .entry))) (at (now (second .entry))) (at (now (way .entry)))) i j) ⌝ }
+    requires { (n : ℕ) × Routes elements n (at first.now) (at second.now) (at way.now) × (i < n) × (j < n) }
+    ensures { (n : ℕ)
+        → result ≡ bus.shared (on_ring elements n (at first.now) (at second.now) (at way.now)) i j }
 {
     let d = table::end_at(way, i);
     let e = table::end_at(way, j);
@@ -234,31 +235,31 @@ pub fn shared<'a>(
 
 // Element `k` of ring `d`'s own line, on the line of both rings.
 fn on_both(m: usize, d: usize, k: usize) -> usize
-    requires { ⌜ (m ≤ max-elements) × (d < max-rings) × (k ≤ m + 1) ⌝ }
-    ensures { λ r. ⌜ (r ≡ d * (m + 1) + k) × (r < 256) ⌝ }
+    requires { (m ≤ max_elements) × (d < max_rings) × (k ≤ m + 1) }
+    ensures { (result ≡ d * (m + 1) + k) × (result < 256) }
 {
     d * (m + 1) + k
 }
 
 // Where a row of ring `d` starts whose first end is `e`, on the line of both rings; `cut` is that of its ring.
 fn row_element(m: usize, d: usize, cut: usize, e: usize) -> usize
-    requires { ⌜ (m ≤ max-elements) × (d < max-rings) × Element m cut × Element m e ⌝ }
-    ensures { λ r. ⌜ (r ≡ route.rowElement m d cut e) × (r < 256) ⌝ }
+    requires { (m ≤ max_elements) × (d < max_rings) × Element m cut × Element m e }
+    ensures { (result ≡ route.row_element m d cut e) × (result < 256) }
 {
     on_both(m, d, line_element(m, cut, mirrored(m, d, e)))
 }
 
 // Where it ends whose second end is `e`.
 fn row_end(m: usize, d: usize, cut: usize, e: usize) -> usize
-    requires { ⌜ (m ≤ max-elements) × (d < max-rings) × Element m cut × Element m e ⌝ }
-    ensures { λ r. ⌜ (r ≡ route.rowEnd m d cut e) × (r < 256) ⌝ }
+    requires { (m ≤ max_elements) × (d < max_rings) × Element m cut × Element m e }
+    ensures { (result ≡ route.row_end m d cut e) × (result < 256) }
 {
     on_both(m, d, line_end(m, cut, mirrored(m, d, e)))
 }
 
 // The cut of ring `d`, of two.
 fn cut_of(clockwise: usize, other: usize, d: usize) -> usize
-    ensures { λ r. ⌜ r ≡ cutOf clockwise other d ⌝ }
+    ensures { result ≡ cut_of clockwise other d }
 {
     if d == 0 { clockwise } else { other }
 }
@@ -274,9 +275,9 @@ pub fn lay<'a>(
     cut: usize,
     other: usize,
 ) -> Line
-    requires { ⌜ Routes elements rows (at (now first)) (at (now second)) (at (now way)) × OneWay rings rows (at (now way))
-        × Element elements cut × Element elements other ⌝ }
-    ensures { λ r. ⌜ Renumbered elements cut other rows (at (now (first .entry))) (at (now (second .entry))) (at (now (way .entry))) r ⌝ }
+    requires { Routes elements rows (at first.now) (at second.now) (at way.now) × OneWay rings rows (at way.now)
+        × Element elements cut × Element elements other }
+    ensures { Renumbered elements cut other rows (at first.now) (at second.now) (at way.now) result }
 {
     let mut start = [0u8; Table::ROWS];
     let mut end = [0u8; Table::ROWS];

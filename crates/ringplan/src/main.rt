@@ -5,8 +5,11 @@
 // (#108), `meet I J` and `set K` (#102), `raise` and `raised` (#111), `element E` (#101) or `text`; `list` prints a list file, and `table`
 // makes a table file of a text. It writes nothing for any other word. The crates of reports say which bytes all these are. An argument
 // that is no number counts as 0.
+#![tactic(auto)]
+
 use check::same;
 use limited::Limits;
+use std::env::{Env, FillError};
 use table::Answer;
 
 // No input that passes is longer than the longest text, and nothing that is written longer than the longest list in lines.
@@ -19,17 +22,20 @@ const SIZE: usize = file_report::listing::SIZE;
 // The longest word has seven letters, and the longest number twenty digits.
 const LONGEST: usize = 20;
 
-fn number(i: usize) -> usize {
+fn number(rt: &impl Env, i: usize) -> usize {
     let mut text = [0u8; LONGEST];
-    let size = os::arg(i, &mut text);
+    let size = match rt.arg(i, &mut text) {
+        Ok(size) => size,
+        Err(_) => 0,
+    };
     let mut numbers = [0u64; 1];
     cases::numbers(&text[..size], &mut numbers);
     numbers[0] as usize
 }
 
 // A limit of more than 32 bits is refused as the largest of 32 bits is.
-fn limit(i: usize) -> u32 {
-    let given = number(i);
+fn limit(rt: &impl Env, i: usize) -> u32 {
+    let given = number(rt, i);
     if given > 0xffff_ffff {
         return 0xffff_ffff;
     }
@@ -38,10 +44,10 @@ fn limit(i: usize) -> u32 {
 
 // ---- what is written, at the front of `out`; how many bytes it is
 
-fn verdict_within(file: &[u8], out: &mut [u8]) -> usize {
+fn verdict_within(rt: &impl Env, file: &[u8], out: &mut [u8]) -> usize {
     let limits = Limits {
-        ours: limit(2),
-        theirs: limit(3),
+        ours: limit(rt, 2),
+        theirs: limit(rt, 3),
     };
     let answer = limited::judge(file, limits);
     report::put_verdict(answer.number(), answer.place(), out)
@@ -73,16 +79,16 @@ fn number_of(word: &[u8]) -> usize {
 }
 
 // What is written for the word with this number.
-fn answer(k: usize, input: &[u8], out: &mut [u8]) -> usize {
+fn answer(rt: &impl Env, k: usize, input: &[u8], out: &mut [u8]) -> usize {
     match k {
         0 => report::render_plain(input, out),
-        1 => report::render_relayed(input, number(2), out),
-        2 => verdict_within(input, out),
-        3 => report::meetings::rows(input, number(2), number(3), out),
-        4 => report::meetings::set(input, number(2), out),
+        1 => report::render_relayed(input, number(rt, 2), out),
+        2 => verdict_within(rt, input, out),
+        3 => report::meetings::rows(input, number(rt, 2), number(rt, 3), out),
+        4 => report::meetings::set(input, number(rt, 2), out),
         5 => report::raised::render(input, out),
         6 => raised(input, out),
-        7 => file_report::listing::make(input, number(2) as u64, out),
+        7 => file_report::listing::make(input, number(rt, 2) as u64, out),
         8 => file_report::listing::show(input, out),
         9 => file_report::texts::show(input, out),
         10 => file_report::texts::make(input, out),
@@ -90,21 +96,26 @@ fn answer(k: usize, input: &[u8], out: &mut [u8]) -> usize {
     }
 }
 
-fn render(input: &[u8], out: &mut [u8]) -> usize {
-    if os::arg_count() < 2 {
-        return report::render(input, out);
-    }
+fn render(rt: &impl Env, input: &[u8], out: &mut [u8]) -> usize {
     let mut word = [0u8; LONGEST];
-    let size = os::arg(1, &mut word);
-    answer(number_of(&word[..size]), input, out)
+    match rt.arg(1, &mut word) {
+        Ok(size) => answer(rt, number_of(&word[..size]), input, out),
+        Err(FillError::TooLong) => 0,
+        Err(FillError::NotPresent) => report::render(input, out),
+    }
 }
 
-fn main() {
-    let mut input = [0u8; INPUT];
-    let read = io::read_full(libc::STDIN_FILENO, &mut input);
-    let mut out = [0u8; SIZE];
-    let size = render(&input[..read], &mut out);
-    if size <= SIZE {
-        io::write_all(libc::STDOUT_FILENO, &out[..size]);
+// Nothing is written that there is no room for, and what can't be written is lost.
+fn print_answer(rt: &(impl Env + Print), input: &[u8], out: &mut [u8]) {
+    let size = render(rt, input, out);
+    if size <= out.len() {
+        let _ = rt.write_all(&out[..size]);
     }
+}
+
+fn main(rt: HostRuntime) {
+    let mut input = [0u8; INPUT];
+    let read = streams::read(&rt, &mut input);
+    let mut out = [0u8; SIZE];
+    print_answer(&rt, &input[..read], &mut out);
 }

@@ -1,35 +1,35 @@
 -- #102: the word of the segments that two rows share shows each of them, and is 0 exactly if they don't overlap.
-use mathlib.Core.Path.{_≡_, sym, ap, ap₂, _∙_}
-use mathlib.Core.Logic.{_↔_}
-use mathlib.Core.Bool.{Bool, false, _&&_}
-use Prim.Native.Nat.{ℕ, suc, _<_}
-use lib.Dec.{T, ltb, ltb→lt, lt→ltb}
-use Rattle·numbers.specs.Finite.{any}
-use Rattle·numbers.specs.Word.{bit, word}
-use Rattle·numbers.proofs.Truth.{both, fst, snd, along, is-false, of-false}
-use Rattle·numbers.proofs.Finite.{any-of, any-none}
-use Rattle·numbers.proofs.Word.{bit-word, bit-zero, bit-ext}
-use Rattle·rules·specs.specs.Bus.{Table, shares, overlap, shared}
-use Rattle·rules·specs.specs.Shared.{Shows-segments, Zero-if-apart}
+use mathlib.Core.Path.{◌≡◌, sym, ap, ◌∙◌}
+use mathlib.Core.Logic.{◌↔◌}
+use mathlib.Core.Bool.{Bool, false, ◌&&◌}
+use Prim.Native.Nat.{ℕ, suc}
+use lib.Dec.{ltb, ltb→lt, lt→ltb}
+use Rattle.numbers.specs.Finite.{any}
+use Rattle.numbers.specs.Word.{bit, word}
+use Rattle.numbers.proofs.Truth.{both, fst, snd, along, is_false, of_false}
+use Rattle.numbers.proofs.Finite.{any_of, any_none}
+use Rattle.numbers.proofs.Word.{bit_word, bit_zero, bit_ext}
+use Rattle.rules.specs.Bus.{shares, overlap, shared}
+use Rattle.rules.specs.Shared.{ShowsSegments, ZeroIfApart}
 
 -- a word is 0 exactly if no number is in its set
-word-none : (n : ℕ) (p : ℕ → Bool) → (word n p ≡ 0) ↔ (any n p ≡ false)
-word-none n p = (
+word_none : (n : ℕ) (p : ℕ → Bool) → (word n p ≡ 0) ↔ (any n p ≡ false)
+word_none n p = (
   λ e.
-      any-none n p
-      (λ k l h. of-false (bit-zero k) (along (sym (bit-word n p k) ∙ ap (λ (w : ℕ). bit w k) e) (both (ltb k n) (p k) (lt→ltb k n l) h))),
+      any_none n p
+      (λ k l h. of_false (bit_zero k) (along (sym (bit_word n p k) ∙ ap (λ (w : ℕ). bit w k) e) (both (ltb k n) (p k) (lt→ltb k n l) h))),
   λ e.
-      bit-ext (word n p) 0
+      bit_ext (word n p) 0
       (λ k.
-      bit-word n p k
-      ∙ is-false (ltb k n && p k) (λ h. of-false e (any-of n p k (ltb→lt k n (fst (ltb k n) (p k) h)) (snd (ltb k n) (p k) h)))
-      ∙ sym (bit-zero k)),
+      bit_word n p k
+      ∙ is_false (ltb k n && p k) (λ h. of_false e (any_of n p k (ltb→lt k n (fst (ltb k n) (p k) h)) (snd (ltb k n) (p k) h)))
+      ∙ sym (bit_zero k)),
 )
 
-pub shows-segments : Shows-segments
+pub shows_segments : ShowsSegments
 unfolding shared
-shows-segments t i j s = bit-word (t .elements) (λ k. shares t i j (suc k)) s
+shows_segments t i j s = bit_word t.elements (λ k. shares t i j (suc k)) s
 
-pub zero-if-apart : Zero-if-apart
+pub zero_if_apart : ZeroIfApart
 unfolding shared overlap
-zero-if-apart t i j = word-none (t .elements) (λ k. shares t i j (suc k))
+zero_if_apart t i j = word_none t.elements (λ k. shares t i j (suc k))

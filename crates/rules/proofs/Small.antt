@@ -1,210 +1,210 @@
 -- Every answer of the verdict and of the whole plan, also with limits or a relay, and of the writer has a small number and a small place,
 -- so that both fit one number for C.
-use mathlib.Core.Logic.{⊎-elim}
-use mathlib.Core.List.{List, [], _∷_, _++_, append-assoc}
-use Prim.Native.Nat.{ℕ, suc, _*_, _-_, _≤_, _<_}
+use mathlib.Core.Logic.{⊎_elim}
+use mathlib.Core.List.{List, [], ◌∷◌, ◌++◌, append_assoc}
+use Prim.Native.Nat.{ℕ, suc, ◌*◌, ◌-◌, ◌≤◌, ◌<◌}
 use native.Mathlib.Omega.{arith}
 use lib.ListN.{length}
 use lib.Dec.{lit≤}
-use Rattle·numbers.proofs.Truth.{le-or-lt}
-use Rattle·numbers.specs.Lists.{each}
-use Rattle·rules·specs.specs.Bounds.{max-elements, max-rows, max-rings}
-use Rattle·rules·specs.specs.Bus.{Table, Labelled}
-use Rattle·rules·specs.specs.TableFile.{rowNumbers, ringsOf, fileTable, fileLabelled, memoryWith, memoryLabelledWith}
-use Rattle·rules·specs.specs.Loads.{hyperperiod}
-use Rattle·rules·specs.specs.Parties.{ours, theirs, own}
-use Rattle·rules·specs.specs.Relay.{split}
-use Rattle·rules·specs.specs.Refusals.{Check, Answers, last-number, faults, pasted-row, light-row, over-bound, short-output}
-use Rattle·rules·specs.specs.Refusals.{short-file, wrong-mark, no-cut, long-hyperperiod, cut-checks}
-use Rattle·rules·specs.specs.Refusals.{over-limit, wrong-limit, segment-checks, limit-checks, limited-checks}
-use Rattle·rules·specs.specs.Refusals.{header-checks, row-checks, file-checks, pasted-checks, given-checks, line-checks, bound-checks}
-use Rattle·rules·specs.specs.Refusals.{relay-checks, split-checks, relayed-line-checks, relayed-checks}
-use Rattle·rules·specs.specs.Refusals.{no-row, shared-checks, verdict-checks, plan-checks}
-use Rattle·rules·specs.specs.Refusals.{lost-label, size-checks, memory-checks, label-checks, version-checks, writer-checks}
-use Rattle·rules·proofs.proofs.Rings.{rings-few}
-use Rattle·rules·proofs.proofs.Answers.{None, Fit, none-right, answers-split, answers-fit, fit-join, fit-each}
+use Rattle.numbers.proofs.Truth.{le_or_lt}
+use Rattle.numbers.specs.Lists.{each}
+use Rattle.rules.specs.Bounds.{max_elements, max_rows, max_rings}
+use Rattle.rules.specs.Bus.{Table, Labelled}
+use Rattle.rules.specs.TableFile.{row_numbers, rings_of, file_table, file_labelled, memory_with, memory_labelled_with}
+use Rattle.rules.specs.Loads.{hyperperiod}
+use Rattle.rules.specs.Parties.{ours, theirs, own}
+use Rattle.rules.specs.Relay.{split}
+use Rattle.rules.specs.Refusals.{Check, Answers, last_number, faults, pasted_row, light_row, over_bound, short_output}
+use Rattle.rules.specs.Refusals.{short_file, wrong_mark, no_cut, long_hyperperiod, cut_checks}
+use Rattle.rules.specs.Refusals.{over_limit, wrong_limit, segment_checks, limit_checks, limited_checks}
+use Rattle.rules.specs.Refusals.{header_checks, row_checks, file_checks, pasted_checks, given_checks, line_checks, bound_checks}
+use Rattle.rules.specs.Refusals.{relay_checks, split_checks, relayed_line_checks, relayed_checks}
+use Rattle.rules.specs.Refusals.{no_row, shared_checks, verdict_checks, plan_checks}
+use Rattle.rules.specs.Refusals.{lost_label, size_checks, memory_checks, label_checks, version_checks, writer_checks}
+use Rattle.rules.proofs.Rings.{rings_few}
+use Rattle.rules.proofs.Answers.{None, Fit, none_right, answers_split, answers_fit, fit_join, fit_each}
 
 -- places are rows, or sets, of which there are no more than rows, or segments, of which there are fewer
-abbrev pub last-place : ℕ
-last-place = max-rows - 1
+abbrev pub last_place : ℕ
+last_place = max_rows - 1
 
 -- A header that passes has no more elements and rows than a table may have, so a place past it is one of theirs.
-small-by : (f : List ℕ) (cs : List Check) (n p : ℕ)
-    → (fileTable f .elements ≤ max-elements → fileTable f .rows ≤ max-rows → Fit last-number last-place cs)
-    → Answers (header-checks f ++ cs) n p → (n ≤ last-number) × (p ≤ last-place)
-unfolding header-checks None Fit
-small-by f cs n p fit r =
-    ⊎-elim
-    (λ a. answers-fit last-number last-place (header-checks f) n p header a)
+small_by : (f : List ℕ) (cs : List Check) (n p : ℕ)
+    → ((file_table f).elements ≤ max_elements → (file_table f).rows ≤ max_rows → Fit last_number last_place cs)
+    → Answers (header_checks f ++ cs) n p → (n ≤ last_number) × (p ≤ last_place)
+unfolding header_checks None Fit
+small_by f cs n p fit r =
+    ⊎_elim
+    (λ a. answers_fit last_number last_place (header_checks f) n p header a)
     (λ a.
-    answers-fit last-number last-place cs n p
-    (fit (most 2 max-elements (fileTable f .elements) (a .0 .1 .1 .1 .0)) (most 1 max-rows (fileTable f .rows) (a .0 .1 .1 .1 .1 .0)))
-    (a .1))
-    (answers-split (header-checks f) cs n p r)
+    answers_fit last_number last_place cs n p
+    (fit (most 2 max_elements (file_table f).elements a.0.1.1.1.0) (most 1 max_rows (file_table f).rows a.0.1.1.1.1.0))
+    a.1)
+    (answers_split (header_checks f) cs n p r)
   where
-    header : Fit last-number last-place (header-checks f)
+    header : Fit last_number last_place (header_checks f)
     header =
         (lit≤ tt, lit≤ tt, (lit≤ tt, lit≤ tt, (lit≤ tt, lit≤ tt, (lit≤ tt, lit≤ tt, (lit≤ tt, lit≤ tt, (lit≤ tt, lit≤ tt, tt))))))
 
     most : (a b x : ℕ) → (¬ ((a ≤ x) × (x ≤ b)) → ⊥) → x ≤ b
-    most a b x h = ⊎-elim (λ l. l) (λ l. absurd (h (λ w. let z : ⊥ = omega (arith, l, w .1) in z))) (le-or-lt x b)
+    most a b x h = ⊎_elim (λ l. l) (λ l. absurd (h (λ w. let z : ⊥ = omega (arith, l, w.1) in z))) (le_or_lt x b)
 
 -- the checks past the header, with ds past those of the line
-abbrev past-header : Table → List Check → List Check
-past-header t ds = row-checks t ++ (pasted-checks t ++ (line-checks t ++ ds))
+abbrev past_header : Table → List Check → List Check
+past_header t ds = row_checks t ++ (pasted_checks t ++ (line_checks t ++ ds))
 
-rows-fit : (t : Table) → t .rows ≤ max-rows → Fit last-number last-place (row-checks t)
-unfolding row-checks Fit
-rows-fit t few =
-    fit-each last-number last-place (faults t) (t .rows)
+rows_fit : (t : Table) → t.rows ≤ max_rows → Fit last_number last_place (row_checks t)
+unfolding row_checks Fit
+rows_fit t few =
+    fit_each last_number last_place (faults t) t.rows
     (λ i l. (lit≤ tt, omega arith, (lit≤ tt, omega arith, (lit≤ tt, omega arith, (lit≤ tt, omega arith, tt)))))
 
 -- the writer's, of no more rows than a table may have
-pub writer-fit : (m : List ℕ) (v M n : ℕ) (xs : List ℕ) (room : ℕ) → n ≤ max-rows
-    → Fit last-number last-place (writer-checks m v M n xs room)
-unfolding writer-checks version-checks memory-checks label-checks Fit
-writer-fit m v M n xs room few =
-    let r = ringsOf m in
-    let t = memoryWith r M n xs in
-    let s = memoryLabelledWith r M n xs in
-    let sizes = size-checks t (length xs) (rowNumbers * n) in
-    let memory : Fit last-number last-place (memory-checks r M n xs) =
-    fit-join last-number last-place sizes (row-checks t) (lit≤ tt, lit≤ tt, (lit≤ tt, lit≤ tt, (lit≤ tt, lit≤ tt, tt))) (rows-fit t few) in
-    let labels = fit-each last-number last-place (λ i. lost-label v s i ∷ []) n (λ i l. (lit≤ tt, omega arith, tt)) in (
+pub writer_fit : (m : List ℕ) (v M n : ℕ) (xs : List ℕ) (room : ℕ) → n ≤ max_rows
+    → Fit last_number last_place (writer_checks m v M n xs room)
+unfolding writer_checks version_checks memory_checks label_checks Fit
+writer_fit m v M n xs room few =
+    let r = rings_of m in
+    let t = memory_with r M n xs in
+    let s = memory_labelled_with r M n xs in
+    let sizes = size_checks t (length xs) (row_numbers * n) in
+    let memory : Fit last_number last_place (memory_checks r M n xs) =
+    fit_join last_number last_place sizes (row_checks t) (lit≤ tt, lit≤ tt, (lit≤ tt, lit≤ tt, (lit≤ tt, lit≤ tt, tt))) (rows_fit t few) in
+    let labels = fit_each last_number last_place (λ i. lost_label v s i ∷ []) n (λ i l. (lit≤ tt, omega arith, tt)) in (
       lit≤ tt,
       lit≤ tt,
-      fit-join last-number last-place (version-checks r v M n xs) _
-          (lit≤ tt, lit≤ tt, fit-join last-number last-place (memory-checks r M n xs) (label-checks v s) memory labels)
+      fit_join last_number last_place (version_checks r v M n xs) _
+          (lit≤ tt, lit≤ tt, fit_join last_number last_place (memory_checks r M n xs) (label_checks v s) memory labels)
           (lit≤ tt, lit≤ tt, tt),
     )
 
-pasted-fit : (t : Table) → t .rows ≤ max-rows → Fit last-number last-place (pasted-checks t)
-unfolding pasted-checks Fit
-pasted-fit t few = fit-each last-number last-place (λ i. pasted-row t i ∷ []) (t .rows) (λ i l. (lit≤ tt, omega arith, tt))
+pasted_fit : (t : Table) → t.rows ≤ max_rows → Fit last_number last_place (pasted_checks t)
+unfolding pasted_checks Fit
+pasted_fit t few = fit_each last_number last_place (λ i. pasted_row t i ∷ []) t.rows (λ i l. (lit≤ tt, omega arith, tt))
 
-table-fit : (t : Table) (ds : List Check) → t .rows ≤ max-rows → t .rings ≤ max-rings → Fit last-number last-place ds
-    → Fit last-number last-place (past-header t ds)
-unfolding cut-checks line-checks Fit
-table-fit t ds few two fit =
-    let cuts = fit-each last-number last-place (λ d. no-cut t d ∷ []) (t .rings) (λ d l. (lit≤ tt, omega arith, tt)) in
-    let long = long-hyperperiod t ∷ [] in
-    let line = fit-join last-number last-place (cut-checks t) long cuts (lit≤ tt, lit≤ tt, tt) in
-    fit-join last-number last-place (row-checks t) (pasted-checks t ++ (line-checks t ++ ds)) (rows-fit t few)
-    (fit-join last-number last-place (pasted-checks t) (line-checks t ++ ds) (pasted-fit t few)
-    (fit-join last-number last-place (line-checks t) ds line fit))
+table_fit : (t : Table) (ds : List Check) → t.rows ≤ max_rows → t.rings ≤ max_rings → Fit last_number last_place ds
+    → Fit last_number last_place (past_header t ds)
+unfolding cut_checks line_checks Fit
+table_fit t ds few two fit =
+    let cuts = fit_each last_number last_place (λ d. no_cut t d ∷ []) t.rings (λ d l. (lit≤ tt, omega arith, tt)) in
+    let long = long_hyperperiod t ∷ [] in
+    let line = fit_join last_number last_place (cut_checks t) long cuts (lit≤ tt, lit≤ tt, tt) in
+    fit_join last_number last_place (row_checks t) (pasted_checks t ++ (line_checks t ++ ds)) (rows_fit t few)
+    (fit_join last_number last_place (pasted_checks t) (line_checks t ++ ds) (pasted_fit t few)
+    (fit_join last_number last_place (line_checks t) ds line fit))
 
-bound-fit : (t : Table) → t .rows ≤ max-rows → Fit last-number last-place (bound-checks t)
-unfolding bound-checks Fit
-bound-fit t few =
-    let light = fit-each last-number last-place (λ i. light-row t i ∷ []) (t .rows) (λ i l. (lit≤ tt, omega arith, tt)) in
-    let over = fit-each last-number last-place (λ k. over-bound t k ∷ []) (t .rows) (λ k l. (lit≤ tt, omega arith, tt)) in
-    fit-join last-number last-place (each (t .rows) (λ i. light-row t i ∷ [])) (each (t .rows) (λ k. over-bound t k ∷ [])) light over
+bound_fit : (t : Table) → t.rows ≤ max_rows → Fit last_number last_place (bound_checks t)
+unfolding bound_checks Fit
+bound_fit t few =
+    let light = fit_each last_number last_place (λ i. light_row t i ∷ []) t.rows (λ i l. (lit≤ tt, omega arith, tt)) in
+    let over = fit_each last_number last_place (λ k. over_bound t k ∷ []) t.rows (λ k l. (lit≤ tt, omega arith, tt)) in
+    fit_join last_number last_place (each t.rows (λ i. light_row t i ∷ [])) (each t.rows (λ k. over_bound t k ∷ [])) light over
 
-pub verdict-small : (f : List ℕ) (n p : ℕ) → Answers (verdict-checks f) n p → (n ≤ last-number) × (p ≤ last-place)
-unfolding verdict-checks given-checks file-checks
-verdict-small f n p r =
-    let t = fileTable f in
-    small-by f (past-header t (bound-checks t)) n p (λ low few. table-fit t (bound-checks t) few (rings-few f) (bound-fit t few))
-    (rw (append-assoc, append-assoc, append-assoc) at r)
+pub verdict_small : (f : List ℕ) (n p : ℕ) → Answers (verdict_checks f) n p → (n ≤ last_number) × (p ≤ last_place)
+unfolding verdict_checks given_checks file_checks
+verdict_small f n p r =
+    let t = file_table f in
+    small_by f (past_header t (bound_checks t)) n p (λ low few. table_fit t (bound_checks t) few (rings_few f) (bound_fit t few))
+    (rw (append_assoc, append_assoc, append_assoc) at r)
 
 -- ---- with limits
 
 -- a party's own table has as many elements as the table
-segments-fit : (number : ℕ) (t : Table) (limit : ℕ) → number ≤ last-number → t .elements ≤ max-elements
-    → Fit last-number last-place (segment-checks number t limit)
-unfolding segment-checks Fit
-segments-fit number t limit s low =
-    fit-each last-number last-place (λ s. over-limit number t limit (suc s) ∷ []) (t .elements) (λ i l. (s, omega arith, tt))
+segments_fit : (number : ℕ) (t : Table) (limit : ℕ) → number ≤ last_number → t.elements ≤ max_elements
+    → Fit last_number last_place (segment_checks number t limit)
+unfolding segment_checks Fit
+segments_fit number t limit s low =
+    fit_each last_number last_place (λ s. over_limit number t limit (suc s) ∷ []) t.elements (λ i l. (s, omega arith, tt))
 
-limits-fit : (t : Labelled) (our their : ℕ) → t .table .elements ≤ max-elements → Fit last-number last-place (limit-checks t our their)
-unfolding limit-checks own
-limits-fit t our their low =
-    fit-join last-number last-place (segment-checks 21 (own ours t) our) (segment-checks 22 (own theirs t) their)
-    (segments-fit 21 (own ours t) our (lit≤ tt) low) (segments-fit 22 (own theirs t) their (lit≤ tt) low)
+limits_fit : (t : Labelled) (our their : ℕ) → t.table.elements ≤ max_elements → Fit last_number last_place (limit_checks t our their)
+unfolding limit_checks own
+limits_fit t our their low =
+    fit_join last_number last_place (segment_checks 21 (own ours t) our) (segment_checks 22 (own theirs t) their)
+    (segments_fit 21 (own ours t) our (lit≤ tt) low) (segments_fit 22 (own theirs t) their (lit≤ tt) low)
 
-pub limited-small : (f : List ℕ) (our their n p : ℕ) → Answers (limited-checks f our their) n p → (n ≤ last-number) × (p ≤ last-place)
-unfolding limited-checks given-checks file-checks Fit
-limited-small f our their n p r =
-    let t = fileTable f in
-    let limits = limit-checks (fileLabelled f) our their in
-    let ds = limits ++ bound-checks t in
-    let front = wrong-limit our their ∷ short-file f ∷ wrong-mark f ∷ [] in
-    ⊎-elim
-    (λ a. answers-fit last-number last-place front n p (lit≤ tt, lit≤ tt, (lit≤ tt, lit≤ tt, (lit≤ tt, lit≤ tt, tt))) a)
+pub limited_small : (f : List ℕ) (our their n p : ℕ) → Answers (limited_checks f our their) n p → (n ≤ last_number) × (p ≤ last_place)
+unfolding limited_checks given_checks file_checks Fit
+limited_small f our their n p r =
+    let t = file_table f in
+    let limits = limit_checks (file_labelled f) our their in
+    let ds = limits ++ bound_checks t in
+    let front = wrong_limit our their ∷ short_file f ∷ wrong_mark f ∷ [] in
+    ⊎_elim
+    (λ a. answers_fit last_number last_place front n p (lit≤ tt, lit≤ tt, (lit≤ tt, lit≤ tt, (lit≤ tt, lit≤ tt, tt))) a)
     (λ a.
-    small-by f (past-header t ds) n p
+    small_by f (past_header t ds) n p
     (λ low few.
-    table-fit t ds few (rings-few f)
-    (fit-join last-number last-place limits (bound-checks t) (limits-fit (fileLabelled f) our their low) (bound-fit t few)))
-    (rw (append-assoc, append-assoc) at (a .1)))
-    (answers-split front (given-checks f ++ (line-checks t ++ ds)) n p r)
+    table_fit t ds few (rings_few f)
+    (fit_join last_number last_place limits (bound_checks t) (limits_fit (file_labelled f) our their low) (bound_fit t few)))
+    (rw (append_assoc, append_assoc) at a.1))
+    (answers_split front (given_checks f ++ (line_checks t ++ ds)) n p r)
 
 -- ---- with a relay
 
 module _ (f : List ℕ) (r : ℕ) where
   abbrev given : Table
-  given = fileTable f
+  given = file_table f
 
-  relay-fit : Fit last-number last-place (relay-checks given r)
-  unfolding relay-checks Fit
-  relay-fit = (lit≤ tt, lit≤ tt, (lit≤ tt, lit≤ tt, tt))
+  relay_fit : Fit last_number last_place (relay_checks given r)
+  unfolding relay_checks Fit
+  relay_fit = (lit≤ tt, lit≤ tt, (lit≤ tt, lit≤ tt, tt))
 
-  split-small : (n p : ℕ) → Answers (split-checks f r) n p → (n ≤ last-number) × (p ≤ last-place)
-  unfolding split-checks given-checks file-checks Fit
-  split-small n p a =
-      let front = short-file f ∷ wrong-mark f ∷ [] in
-      let past = pasted-checks given ++ relay-checks given r in
-      ⊎-elim
-      (λ b. answers-fit last-number last-place front n p (lit≤ tt, lit≤ tt, (lit≤ tt, lit≤ tt, tt)) b)
+  split_small : (n p : ℕ) → Answers (split_checks f r) n p → (n ≤ last_number) × (p ≤ last_place)
+  unfolding split_checks given_checks file_checks Fit
+  split_small n p a =
+      let front = short_file f ∷ wrong_mark f ∷ [] in
+      let past = pasted_checks given ++ relay_checks given r in
+      ⊎_elim
+      (λ b. answers_fit last_number last_place front n p (lit≤ tt, lit≤ tt, (lit≤ tt, lit≤ tt, tt)) b)
       (λ b.
-      small-by f (row-checks given ++ past) n p
+      small_by f (row_checks given ++ past) n p
       (λ low few.
-      fit-join last-number last-place (row-checks given) past (rows-fit given few)
-      (fit-join last-number last-place (pasted-checks given) (relay-checks given r) (pasted-fit given few) relay-fit))
-      (rw (append-assoc, append-assoc) at (b .1)))
-      (answers-split front (given-checks f ++ relay-checks given r) n p a)
+      fit_join last_number last_place (row_checks given) past (rows_fit given few)
+      (fit_join last_number last_place (pasted_checks given) (relay_checks given r) (pasted_fit given few) relay_fit))
+      (rw (append_assoc, append_assoc) at b.1))
+      (answers_split front (given_checks f ++ relay_checks given r) n p a)
 
   -- past 28 the split table has no more rows than a table may have
-  few-split : None (split-checks f r) → split given r .rows ≤ max-rows
-  unfolding split-checks relay-checks None
-  few-split none =
-      let few = none-right (short-file f ∷ wrong-mark f ∷ given-checks f) (relay-checks given r) none .1 .0 in
+  few_split : None (split_checks f r) → (split given r).rows ≤ max_rows
+  unfolding split_checks relay_checks None
+  few_split none =
+      let few = (none_right (short_file f ∷ wrong_mark f ∷ given_checks f) (relay_checks given r) none).1.0 in
       omega (arith, few)
 
-  pub relayed-small : (n p : ℕ) → Answers (relayed-checks f r) n p → (n ≤ last-number) × (p ≤ last-place)
-  unfolding relayed-checks relayed-line-checks Fit
-  relayed-small n p a =
+  pub relayed_small : (n p : ℕ) → Answers (relayed_checks f r) n p → (n ≤ last_number) × (p ≤ last_place)
+  unfolding relayed_checks relayed_line_checks Fit
+  relayed_small n p a =
       let t = split given r in
-      let past = long-hyperperiod t ∷ bound-checks t in
-      ⊎-elim (split-small n p)
-      (λ b. answers-fit last-number last-place past n p (lit≤ tt, lit≤ tt, bound-fit t (few-split (b .0))) (b .1))
-      (answers-split (split-checks f r) past n p (rw append-assoc at a))
+      let past = long_hyperperiod t ∷ bound_checks t in
+      ⊎_elim (split_small n p)
+      (λ b. answers_fit last_number last_place past n p (lit≤ tt, lit≤ tt, bound_fit t (few_split b.0)) b.1)
+      (answers_split (split_checks f r) past n p (rw append_assoc at a))
 
 -- ---- of two rows, and of plans
 
 -- so has what is answered of two rows
-pub shared-small : (f : List ℕ) (i j n p : ℕ) → Answers (shared-checks f i j) n p → (n ≤ last-number) × (p ≤ last-place)
-unfolding shared-checks file-checks row-checks Fit
-shared-small f i j n p r = small-by f (row-checks t ++ rest) n p fit (rw append-assoc at r)
+pub shared_small : (f : List ℕ) (i j n p : ℕ) → Answers (shared_checks f i j) n p → (n ≤ last_number) × (p ≤ last_place)
+unfolding shared_checks file_checks row_checks Fit
+shared_small f i j n p r = small_by f (row_checks t ++ rest) n p fit (rw append_assoc at r)
   where
     t : Table
-    t = fileTable f
+    t = file_table f
 
     rest : List Check
-    rest = no-row t 0 i ∷ no-row t 1 j ∷ []
+    rest = no_row t 0 i ∷ no_row t 1 j ∷ []
 
-    fit : t .elements ≤ max-elements → t .rows ≤ max-rows → Fit last-number last-place (row-checks t ++ rest)
+    fit : t.elements ≤ max_elements → t.rows ≤ max_rows → Fit last_number last_place (row_checks t ++ rest)
     fit low few =
-        fit-join last-number last-place (row-checks t) rest (rows-fit t few) (lit≤ tt, lit≤ tt, (lit≤ tt, lit≤ tt, tt))
+        fit_join last_number last_place (row_checks t) rest (rows_fit t few) (lit≤ tt, lit≤ tt, (lit≤ tt, lit≤ tt, tt))
 
-abbrev room-check : Table → ℕ → List Check
-room-check t room = short-output (room < hyperperiod t) ∷ []
+abbrev room_check : Table → ℕ → List Check
+room_check t room = short_output (room < hyperperiod t) ∷ []
 
 -- a whole plan's answer is, where that of the verdict before it is
-pub plan-small : (cs : List Check) (t : Table) (room n p : ℕ) → (Answers cs n p → (n ≤ last-number) × (p ≤ last-place))
-    → Answers (plan-checks cs t room) n p → (n ≤ last-number) × (p ≤ last-place)
-unfolding plan-checks Fit
-plan-small cs t room n p small r =
-    ⊎-elim small
-    (λ a. answers-fit last-number last-place (room-check t room) n p (lit≤ tt, lit≤ tt, tt) (a .1))
-    (answers-split cs (room-check t room) n p r)
+pub plan_small : (cs : List Check) (t : Table) (room n p : ℕ) → (Answers cs n p → (n ≤ last_number) × (p ≤ last_place))
+    → Answers (plan_checks cs t room) n p → (n ≤ last_number) × (p ≤ last_place)
+unfolding plan_checks Fit
+plan_small cs t room n p small r =
+    ⊎_elim small
+    (λ a. answers_fit last_number last_place (room_check t room) n p (lit≤ tt, lit≤ tt, tt) a.1)
+    (answers_split cs (room_check t room) n p r)

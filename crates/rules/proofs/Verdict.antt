@@ -2,210 +2,210 @@
 --
 --   Tests cs           a test for each check of cs
 --   answer ts          number and place of the first check whose test holds, or 0 and 0
---   verdict-tests      the tests of the verdict's checks
---   relayed-tests      those of the verdict with a relay (#113)
-use mathlib.Core.Path.{_≡_, refl, subst}
-use mathlib.Core.Logic.{inl, inr, _≢_}
-use mathlib.Core.List.{List, [], _∷_, _++_}
+--   verdict_tests      the tests of the verdict's checks
+--   relayed_tests      those of the verdict with a relay (#113)
+use mathlib.Core.Path.{◌≡◌, refl, subst}
+use mathlib.Core.Logic.{inl, inr, ◌≢◌}
+use mathlib.Core.List.{List, [], ◌∷◌, ◌++◌}
 use mathlib.Core.Bool.{Bool, true, false, cond}
-use Prim.Native.Nat.{ℕ, zero, suc, _+_, _-_, _*_, _≤_, _<_}
+use Prim.Native.Nat.{ℕ, zero, suc, ◌+◌, ◌-◌, ◌*◌, ◌≤◌, ◌<◌}
 use native.Mathlib.Omega.{arith}
 use lib.Dec.{T, ltb, ltb→lt, lit<}
 use lib.ListN.{length}
-use Rattle·numbers.specs.Word.{bit}
-use Rattle·numbers.specs.Lists.{at, each}
-use Rattle·rules·specs.specs.Bounds.{max-elements, max-rows, max-rings, max-slots}
-use Rattle·rules·specs.specs.Bus.{Table, Labelled, through, pasted}
-use Rattle·rules·specs.specs.TableFile.{table-mark, board-mark, version-1, version-2, headerSize, rowSize, mark, version}
-use Rattle·rules·specs.specs.TableFile.{fileRings, fileTable}
-use Rattle·rules·specs.specs.Line.{Sets}
-use Rattle·rules·specs.specs.Loads.{hyperperiod, light, over}
-use Rattle·rules·specs.specs.Parties.{ours, theirs, own, overLimit}
-use Rattle·rules·specs.specs.Relay.{split}
-use Rattle·rules·specs.specs.Refusals.{
+use Rattle.numbers.specs.Word.{bit}
+use Rattle.numbers.specs.Lists.{at, each}
+use Rattle.rules.specs.Bounds.{max_elements, max_rows, max_rings, max_slots}
+use Rattle.rules.specs.Bus.{Table, Labelled, through, pasted}
+use Rattle.rules.specs.TableFile.{table_mark, board_mark, version_1, version_2, header_size, row_size, mark, version}
+use Rattle.rules.specs.TableFile.{file_rings, file_table}
+use Rattle.rules.specs.Line.{Sets}
+use Rattle.rules.specs.Loads.{hyperperiod, light, over}
+use Rattle.rules.specs.Parties.{ours, theirs, own, is_over_limit}
+use Rattle.rules.specs.Relay.{split}
+use Rattle.rules.specs.Refusals.{
   Check,
   Answers,
-  unknown-mark,
-  wrong-version,
-  no-cut,
-  long-hyperperiod,
-  over-bound,
-  row-checks,
-  header-checks,
-  file-checks,
-  pasted-checks,
-  given-checks,
-  cut-checks,
-  line-checks,
-  bound-checks,
-  segment-checks,
-  limit-checks,
-  verdict-checks,
-  relay-checks,
-  split-checks,
-  relayed-line-checks,
-  relayed-checks,
+  unknown_mark,
+  wrong_version,
+  no_cut,
+  long_hyperperiod,
+  over_bound,
+  row_checks,
+  header_checks,
+  file_checks,
+  pasted_checks,
+  given_checks,
+  cut_checks,
+  line_checks,
+  bound_checks,
+  segment_checks,
+  limit_checks,
+  verdict_checks,
+  relay_checks,
+  split_checks,
+  relayed_line_checks,
+  relayed_checks,
 }
-use Rattle·numbers.proofs.Tests.{Test, holds-test, lt-test, le-test, eq-test, list-test}
-use Rattle·numbers.proofs.Tests.{as-test, not-test, and-test, or-test, every-test, any-test}
-use Rattle·rules·proofs.proofs.Answers.{stopped}
-use Rattle·rules·proofs.proofs.Sets.{sets-only, sets-test, sets-by}
+use Rattle.numbers.proofs.Tests.{Test, holds_test, lt_test, le_test, eq_test, list_test}
+use Rattle.numbers.proofs.Tests.{as_test, not_test, and_test, or_test, every_test, any_test}
+use Rattle.rules.proofs.Answers.{stopped}
+use Rattle.rules.proofs.Sets.{sets_only, sets_test, sets_by}
 
-infixr 10 _then_
+infixr 10 ◌then◌
 pub data Tests : List Check → Type 1 where
   none : Tests []
-  _then_ : {c : Check} {cs : List Check} → Test (c .applies) → Tests cs → Tests (c ∷ cs)
+  ◌then◌ : {c : Check} {cs : List Check} → Test c.applies → Tests cs → Tests (c ∷ cs)
 
 abbrev pub answer : {cs : List Check} → Tests cs → ℕ × ℕ
 answer none = (0, 0)
-answer (_then_ {c} {cs} t ts) = let later = answer ts in cond (t .test) (c .number, c .place) later
+answer (◌then◌ {c} {cs} t ts) = let later = answer ts in cond t.test (c.number, c.place) later
 
-pub answer-is : {cs : List Check} (ts : Tests cs) → Answers cs (answer ts .0) (answer ts .1)
+pub answer_is : {cs : List Check} (ts : Tests cs) → Answers cs (answer ts).0 (answer ts).1
 unfolding Answers
-answer-is none = (refl, refl)
-answer-is (_then_ {c} {cs} t ts) = go (t .test) (t .is) (t .of) (answer ts) (answer-is ts)
+answer_is none = (refl, refl)
+answer_is (◌then◌ {c} {cs} t ts) = go t.test t.is t.of (answer ts) (answer_is ts)
   where
-    go : (b : Bool) → (T b → c .applies) → (c .applies → T b) → (r : ℕ × ℕ) → Answers cs (r .0) (r .1)
-        → Answers (c ∷ cs) (cond b (c .number, c .place) r .0) (cond b (c .number, c .place) r .1)
+    go : (b : Bool) → (T b → c.applies) → (c.applies → T b) → (r : ℕ × ℕ) → Answers cs r.0 r.1
+        → Answers (c ∷ cs) (cond b (c.number, c.place) r).0 (cond b (c.number, c.place) r).1
     go true is of r a = inl (is tt, refl, refl)
     go false is of r a = inr (of, a)
 
 -- ---- lists of checks that are joined
 
-abbrev pub tests-join : {cs ds : List Check} → Tests cs → Tests ds → Tests (cs ++ ds)
-tests-join none us = us
-tests-join (t then ts) us = t then tests-join ts us
+abbrev pub tests_join : {cs ds : List Check} → Tests cs → Tests ds → Tests (cs ++ ds)
+tests_join none us = us
+tests_join (t then ts) us = t then tests_join ts us
 
-abbrev pub tests-each : (n : ℕ) {f : ℕ → List Check} → ((i : ℕ) → Tests (f i)) → Tests (each n f)
+abbrev pub tests_each : (n : ℕ) {f : ℕ → List Check} → ((i : ℕ) → Tests (f i)) → Tests (each n f)
 unfolding each
-tests-each zero ts = none
-tests-each (suc n) ts = tests-join (tests-each n ts) (ts n)
+tests_each zero ts = none
+tests_each (suc n) ts = tests_join (tests_each n ts) (ts n)
 
 -- ---- the checks
 
 -- x is one of a, a + 1, .., b
-abbrev pub in-test : (x a b : ℕ) → Test ((a ≤ x) × (x ≤ b))
-in-test x a b = and-test (le-test a x) (le-test x b)
+abbrev pub in_test : (x a b : ℕ) → Test ((a ≤ x) × (x ≤ b))
+in_test x a b = and_test (le_test a x) (le_test x b)
 
-abbrev pub mark-test : (m : List ℕ) → Test (unknown-mark m .applies)
-mark-test m = and-test (not-test (list-test m table-mark)) (not-test (list-test m board-mark))
+abbrev pub mark_test : (m : List ℕ) → Test (unknown_mark m).applies
+mark_test m = and_test (not_test (list_test m table_mark)) (not_test (list_test m board_mark))
 
-abbrev pub version-test : (r v : ℕ) → Test (wrong-version r v .applies)
-version-test r v = and-test (not-test (eq-test v version-1)) (or-test (not-test (eq-test v version-2)) (eq-test r max-rings))
+abbrev pub version_test : (r v : ℕ) → Test (wrong_version r v).applies
+version_test r v = and_test (not_test (eq_test v version_1)) (or_test (not_test (eq_test v version_2)) (eq_test r max_rings))
 
-abbrev pub header-tests : (f : List ℕ) → Tests (header-checks f)
-unfolding header-checks
-header-tests f =
-    lt-test (length f) headerSize
-    then mark-test (mark f)
-    then version-test (fileRings f) (version f)
-    then not-test (in-test (fileTable f .elements) 2 max-elements)
-    then not-test (in-test (fileTable f .rows) 1 max-rows)
-    then not-test (eq-test (length f) (headerSize + rowSize (fileRings f) (version f) * fileTable f .rows))
+abbrev pub header_tests : (f : List ℕ) → Tests (header_checks f)
+unfolding header_checks
+header_tests f =
+    lt_test (length f) header_size
+    then mark_test (mark f)
+    then version_test (file_rings f) (version f)
+    then not_test (in_test (file_table f).elements 2 max_elements)
+    then not_test (in_test (file_table f).rows 1 max_rows)
+    then not_test (eq_test (length f) (header_size + row_size (file_rings f) (version f) * (file_table f).rows))
     then none
 
 module _ (t : Table) where
-  abbrev pub row-tests : Tests (row-checks t)
-  unfolding row-checks
-  row-tests =
-      tests-each (t .rows) (λ i.
-      or-test (not-test (in-test (t .first i) 1 (t .elements)))
-      (or-test (not-test (in-test (t .second i) 1 (t .elements))) (eq-test (t .first i) (t .second i)))
-      then not-test (in-test (t .period i) 1 max-slots)
-      then not-test (in-test (t .cost i) 1 (t .period i))
-      then le-test (t .rings) (t .way i)
+  abbrev pub row_tests : Tests (row_checks t)
+  unfolding row_checks
+  row_tests =
+      tests_each t.rows (λ i.
+      or_test (not_test (in_test (t.first i) 1 t.elements))
+      (or_test (not_test (in_test (t.second i) 1 t.elements)) (eq_test (t.first i) (t.second i)))
+      then not_test (in_test (t.period i) 1 max_slots)
+      then not_test (in_test (t.cost i) 1 (t.period i))
+      then le_test t.rings (t.way i)
       then none)
 
-  abbrev pub pasted-tests : Tests (pasted-checks t)
-  unfolding pasted-checks
-  pasted-tests = tests-each (t .rows) (λ i. holds-test (pasted t i) then none)
+  abbrev pub pasted_tests : Tests (pasted_checks t)
+  unfolding pasted_checks
+  pasted_tests = tests_each t.rows (λ i. holds_test (pasted t i) then none)
 
   -- elements are numbered from 1
-  abbrev pub no-cut-test : (d : ℕ) → Test (no-cut t d .applies)
-  no-cut-test d =
-      as-test
-      (every-test (t .elements) (λ e. any-test (t .rows) (λ i. and-test (eq-test (t .way i) d) (holds-test (through t i (suc e))))))
+  abbrev pub no_cut_test : (d : ℕ) → Test (no_cut t d).applies
+  no_cut_test d =
+      as_test
+      (every_test t.elements (λ e. any_test t.rows (λ i. and_test (eq_test (t.way i) d) (holds_test (through t i (suc e))))))
       (λ h e b. let q : suc (e - 1) ≡ e = omega arith in
-      subst (λ (e : ℕ). (i : ℕ) × (i < t .rows) × ((t .way i ≡ d) × T (through t i e))) q (h (e - 1) (omega arith)))
+      subst (λ (e : ℕ). (i : ℕ) × (i < t.rows) × ((t.way i ≡ d) × T (through t i e))) q (h (e - 1) (omega arith)))
       (λ h e l. h (suc e) (omega arith, l))
 
-  abbrev pub cut-tests : Tests (cut-checks t)
-  unfolding cut-checks
-  cut-tests = tests-each (t .rings) (λ d. no-cut-test d then none)
+  abbrev pub cut_tests : Tests (cut_checks t)
+  unfolding cut_checks
+  cut_tests = tests_each t.rings (λ d. no_cut_test d then none)
 
-  abbrev pub line-tests : Tests (line-checks t)
-  unfolding line-checks
-  line-tests = tests-join cut-tests (lt-test max-slots (hyperperiod t) then none)
+  abbrev pub line_tests : Tests (line_checks t)
+  unfolding line_checks
+  line_tests = tests_join cut_tests (lt_test max_slots (hyperperiod t) then none)
 
-  module _ (pos : 0 < t .rows) (ws : List ℕ) (A : Sets t ws) where
-    abbrev pub over-test : (k : ℕ) → Test (over-bound t k .applies)
-    over-test k =
-        as-test (and-test (lt-test k (length ws)) (holds-test (over t (bit (at ws k)))))
-        (λ h. (ws, A, h .0, h .1))
-        (λ h. let e : h .0 ≡ ws = sets-only pos (h .1) A in
-        subst (λ (vs : List ℕ). (k < length vs) × T (over t (bit (at vs k)))) e (h .2, h .3))
+  module _ (pos : 0 < t.rows) (ws : List ℕ) (A : Sets t ws) where
+    abbrev pub over_test : (k : ℕ) → Test (over_bound t k).applies
+    over_test k =
+        as_test (and_test (lt_test k (length ws)) (holds_test (over t (bit (at ws k)))))
+        (λ h. (ws, A, h.0, h.1))
+        (λ h. let e : h.0 ≡ ws = sets_only pos h.1 A in
+        subst (λ (vs : List ℕ). (k < length vs) × T (over t (bit (at vs k)))) e (h.2, h.3))
 
-    abbrev pub bound-tests : Tests (bound-checks t)
-    unfolding bound-checks
-    bound-tests =
-        tests-join (tests-each (t .rows) (λ i. holds-test (light t i) then none)) (tests-each (t .rows) (λ k. over-test k then none))
+    abbrev pub bound_tests : Tests (bound_checks t)
+    unfolding bound_checks
+    bound_tests =
+        tests_join (tests_each t.rows (λ i. holds_test (light t i) then none)) (tests_each t.rows (λ k. over_test k then none))
 
 -- 21 and 22
-abbrev pub segment-tests : (number : ℕ) (t : Table) (limit : ℕ) → Tests (segment-checks number t limit)
-unfolding segment-checks
-segment-tests number t limit = tests-each (t .elements) (λ s. holds-test (overLimit t limit (suc s)) then none)
+abbrev pub segment_tests : (number : ℕ) (t : Table) (limit : ℕ) → Tests (segment_checks number t limit)
+unfolding segment_checks
+segment_tests number t limit = tests_each t.elements (λ s. holds_test (is_over_limit t limit (suc s)) then none)
 
-abbrev pub limit-tests : (t : Labelled) (our their : ℕ) → Tests (limit-checks t our their)
-unfolding limit-checks
-limit-tests t our their = tests-join (segment-tests 21 (own ours t) our) (segment-tests 22 (own theirs t) their)
+abbrev pub limit_tests : (t : Labelled) (our their : ℕ) → Tests (limit_checks t our their)
+unfolding limit_checks
+limit_tests t our their = tests_join (segment_tests 21 (own ours t) our) (segment_tests 22 (own theirs t) their)
 
-abbrev pub file-tests : (f : List ℕ) → Tests (file-checks f)
-unfolding file-checks
-file-tests f = tests-join (header-tests f) (row-tests (fileTable f))
+abbrev pub file_tests : (f : List ℕ) → Tests (file_checks f)
+unfolding file_checks
+file_tests f = tests_join (header_tests f) (row_tests (file_table f))
 
-abbrev pub given-tests : (f : List ℕ) → Tests (given-checks f)
-unfolding given-checks
-given-tests f = tests-join (file-tests f) (pasted-tests (fileTable f))
+abbrev pub given_tests : (f : List ℕ) → Tests (given_checks f)
+unfolding given_checks
+given_tests f = tests_join (file_tests f) (pasted_tests (file_table f))
 
-abbrev pub verdict-tests : (f ws : List ℕ) → 0 < fileTable f .rows → Sets (fileTable f) ws → Tests (verdict-checks f)
-unfolding verdict-checks
-verdict-tests f ws pos A = tests-join (tests-join (given-tests f) (line-tests (fileTable f))) (bound-tests (fileTable f) pos ws A)
+abbrev pub verdict_tests : (f ws : List ℕ) → 0 < (file_table f).rows → Sets (file_table f) ws → Tests (verdict_checks f)
+unfolding verdict_checks
+verdict_tests f ws pos A = tests_join (tests_join (given_tests f) (line_tests (file_table f))) (bound_tests (file_table f) pos ws A)
 
 -- The verdict by tests alone: ws is the list of the table's overlap sets, and the first check whose test holds gives number n and place p.
-pub verdict-by : (f ws : List ℕ) (n p : ℕ) (some : T (ltb 0 (fileTable f .rows))) (listed : T (sets-test (fileTable f) ws .test))
-    → answer (verdict-tests f ws (lit< some) (sets-by (fileTable f) ws listed)) ≡ (n, p) → Answers (verdict-checks f) n p
-verdict-by f ws n p some listed e =
-    subst (λ (r : ℕ × ℕ). Answers (verdict-checks f) (r .0) (r .1)) e
-    (answer-is (verdict-tests f ws (lit< some) (sets-by (fileTable f) ws listed)))
+pub verdict_by : (f ws : List ℕ) (n p : ℕ) (some : T (ltb 0 (file_table f).rows)) (listed : T (sets_test (file_table f) ws).test)
+    → answer (verdict_tests f ws (lit< some) (sets_by (file_table f) ws listed)) ≡ (n, p) → Answers (verdict_checks f) n p
+verdict_by f ws n p some listed e =
+    subst (λ (r : ℕ × ℕ). Answers (verdict_checks f) r.0 r.1) e
+    (answer_is (verdict_tests f ws (lit< some) (sets_by (file_table f) ws listed)))
 
 -- ---- with a relay
 
-abbrev pub split-tests : (f : List ℕ) (r : ℕ) → Tests (split-checks f r)
-unfolding split-checks relay-checks
-split-tests f r =
-    tests-join (lt-test (length f) headerSize then not-test (list-test (mark f) table-mark) then given-tests f)
-    (not-test (in-test r 1 (fileTable f .elements)) then lt-test max-rows (split (fileTable f) r .rows) then none)
+abbrev pub split_tests : (f : List ℕ) (r : ℕ) → Tests (split_checks f r)
+unfolding split_checks relay_checks
+split_tests f r =
+    tests_join (lt_test (length f) header_size then not_test (list_test (mark f) table_mark) then given_tests f)
+    (not_test (in_test r 1 (file_table f).elements) then lt_test max_rows (split (file_table f) r).rows then none)
 
 module _ (f : List ℕ) (r : ℕ) where
   abbrev t : Table
-  t = split (fileTable f) r
+  t = split (file_table f) r
 
-  abbrev pub relayed-tests : (ws : List ℕ) → 0 < t .rows → Sets t ws → Tests (relayed-checks f r)
-  unfolding relayed-checks relayed-line-checks
-  relayed-tests ws pos A =
-      tests-join (tests-join (split-tests f r) (lt-test max-slots (hyperperiod t) then none)) (bound-tests t pos ws A)
+  abbrev pub relayed_tests : (ws : List ℕ) → 0 < t.rows → Sets t ws → Tests (relayed_checks f r)
+  unfolding relayed_checks relayed_line_checks
+  relayed_tests ws pos A =
+      tests_join (tests_join (split_tests f r) (lt_test max_slots (hyperperiod t) then none)) (bound_tests t pos ws A)
 
-  pub relayed-by : (ws : List ℕ) (n p : ℕ) (some : T (ltb 0 (t .rows))) (listed : T (sets-test t ws .test))
-      → answer (relayed-tests ws (lit< some) (sets-by t ws listed)) ≡ (n, p) → Answers (relayed-checks f r) n p
-  relayed-by ws n p some listed e =
-      subst (λ (q : ℕ × ℕ). Answers (relayed-checks f r) (q .0) (q .1)) e (answer-is (relayed-tests ws (lit< some) (sets-by t ws listed)))
+  pub relayed_by : (ws : List ℕ) (n p : ℕ) (some : T (ltb 0 t.rows)) (listed : T (sets_test t ws).test)
+      → answer (relayed_tests ws (lit< some) (sets_by t ws listed)) ≡ (n, p) → Answers (relayed_checks f r) n p
+  relayed_by ws n p some listed e =
+      subst (λ (q : ℕ × ℕ). Answers (relayed_checks f r) q.0 q.1) e (answer_is (relayed_tests ws (lit< some) (sets_by t ws listed)))
 
   -- a refusal of the table as it is given, or of the relay
-  pub relayed-stops : (n p : ℕ) → T (ltb 0 n) → answer (split-tests f r) ≡ (n, p) → Answers (relayed-checks f r) n p
-  unfolding relayed-checks relayed-line-checks
-  relayed-stops n p some e =
+  pub relayed_stops : (n p : ℕ) → T (ltb 0 n) → answer (split_tests f r) ≡ (n, p) → Answers (relayed_checks f r) n p
+  unfolding relayed_checks relayed_line_checks
+  relayed_stops n p some e =
       let h : n ≢ 0 = λ z. let l = ltb→lt 0 n some in let q : ⊥ = omega (arith, z, l) in q in
-      let a : Answers (split-checks f r) n p =
-      subst (λ (q : ℕ × ℕ). Answers (split-checks f r) (q .0) (q .1)) e (answer-is (split-tests f r)) in
-      stopped (split-checks f r ++ (long-hyperperiod t ∷ [])) (bound-checks t) n p h
-      (stopped (split-checks f r) (long-hyperperiod t ∷ []) n p h a)
+      let a : Answers (split_checks f r) n p =
+      subst (λ (q : ℕ × ℕ). Answers (split_checks f r) q.0 q.1) e (answer_is (split_tests f r)) in
+      stopped (split_checks f r ++ (long_hyperperiod t ∷ [])) (bound_checks t) n p h
+      (stopped (split_checks f r) (long_hyperperiod t ∷ []) n p h a)

@@ -5,12 +5,12 @@
 --   unlabelled t       the table t, every label 0
 --   clockwise, counterclockwise   the ways that a board's two rings run, by which the rings are numbered too
 --   mirror M d e       element e in the numbers of ring d: the board's own, or mirrored where it runs counterclockwise
---   mirrorSegment M d s    segment s likewise
---   ringFirst t i, ringSecond t i   row i's ends in the numbers of its ring
+--   mirror_segment M d s    segment s likewise
+--   ring_first t i, ring_second t i   row i's ends in the numbers of its ring
 --   steps M a b        how many segments lie from element a clockwise to element b
---   routeUses M a b s      the route from element a clockwise to element b uses segment s
+--   route_uses M a b s      the route from element a clockwise to element b uses segment s
 --   uses t i s         row i's route uses segment s
---   routeThrough M a b e   that route goes through element e
+--   route_through M a b e   that route goes through element e
 --   through t i e      row i goes through element e
 --   shares t i j s     rows i and j share segment s: both run on one ring, and both routes use it
 --   overlap t i j      rows i and j overlap: their routes share a segment
@@ -20,11 +20,9 @@
 --
 -- Elements and segments are numbered 1 to M; segment s joins element s to the next one, and segment M joins M to 1. The two rings of a
 -- board join the same elements. Where nothing else is said, numbers are the board's own.
-use mathlib.Core.Bool.{Bool, not, _&&_, _||_, cond}
-use Prim.Native.Nat.{ℕ, suc, _+_, _-_, _%_}
-use lib.Dec.{ltb, eqb}
-use Rattle·numbers.specs.Finite.{any, every}
-use Rattle·numbers.specs.Word.{word}
+use Rattle.std.specs.Prelude.{Bool, not, ◌&&◌, ◌||◌, cond, ℕ, suc, ◌+◌, ◌-◌, ◌%◌, ltb, eqb}
+use Rattle.numbers.specs.Finite.{any, every}
+use Rattle.numbers.specs.Word.{word}
 
 -- A row is one periodic transfer: cost in slots, period in slots, first and second element, and the way it runs. Its first job arrives at
 -- slot 0, and each job's deadline is the next arrival: job j arrives at slot j × period and is due at slot (j + 1) × period.
@@ -59,50 +57,50 @@ unfoldable pub mirror : (M d e : ℕ) → ℕ
 mirror M d e = cond (eqb d clockwise) e (M + 1 - e)
 
 -- Then segment s, which joins element s to the next one, becomes M − s, and segment M stays M.
-unfoldable pub mirrorSegment : (M d s : ℕ) → ℕ
-mirrorSegment M d s = cond (eqb d clockwise) s (M - s % M)
+unfoldable pub mirror_segment : (M d s : ℕ) → ℕ
+mirror_segment M d s = cond (eqb d clockwise) s (M - s % M)
 
 -- A row's ends in the numbers of its ring.
-abbrev pub ringFirst : Table → ℕ → ℕ
-ringFirst t i = mirror (t .elements) (t .way i) (t .first i)
+abbrev pub ring_first : Table → ℕ → ℕ
+ring_first t i = mirror t.elements (t.way i) (t.first i)
 
-abbrev pub ringSecond : Table → ℕ → ℕ
-ringSecond t i = mirror (t .elements) (t .way i) (t .second i)
+abbrev pub ring_second : Table → ℕ → ℕ
+ring_second t i = mirror t.elements (t.way i) (t.second i)
 
 unfoldable pub steps : ℕ → ℕ → ℕ → ℕ
 steps M a b = (b + M - a) % M
 
 -- The route runs clockwise from first to second and uses every segment on the way: those that begin at an element before its end.
-abbrev pub routeUses : (M a b s : ℕ) → Bool
-routeUses M a b s = ltb (steps M a s) (steps M a b)
+abbrev pub route_uses : (M a b s : ℕ) → Bool
+route_uses M a b s = ltb (steps M a s) (steps M a b)
 
 unfoldable pub uses : Table → ℕ → ℕ → Bool
-uses t i s = routeUses (t .elements) (ringFirst t i) (ringSecond t i) (mirrorSegment (t .elements) (t .way i) s)
+uses t i s = route_uses t.elements (ring_first t i) (ring_second t i) (mirror_segment t.elements (t.way i) s)
 
 -- The element lies on the route and is neither end.
-abbrev pub routeThrough : (M a b e : ℕ) → Bool
-routeThrough M a b e = ltb 0 (steps M a e) && routeUses M a b e
+abbrev pub route_through : (M a b e : ℕ) → Bool
+route_through M a b e = ltb 0 (steps M a e) && route_uses M a b e
 
 unfoldable pub through : Table → ℕ → ℕ → Bool
-through t i e = routeThrough (t .elements) (ringFirst t i) (ringSecond t i) (mirror (t .elements) (t .way i) e)
+through t i e = route_through t.elements (ring_first t i) (ring_second t i) (mirror t.elements (t.way i) e)
 
 -- Rows of different rings never overlap (#112).
 abbrev pub shares : Table → (i j s : ℕ) → Bool
-shares t i j s = eqb (t .way i) (t .way j) && (uses t i s && uses t j s)
+shares t i j s = eqb (t.way i) (t.way j) && (uses t i s && uses t j s)
 
 unfoldable pub overlap : Table → ℕ → ℕ → Bool
-overlap t i j = any (t .elements) (λ s. shares t i j (suc s))
+overlap t i j = any t.elements (λ s. shares t i j (suc s))
 
 -- The segments are the ring's own, so no cut is needed. The word is 0 exactly if the rows don't overlap (specs/Shared).
 unfoldable pub shared : Table → ℕ → ℕ → ℕ
-shared t i j = word (t .elements) (λ s. shares t i j (suc s))
+shared t i j = word t.elements (λ s. shares t i j (suc s))
 
 unfoldable pub common : Table → (ℕ → Bool) → ℕ
-common t D = word (t .elements) (λ s. every (t .rows) (λ i. not (D i) || uses t i (suc s)))
+common t D = word t.elements (λ s. every t.rows (λ i. not (D i) || uses t i (suc s)))
 
 -- An earlier row has its first end, its second end, its period and its direction, whatever the costs.
 unfoldable pub pasted : Table → ℕ → Bool
 pasted t i =
     any i
-    (λ j. eqb (t .first j) (t .first i) && eqb (t .second j) (t .second i) && eqb (t .period j) (t .period i)
-    && eqb (t .way j) (t .way i))
+    (λ j. eqb (t.first j) (t.first i) && eqb (t.second j) (t.second i) && eqb (t.period j) (t.period i)
+    && eqb (t.way j) (t.way i))

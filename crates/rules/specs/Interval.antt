@@ -13,22 +13,15 @@
 --   SlotWords n o f x l ws   ws are the words of an interval of l slots for loads x
 --
 -- Loads and totals are whole numbers of slots by row. P i s says that row i has slot s of the interval.
-use mathlib.Core.Path.{_≡_}
-use mathlib.Core.List.{List}
-use mathlib.Core.Bool.{Bool, not, _&&_, _||_}
-use mathlib.Core.Logic.{_↔_}
-use Prim.Native.Nat.{ℕ, _+_, _-_, _*_, _≤_, _<_}
-use lib.Dec.{T, ltb, eqb}
-use lib.IntN.{ℤ, pos, _-ℤ_}
-use lib.ListN.{length}
-use Rattle·numbers.specs.Finite.{any, sumIn, count}
-use Rattle·numbers.specs.Word.{bit}
-use Rattle·numbers.specs.Lists.{at}
-use Rattle·numbers.specs.Rounding.{Rounded}
-use Rattle·numbers.specs.Signed.{sumInℤ, Roundedℤ}
-use Rattle·rules·specs.specs.Bus.{Table, overlap}
-use Rattle·rules·specs.specs.Line.{OverlapSet}
-use Rattle·rules·specs.specs.Loads.{hyperperiod, start, end, share}
+use Rattle.std.specs.Prelude.{◌≡◌, List, Bool, not, ◌&&◌, ◌||◌, ◌↔◌, ℕ, ◌+◌, ◌-◌, ◌*◌, ◌≤◌, ◌<◌, T, ltb, eqb, ℤ, pos, ◌-ℤ◌, length}
+use Rattle.numbers.specs.Finite.{any, sum_in, count}
+use Rattle.numbers.specs.Word.{bit}
+use Rattle.numbers.specs.Lists.{at}
+use Rattle.numbers.specs.Rounding.{Rounded}
+use Rattle.numbers.specs.Signed.{sum_inℤ, Roundedℤ}
+use Rattle.rules.specs.Bus.{Table, overlap}
+use Rattle.rules.specs.Line.{OverlapSet}
+use Rattle.rules.specs.Loads.{hyperperiod, start, end, share}
 
 -- The lag of a row is its share at the interval's end less the slots it has already had.
 unfoldable pub lag : Table → ℕ → (had : ℕ → ℕ) → ℕ → ℤ
@@ -36,22 +29,22 @@ lag t k had i = pos (share t i (end t k)) -ℤ pos (had i * hyperperiod t)
 
 -- A row's load is its lag rounded down or up, a set's sum of loads is its summed lag rounded down or up, and never above the interval.
 pub record ByLags (t : Table) (k : ℕ) (had x : ℕ → ℕ) : Type 0 where
-  pub rows : (i : ℕ) → i < t .rows → Roundedℤ (x i) (lag t k had i) (hyperperiod t)
-  pub sets : (D : ℕ → Bool) → OverlapSet (t .rows) (overlap t) D
-      → Roundedℤ (sumIn (t .rows) D x) (sumInℤ (t .rows) D (lag t k had)) (hyperperiod t)
-  pub fits : (D : ℕ → Bool) → OverlapSet (t .rows) (overlap t) D → sumIn (t .rows) D x ≤ end t k - start t k
+  pub rows : (i : ℕ) → i < t.rows → Roundedℤ (x i) (lag t k had i) (hyperperiod t)
+  pub sets : (D : ℕ → Bool) → OverlapSet t.rows (overlap t) D
+      → Roundedℤ (sum_in t.rows D x) (sum_inℤ t.rows D (lag t k had)) (hyperperiod t)
+  pub fits : (D : ℕ → Bool) → OverlapSet t.rows (overlap t) D → sum_in t.rows D x ≤ end t k - start t k
 
 -- As the slots already had are whole, a load is the lag rounded down or up just when slots had and load come to the share at the interval's
 -- end rounded down or up; and so for the summed lag of a set. So nothing is subtracted here, and it is proved to be the same.
 pub record Qualify (t : Table) (k : ℕ) (had x : ℕ → ℕ) : Type 0 where
-  pub rows : (i : ℕ) → i < t .rows → Rounded (had i + x i) (share t i (end t k)) (hyperperiod t)
-  pub sets : (D : ℕ → Bool) → OverlapSet (t .rows) (overlap t) D
-      → Rounded (sumIn (t .rows) D had + sumIn (t .rows) D x) (sumIn (t .rows) D (λ i. share t i (end t k))) (hyperperiod t)
-  pub fits : (D : ℕ → Bool) → OverlapSet (t .rows) (overlap t) D → sumIn (t .rows) D x ≤ end t k - start t k
+  pub rows : (i : ℕ) → i < t.rows → Rounded (had i + x i) (share t i (end t k)) (hyperperiod t)
+  pub sets : (D : ℕ → Bool) → OverlapSet t.rows (overlap t) D
+      → Rounded (sum_in t.rows D had + sum_in t.rows D x) (sum_in t.rows D (λ i. share t i (end t k))) (hyperperiod t)
+  pub fits : (D : ℕ → Bool) → OverlapSet t.rows (overlap t) D → sum_in t.rows D x ≤ end t k - start t k
 
 -- Both are the same (proofs/Lags.antt).
-abbrev pub Qualify-by-lags : Type 0
-Qualify-by-lags = (t : Table) (k : ℕ) (had x : ℕ → ℕ) → 0 < hyperperiod t → Qualify t k had x ↔ ByLags t k had x
+abbrev pub QualifyByLags : Type 0
+QualifyByLags = (t : Table) (k : ℕ) (had x : ℕ → ℕ) → 0 < hyperperiod t → Qualify t k had x ↔ ByLags t k had x
 
 -- Document 02, #110: of all load sets that qualify, the one in which row 0's load is greatest, among those row 1's, and so on. Only one x
 -- fits, on the n rows (proofs/Plans.antt).

@@ -1,42 +1,36 @@
 -- Document 01, "The program and one whole output", #102's program that says where rows meet, and #101's that shows a list of an element.
 --
 --   verdict, cut, interval, hyper, load, set, slot    the program's lines, each with its numbers
---   cut-lines t        the lines of the cuts, one for each ring, clockwise first (#112)
+--   cut_lines t        the lines of the cuts, one for each ring, clockwise first (#112)
 --   values l h x       the lines of L, h and reported load
---   set-lines ws       the lines of the overlap sets whose words are ws
---   slot-lines ws      the lines of the slots whose words are ws
---   table-lines t ws vs    the lines of an admitted table with the sets ws and the plan vs
---   max-input          it reads at most so many bytes
+--   set_lines ws       the lines of the overlap sets whose words are ws
+--   slot_lines ws      the lines of the slots whose words are ws
+--   table_lines t ws vs    the lines of an admitted table with the sets ws and the plan vs
+--   max_input          it reads at most so many bytes
 --   PrintedFor a ls    the lines ls are printed for the ask a
 --   Printed input ls   the program prints the lines ls for what stands on its standard input
 --   RelayPrinted input r ls    so does the one with the relay r (#113)
 --   shared, row, segment    the lines of the program that says where rows meet
---   row-lines w        the lines of the rows whose word is w, ascending
---   segment-lines w    the lines of the segments whose word is w, ascending
+--   row_lines w        the lines of the rows whose word is w, ascending
+--   segment_lines w    the lines of the segments whose word is w, ascending
 --   MeetingPrinted file i j ls   it prints the lines ls for rows i and j of the table on its standard input
 --   CrowdPrinted file k ls       it prints the lines ls for set number k
 --   list, element, receive, send    the lines of the program that shows a list of an element
---   entry-lines l      the lines of a list's entries, in their order
+--   entry_lines l      the lines of a list's entries, in their order
 --   ListPrinted file ls          it prints the lines ls for the list file on its standard input
-use mathlib.Core.Path.{_≡_}
-use mathlib.Core.Logic.{_≢_}
-use mathlib.Core.Bool.{cond}
-use mathlib.Core.List.{List, [], _∷_, _++_}
-use Prim.Native.Nat.{ℕ, suc}
-use lib.Dec.{eqb}
-use lib.ListN.{length, take}
-use Rattle·numbers.specs.Lists.{at, each}
-use Rattle·numbers.specs.Word.{bit}
-use Rattle·rules·specs.specs.Bounds.{max-elements, max-rows}
-use Rattle·rules·specs.specs.Bus.{Table}
-use Rattle·rules·specs.specs.Line.{Sets}
-use Rattle·rules·specs.specs.Line as line
-use Rattle·rules·specs.specs.Loads.{hyperperiod, shortest, reported}
-use Rattle·rules·specs.specs.ElementList.{Entry, ElementList, fileList}
-use Rattle·rules·specs.specs.Planner.{WholePlan}
-use Rattle·rules·specs.specs.Refusals.{Answers, list-file-checks}
-use Rattle·rules·specs.specs.Calls.{Met, Crowded, Ask, fileAsk, relayedAsk}
-use Rattle·rules·specs.specs.Text.{Line, says}
+use Rattle.std.specs.Prelude.{◌≡◌, ◌≢◌, cond, List, [], ◌∷◌, ◌++◌, ℕ, suc, eqb, length, take}
+use Rattle.numbers.specs.Lists.{at, each}
+use Rattle.numbers.specs.Word.{bit}
+use Rattle.rules.specs.Bounds.{max_elements, max_rows}
+use Rattle.rules.specs.Bus.{Table}
+use Rattle.rules.specs.Line.{Sets}
+use Rattle.rules.specs.Line as line
+use Rattle.rules.specs.Loads.{hyperperiod, shortest, reported}
+use Rattle.rules.specs.ElementList.{Entry, ElementList, file_list}
+use Rattle.rules.specs.Planner.{WholePlan}
+use Rattle.rules.specs.Refusals.{Answers, list_file_checks}
+use Rattle.rules.specs.Calls.{Met, Crowded, Ask, file_ask, relayed_ask}
+use Rattle.rules.specs.Text.{Line, says}
 
 -- ---- its lines
 
@@ -63,39 +57,39 @@ slot number word = says "slot" (number ∷ word ∷ [])
 
 -- ---- what it prints
 
-abbrev pub cut-lines : Table → List Line
-cut-lines t = each (t .rings) (λ d. cut (line.boardCut t d) ∷ [])
+abbrev pub cut_lines : Table → List Line
+cut_lines t = each t.rings (λ d. cut (line.board_cut t d) ∷ [])
 
 abbrev pub values : ℕ → ℕ → ℕ → List Line
 values l h x = interval l ∷ hyper h ∷ load x ∷ []
 
-abbrev pub set-lines : List ℕ → List Line
-set-lines ws = each (length ws) (λ k. set (at ws k) ∷ [])
+abbrev pub set_lines : List ℕ → List Line
+set_lines ws = each (length ws) (λ k. set (at ws k) ∷ [])
 
-abbrev pub slot-lines : List ℕ → List Line
-slot-lines ws = each (length ws) (λ s. slot s (at ws s) ∷ [])
+abbrev pub slot_lines : List ℕ → List Line
+slot_lines ws = each (length ws) (λ s. slot s (at ws s) ∷ [])
 
 -- one byte more than the longest table file has
-abbrev pub max-input : ℕ
-max-input = 520
+abbrev pub max_input : ℕ
+max_input = 520
 
 -- the lines of an admitted table t, of its overlap sets and of its plan
-abbrev pub table-lines : Table → (sets plan : List ℕ) → List Line
-table-lines t sets plan =
-    verdict 0 0 ∷ (cut-lines t ++ (values (shortest t) (hyperperiod t) (reported t sets) ++ (set-lines sets ++ slot-lines plan)))
+abbrev pub table_lines : Table → (sets plan : List ℕ) → List Line
+table_lines t sets plan =
+    verdict 0 0 ∷ (cut_lines t ++ (values (shortest t) (hyperperiod t) (reported t sets) ++ (set_lines sets ++ slot_lines plan)))
 
 -- On a refusal it prints its first line only.
 pub data PrintedFor (a : Ask) : List Line → Type 0 where
-  refused : (number place : ℕ) → Answers (a .checks) number place → number ≢ 0 → PrintedFor a (verdict number place ∷ [])
-  admitted : (sets plan : List ℕ) → Answers (a .checks) 0 0 → Sets (a .table) sets → WholePlan (a .table) plan
-      → PrintedFor a (table-lines (a .table) sets plan)
+  refused : (number place : ℕ) → Answers a.checks number place → number ≢ 0 → PrintedFor a (verdict number place ∷ [])
+  admitted : (sets plan : List ℕ) → Answers a.checks 0 0 → Sets a.table sets → WholePlan a.table plan
+      → PrintedFor a (table_lines a.table sets plan)
 
 abbrev pub Printed : (input : List ℕ) → List Line → Type 0
-Printed input = PrintedFor (fileAsk (take max-input input))
+Printed input = PrintedFor (file_ask (take max_input input))
 
 -- With a relay sets and slots are those of split rows.
 abbrev pub RelayPrinted : (input : List ℕ) (relay : ℕ) → List Line → Type 0
-RelayPrinted input relay = PrintedFor (relayedAsk (take max-input input) relay)
+RelayPrinted input relay = PrintedFor (relayed_ask (take max_input input) relay)
 
 -- ---- where rows meet (#102): number and place, a line for each row of a set, and one for each segment that the rows share
 
@@ -108,18 +102,18 @@ row number = says "row" (number ∷ [])
 abbrev pub segment : ℕ → Line
 segment number = says "segment" (number ∷ [])
 
-abbrev pub row-lines : ℕ → List Line
-row-lines w = each max-rows (λ i. cond (bit w i) (row i ∷ []) [])
+abbrev pub row_lines : ℕ → List Line
+row_lines w = each max_rows (λ i. cond (bit w i) (row i ∷ []) [])
 
-abbrev pub segment-lines : ℕ → List Line
-segment-lines w = each max-elements (λ s. cond (bit w s) (segment (suc s) ∷ []) [])
+abbrev pub segment_lines : ℕ → List Line
+segment_lines w = each max_elements (λ s. cond (bit w s) (segment (suc s) ∷ []) [])
 
 pub record MeetingPrinted (file : List ℕ) (i j : ℕ) (ls : List Line) : Type 0 where
   pub number : ℕ
   pub place : ℕ
   pub word : ℕ
   pub met : Met file i j number place word
-  pub lines : ls ≡ shared number place ∷ segment-lines word
+  pub lines : ls ≡ shared number place ∷ segment_lines word
 
 pub record CrowdPrinted (file : List ℕ) (k : ℕ) (ls : List Line) : Type 0 where
   pub number : ℕ
@@ -127,7 +121,7 @@ pub record CrowdPrinted (file : List ℕ) (k : ℕ) (ls : List Line) : Type 0 wh
   pub rows : ℕ
   pub segments : ℕ
   pub crowded : Crowded file k number place rows segments
-  pub lines : ls ≡ shared number place ∷ (row-lines rows ++ segment-lines segments)
+  pub lines : ls ≡ shared number place ∷ (row_lines rows ++ segment_lines segments)
 
 -- ---- a list of an element (#101): number and place, element, hyperperiod, and a line for each entry with its slot and its row
 
@@ -144,13 +138,13 @@ abbrev pub send : ℕ → ℕ → Line
 send slot row = says "send" (slot ∷ row ∷ [])
 
 abbrev pub entry : Entry → Line
-entry x = cond (eqb (x .way) 0) (receive (x .slot) (x .row)) (send (x .slot) (x .row))
+entry x = cond (eqb x.way 0) (receive x.slot x.row) (send x.slot x.row)
 
-abbrev pub entry-lines : ElementList → List Line
-entry-lines l = each (l .entries) (λ k. entry (l .entry k) ∷ [])
+abbrev pub entry_lines : ElementList → List Line
+entry_lines l = each l.entries (λ k. entry (l.entry k) ∷ [])
 
 -- On a refusal it prints its first line only.
 pub data ListPrinted (file : List ℕ) : List Line → Type 0 where
-  refused : (number place : ℕ) → Answers (list-file-checks file) number place → number ≢ 0 → ListPrinted file (list number place ∷ [])
-  shown : Answers (list-file-checks file) 0 0
-      → ListPrinted file (list 0 0 ∷ element (fileList file .element) ∷ hyper (fileList file .hyper) ∷ entry-lines (fileList file))
+  refused : (number place : ℕ) → Answers (list_file_checks file) number place → number ≢ 0 → ListPrinted file (list number place ∷ [])
+  shown : Answers (list_file_checks file) 0 0
+      → ListPrinted file (list 0 0 ∷ element (file_list file).element ∷ hyper (file_list file).hyper ∷ entry_lines (file_list file))

@@ -1,17 +1,13 @@
 -- #102: which segments two rows share. The file holds statements only; proofs/Shared proves them of any table.
 --
---   Shows-segments     bit s − 1 of the word is set exactly if both rows, on one ring, use segment s, one of 1 to M
---   Zero-if-apart      the word is 0 exactly if the rows don't overlap
-use mathlib.Core.Path.{_≡_}
-use mathlib.Core.Logic.{_↔_}
-use mathlib.Core.Bool.{false, _&&_}
-use Prim.Native.Nat.{ℕ, suc}
-use lib.Dec.{ltb}
-use Rattle·numbers.specs.Word.{bit}
-use Rattle·rules·specs.specs.Bus.{Table, shares, overlap, shared}
+--   ShowsSegments     bit s − 1 of the word is set exactly if both rows, on one ring, use segment s, one of 1 to M
+--   ZeroIfApart      the word is 0 exactly if the rows don't overlap
+use Rattle.std.specs.Prelude.{◌≡◌, ◌↔◌, false, ◌&&◌, ℕ, suc, ltb}
+use Rattle.numbers.specs.Word.{bit}
+use Rattle.rules.specs.Bus.{Table, shares, overlap, shared}
 
-abbrev pub Shows-segments : Type 0
-Shows-segments = (t : Table) (i j s : ℕ) → bit (shared t i j) s ≡ (ltb s (t .elements) && shares t i j (suc s))
+abbrev pub ShowsSegments : Type 0
+ShowsSegments = (t : Table) (i j s : ℕ) → bit (shared t i j) s ≡ (ltb s t.elements && shares t i j (suc s))
 
-abbrev pub Zero-if-apart : Type 0
-Zero-if-apart = (t : Table) (i j : ℕ) → (shared t i j ≡ 0) ↔ (overlap t i j ≡ false)
+abbrev pub ZeroIfApart : Type 0
+ZeroIfApart = (t : Table) (i j : ℕ) → (shared t i j ≡ 0) ↔ (overlap t i j ≡ false)

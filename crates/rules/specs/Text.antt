@@ -6,28 +6,24 @@
 --   Line           a word, and numbers
 --   says s xs      the line of the word s and the numbers xs
 --   fields xs      a space and a number, for each of xs
---   textOf l       a line's bytes: its word, its numbers, and a newline
+--   text_of l       a line's bytes: its word, its numbers, and a newline
 --   text ls        the bytes of lines, in order
 --
 -- `decimal n` is the one text that is plain and has the value n (crate `decimal`, specs/Plain).
-use mathlib.Core.List.{List, [], _∷_, _++_}
-use mathlib.Core.Bool.{cond}
-use Prim.Native.Nat.{ℕ, zero, suc, _+_, _/_, _%_}
-use Prim.Native.Char.{Char, code}
-use Prim.Native.String.{String, [] as empty, _∷_ as _then_}
-use lib.Dec.{ltb}
-use lib.ListN.{length}
-use Rattle·numbers.specs.Lists.{at, each}
+use Rattle.std.specs.Prelude.{List, [], ◌∷◌, ◌++◌, cond, ℕ, zero, suc, ◌+◌, ◌/◌, ◌%◌, ltb, length}
+use Prim.Native.Char.{code}
+use Prim.Native.String.{String, [] as empty, ◌∷◌ as ◌then◌}
+use Rattle.numbers.specs.Lists.{at, each}
 
 abbrev pub letters : String → List ℕ
 letters empty = []
 letters (c then s) = code c ∷ letters s
 
-abbrev pub zero-byte : ℕ
-zero-byte = 0x30
+abbrev pub zero_byte : ℕ
+zero_byte = 0x30
 
 abbrev pub digit : ℕ → ℕ
-digit d = zero-byte + d
+digit d = zero_byte + d
 
 -- the last k digits of n, fewer where n has fewer
 unfoldable pub spell : ℕ → ℕ → List ℕ
@@ -54,9 +50,9 @@ newline = 0x0A
 abbrev pub fields : List ℕ → List ℕ
 fields xs = each (length xs) (λ k. space ∷ decimal (at xs k))
 
-abbrev pub textOf : Line → List ℕ
-textOf l = l .word ++ (fields (l .numbers) ++ (newline ∷ []))
+abbrev pub text_of : Line → List ℕ
+text_of l = l.word ++ (fields l.numbers ++ (newline ∷ []))
 
 unfoldable pub text : List Line → List ℕ
 text [] = []
-text (l ∷ ls) = textOf l ++ text ls
+text (l ∷ ls) = text_of l ++ text ls

@@ -9,21 +9,21 @@
 //
 // The words are parted by spaces. Any other line, and one with a number that its place can't hold, is answered `no such line`. Until a live
 // table is made it is all zeros, which breaks the rules: 15.
-use cases::find;
-use cases::number_at;
-use libc::STDIN_FILENO;
-use libc::STDOUT_FILENO;
-use live::Entry;
-use live::Live;
-use table::Answer;
-use table::Table;
-ghost use Prim.Native.Nat.{_≤_};
-ghost use lib.ListN.{length};
+#![tactic(auto)]
+
+ghost use Rattle.std.specs.Prelude.{◌≤◌, length};
+
+use cases::{find, number_at};
+use live::{Entry, Live};
+use table::{Answer, Table};
 
 // as many numbers as a line has at most
 const MOST: usize = 5;
 
 const LARGEST: u64 = 65535;
+
+// no more of the input is read
+const INPUT: usize = 65536;
 
 // room for the longest line that is printed: 12 letters, 6 numbers of up to 20 digits with a space each, and a newline
 const LINE: usize = 12 + 6 * 21 + 1;
@@ -81,17 +81,17 @@ fn small_at(given: &[u64], k: usize) -> u16 {
     (number_at(given, k) % (LARGEST + 1)) as u16
 }
 
-// ---- the answers
+// ---- the answers; one that can't be written is lost
 
-fn print_line(word: &[u8], numbers: &[u64])
-    requires { ⌜ (length (now word) ≤ 12) × (length (now numbers) ≤ 6) ⌝ }
+fn print_line(rt: &impl Print, word: &[u8], numbers: &[u64])
+    requires { (length word.now ≤ 12) × (length numbers.now ≤ 6) }
 {
     let mut line = [0u8; LINE];
     let size = decimal::put_line(word, numbers, &mut line, 0);
-    io::write_all(STDOUT_FILENO, &line[..size]);
+    let _ = rt.write_all(&line[..size]);
 }
 
-fn print_row(live: Live, i: usize) {
+fn print_row(rt: &impl Print, live: Live, i: usize) {
     if i >= Table::ROWS {
         return;
     }
@@ -99,6 +99,7 @@ fn print_row(live: Live, i: usize) {
         return;
     }
     print_line(
+        rt,
         b"row",
         &[
             i as u64,
@@ -111,7 +112,7 @@ fn print_row(live: Live, i: usize) {
     );
 }
 
-fn print_sum(live: Live, s: usize) {
+fn print_sum(rt: &impl Print, live: Live, s: usize) {
     if s >= live.elements {
         return;
     }
@@ -119,25 +120,25 @@ fn print_sum(live: Live, s: usize) {
         return;
     }
     let sums = live.sums;
-    print_line(b"segment", &[s as u64 + 1, sums[s]]);
+    print_line(rt, b"segment", &[s as u64 + 1, sums[s]]);
 }
 
-fn show(live: Live) {
-    print_line(b"denominator", &[live.denominator]);
+fn show(rt: &impl Print, live: Live) {
+    print_line(rt, b"denominator", &[live.denominator]);
     let mut i: usize = 0;
     while i < Table::ROWS {
-        print_row(live, i);
+        print_row(rt, live, i);
         i += 1;
     }
     let mut s: usize = 0;
     while s < Table::ELEMENTS {
-        print_sum(live, s);
+        print_sum(rt, live, s);
         s += 1;
     }
 }
 
 // The verdict on a file of version 2 with this many rows, at the front of `bytes`.
-fn judge(bytes: &[u8], rows: usize) {
+fn judge(rt: &impl Print, bytes: &[u8], rows: usize) {
     if rows > Table::ROWS {
         return;
     }
@@ -146,27 +147,31 @@ fn judge(bytes: &[u8], rows: usize) {
         return;
     }
     let found = verdict::judge(&bytes[..size]);
-    print_line(b"verdict", &[found.number() as u64, found.place() as u64]);
+    print_line(
+        rt,
+        b"verdict",
+        &[found.number() as u64, found.place() as u64],
+    );
 }
 
-fn verdict(live: Live) {
+fn verdict(rt: &impl Print, live: Live) {
     let mut bytes = [0u8; Table::FILE_BYTES];
     let answer = live::write_file(live, Table::VERSION_2, &mut bytes);
     if answer.number != Answer::DONE {
-        print_line(b"verdict", &[answer.number as u64, answer.place as u64]);
+        print_line(rt, b"verdict", &[answer.number as u64, answer.place as u64]);
         return;
     }
     let head = Table::of(&bytes);
-    judge(&bytes, head.rows);
+    judge(rt, &bytes, head.rows);
 }
 
-fn make(given: &[u64]) -> Live {
+fn make(rt: &impl Print, given: &[u64]) -> Live {
     let after = Live::new(number_at(given, 0) as usize);
-    print_line(b"new", &[after.answer.number as u64]);
+    print_line(rt, b"new", &[after.answer.number as u64]);
     after.live
 }
 
-fn add(live: Live, given: &[u64]) -> Live {
+fn add(rt: &impl Print, live: Live, given: &[u64]) -> Live {
     let entry = Entry {
         cost: small_at(given, 0),
         period: small_at(given, 1),
@@ -175,66 +180,70 @@ fn add(live: Live, given: &[u64]) -> Live {
         label: small_at(given, 4),
     };
     let after = Live::add(live, entry);
-    print_line(b"add", &[after.answer.number as u64, after.taken as u64]);
+    print_line(
+        rt,
+        b"add",
+        &[after.answer.number as u64, after.taken as u64],
+    );
     after.live
 }
 
-fn remove(live: Live, given: &[u64]) -> Live {
+fn remove(rt: &impl Print, live: Live, given: &[u64]) -> Live {
     let after = Live::remove(live, number_at(given, 0) as usize);
-    print_line(b"remove", &[after.answer.number as u64]);
+    print_line(rt, b"remove", &[after.answer.number as u64]);
     after.live
 }
 
 // ---- the session
 
 // The live table after a line with this word and these numbers.
-fn call(live: Live, word: &[u8], given: &[u64]) -> Live {
+fn call(rt: &impl Print, live: Live, word: &[u8], given: &[u64]) -> Live {
     let count = given.len();
     if is_same(word, b"new") && count == 1 {
-        return make(given);
+        return make(rt, given);
     }
     if is_same(word, b"add") && count == MOST && are_small(given) {
-        return add(live, given);
+        return add(rt, live, given);
     }
     if is_same(word, b"remove") && count == 1 {
-        return remove(live, given);
+        return remove(rt, live, given);
     }
     if is_same(word, b"show") && count == 0 {
-        show(live);
+        show(rt, live);
         return live;
     }
     if is_same(word, b"verdict") && count == 0 {
-        verdict(live);
+        verdict(rt, live);
         return live;
     }
-    print_line(b"no such line", &[]);
+    print_line(rt, b"no such line", &[]);
     live
 }
 
-fn one(live: Live, line: &[u8]) -> Live {
+fn one(rt: &impl Print, live: Live, line: &[u8]) -> Live {
     let end = find(line, 0, b' ');
     let mut given = [0u64; MOST];
     let count = cases::numbers(&line[end..], &mut given);
     if count <= MOST && are_numbers(&line[end..]) {
-        return call(live, &line[..end], &given[..count]);
+        return call(rt, live, &line[..end], &given[..count]);
     }
-    print_line(b"no such line", &[]);
+    print_line(rt, b"no such line", &[]);
     live
 }
 
-fn each(text: &[u8]) {
+fn each(rt: &impl Print, text: &[u8]) {
     let nothing = Live::new(0);
     let mut live = nothing.live;
     let mut at: usize = 0;
     while at < text.len() {
         let end = find(text, at, b'\n');
-        live = one(live, &text[at..end]);
+        live = one(rt, live, &text[at..end]);
         at = end + 1;
     }
 }
 
-fn main() {
-    let mut text = io::large_buffer();
-    let n = io::read_full(STDIN_FILENO, &mut text);
-    each(&text[..n]);
+fn main(rt: HostRuntime) {
+    let mut text = [0u8; INPUT];
+    let n = streams::read(&rt, &mut text);
+    each(&rt, &text[..n]);
 }

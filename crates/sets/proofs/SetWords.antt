@@ -1,31 +1,31 @@
 -- The answer of `list_sets`: the list is as long as the count says, and only one count and one array of words fit.
-use mathlib.Core.Path.{_≡_, sym, ap, _∙_}
-use mathlib.Core.Logic.{⊎-elim}
+use mathlib.Core.Path.{◌≡◌, sym, ap, ◌∙◌}
+use mathlib.Core.Logic.{⊎_elim}
 use mathlib.Core.List.{List}
-use Prim.Native.Nat.{ℕ, _≤_, _<_}
+use Prim.Native.Nat.{ℕ, ◌≤◌, ◌<◌}
 use native.Mathlib.Omega.{arith}
 use lib.ListN.{length, take, length-take}
-use lib.Seq.{getD-take, ext-getD}
-use Rattle·numbers.specs.Lists.{at}
-use Rattle·numbers.proofs.Truth.{le-or-lt}
-use Rattle·rules.proofs.Sets.{sets-only}
-use Rattle·sets·specs.specs.Sets.{OnLine, SetWords}
+use lib.Seq.{get_or-take, ext_get_or}
+use Rattle.numbers.specs.Lists.{at}
+use Rattle.numbers.proofs.Truth.{le_or_lt}
+use Rattle.rules.proofs.Sets.{sets_only}
+use Rattle.sets.specs.Sets.{OnLine, SetWords}
 
-pub set-words-length : {n : ℕ} {first second : ℕ → ℕ} {top k : ℕ} {words : List ℕ} → OnLine n first second top
+pub set_words_length : {n : ℕ} {first second : ℕ → ℕ} {top k : ℕ} {words : List ℕ} → OnLine n first second top
     → SetWords n first second k words → length (take k words) ≡ k
-set-words-length {k = k} {words = words} O L = omega (arith, length-take k words, O .few, L .few, L .size)
+set_words_length {k = k} {words = words} O L = omega (arith, length-take k words, O.few, L.few, L.size)
 
-pub set-words-only : {n : ℕ} {first second : ℕ → ℕ} {top k l : ℕ} {words others : List ℕ} → OnLine n first second top
+pub set_words_only : {n : ℕ} {first second : ℕ → ℕ} {top k l : ℕ} {words others : List ℕ} → OnLine n first second top
     → SetWords n first second k words → SetWords n first second l others → (k ≡ l) × (words ≡ others)
-set-words-only {n} {first} {second} {k = k} {l = l} {words = words} {others = others} O A B =
-    let e : take k words ≡ take l others = sets-only (O .some) (A .sets) (B .sets) in
-    let q : k ≡ l = omega (arith, set-words-length O A, set-words-length O B, ap length e) in (
+set_words_only {n} {first} {second} {k = k} {l = l} {words = words} {others = others} O A B =
+    let e : take k words ≡ take l others = sets_only O.some A.sets B.sets in
+    let q : k ≡ l = omega (arith, set_words_length O A, set_words_length O B, ap length e) in (
       q,
-      ext-getD 0 words others (A .size ∙ sym (B .size))
+      ext_get_or 0 words others (A.size ∙ sym B.size)
           (λ i h.
-          ⊎-elim
-          (λ (m : k ≤ i). A .rest i m ∙ sym (B .rest i (omega arith)))
+          ⊎_elim
+          (λ (m : k ≤ i). A.rest i m ∙ sym (B.rest i (omega arith)))
           (λ (m : i < k).
-          sym (getD-take k words i 0 m) ∙ ap (λ (ws : List ℕ). at ws i) e ∙ getD-take l others i 0 (omega arith))
-          (le-or-lt k i)),
+          sym (get_or-take k words i 0 m) ∙ ap (λ (ws : List ℕ). at ws i) e ∙ get_or-take l others i 0 (omega arith))
+          (le_or_lt k i)),
     )

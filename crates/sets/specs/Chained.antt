@@ -1,6 +1,6 @@
 -- The rows of a table, chained by the element at which they start: what `chain` gives.
 --
---   all-heads                    how many heads there are: one for each place of an array by element
+--   all_heads                    how many heads there are: one for each place of an array by element
 --   Link n first e i r           r is 1 + the lowest row from i on that starts at element e, 0 where none does
 --   ChainedFrom n first i head next
 --                                the rows from i on are chained: head links to the lowest of them at each element, next links on from each
@@ -9,25 +9,22 @@
 --                                n rows on a line of the elements 1 to top, chained
 --
 -- Only one head and one next fit (proofs/Chained).
-use mathlib.Core.Path.{_≡_}
-use mathlib.Core.List.{List}
-use Prim.Native.Nat.{ℕ, _+_, _-_, _≤_, _<_}
-use lib.ListN.{length}
-use Rattle·numbers.specs.Lists.{at}
-use Rattle·rules.specs.Bounds.{max-rows}
-use Rattle·sets·specs.specs.Walk.{line-size}
+use Rattle.std.specs.Prelude.{◌≡◌, List, ℕ, ◌+◌, ◌-◌, ◌≤◌, ◌<◌, length}
+use Rattle.numbers.specs.Lists.{at}
+use Rattle.rules.specs.Bounds.{max_rows}
+use Rattle.sets.specs.Walk.{line_size}
 
-abbrev pub all-heads : ℕ
-all-heads = line-size
+abbrev pub all_heads : ℕ
+all_heads = line_size
 
 pub record Link (n : ℕ) (first : ℕ → ℕ) (e i r : ℕ) : Type 0 where
   pub starts : 0 < r → (i < r) × (r ≤ n) × (first (r - 1) ≡ e)
   pub lowest : (j : ℕ) → i ≤ j → j < n → first j ≡ e → (0 < r) × (r ≤ j + 1)
 
 pub record ChainedFrom (n : ℕ) (first : ℕ → ℕ) (i : ℕ) (head next : List ℕ) : Type 0 where
-  pub head-size : length head ≡ all-heads
-  pub next-size : length next ≡ max-rows
-  pub heads : (e : ℕ) → e < all-heads → Link n first e i (at head e)
+  pub head_size : length head ≡ all_heads
+  pub next_size : length next ≡ max_rows
+  pub heads : (e : ℕ) → e < all_heads → Link n first e i (at head e)
   pub nexts : (j : ℕ) → i ≤ j → j < n → Link n first (first j) (j + 1) (at next j)
   pub spare : (j : ℕ) → n ≤ j → at next j ≡ 0
 
@@ -35,7 +32,7 @@ abbrev pub Chained : (n : ℕ) → (ℕ → ℕ) → List ℕ → List ℕ → T
 Chained n first head next = ChainedFrom n first 0 head next
 
 pub record ChainedRows (n : ℕ) (first second : ℕ → ℕ) (top : ℕ) (head next : List ℕ) : Type 0 where
-  pub few : n ≤ max-rows
-  pub low : top < all-heads
+  pub few : n ≤ max_rows
+  pub low : top < all_heads
   pub line : (i : ℕ) → i < n → (1 ≤ first i) × (first i < second i) × (second i ≤ top)
   pub chained : Chained n first head next

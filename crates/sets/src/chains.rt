@@ -1,13 +1,12 @@
 // The rows of a table chained by the element at which they start: the order in which an interval's slots are given out (document 01, "Loads
 // of one interval, and its slots"), by ascending first end on the line and equal ones by row number, with no sorted copy.
+ghost use Rattle.std.specs.Prelude.{◌≡◌, ℕ, ◌≤◌, ◌<◌, replicate};
+ghost use Rattle.numbers.specs.Lists.{at};
+ghost use Rattle.rules.specs.Bounds.{max_rows};
+ghost use Rattle.sets.specs.Chained.{all_heads, Chained};
+
 use crate::Sets;
 use table::Table;
-ghost use mathlib.Core.Path.{_≡_};
-ghost use Prim.Native.Nat.{ℕ, _≤_, _<_};
-ghost use lib.ListN.{replicate};
-ghost use Rattle·numbers.specs.Lists.{at};
-ghost use Rattle·rules.specs.Bounds.{max-rows};
-ghost use Rattle·sets·specs.specs.Chained.{all-heads, Chained};
 
 // A head for each element of the line.
 pub const HEADS: usize = Sets::LINE;
@@ -20,9 +19,9 @@ pub fn chain(
     head: &mut [u8; HEADS],
     next: &mut [u8; Table::ROWS],
 )
-    requires { ⌜ (rows ≤ max-rows) × ((i : ℕ) → i < rows → at (now first) i < all-heads)
-        × (now head ≡ replicate all-heads 0) × (now next ≡ replicate max-rows 0) ⌝ }
-    ensures { λ _. ⌜ Chained rows (at (now (first .entry))) (now (head .exit)) (now (next .exit)) ⌝ }
+    requires { (rows ≤ max_rows) × ((i : ℕ) → i < rows → at first.now i < all_heads)
+        × (head.old ≡ replicate all_heads 0) × (next.old ≡ replicate max_rows 0) }
+    ensures { Chained rows (at first.now) head.new next.new }
 {
     let mut i = rows;
     while i > 0 {

@@ -2,20 +2,20 @@
 //
 // An overlap set is the rows across its least second end (proofs/Overlap), and the rows across a second end are an overlap set just when
 // some row has started since the second end before it. So a word and a bool find the sets, in their order, and nothing is sorted.
+#![tactic(auto)]
+
 mod chains;
 
-pub use chains::HEADS;
-pub use chains::chain;
+ghost use Rattle.std.specs.Prelude.{◌≡◌, ◌≢◌, true, ◌<◌};
+ghost use Rattle.numbers.specs.Word.{bit};
+ghost use Rattle.numbers.specs.Lists.{at};
+ghost use Rattle.sets.specs.Sets.{OnLine, SetWords};
+
+pub use chains::{HEADS, chain};
 use table::Table;
-ghost use mathlib.Core.Path.{_≡_};
-ghost use mathlib.Core.Logic.{_≢_};
-ghost use mathlib.Core.Bool.{true};
-ghost use Prim.Native.Nat.{_<_};
-ghost use Rattle·numbers.specs.Word.{bit};
-ghost use Rattle·numbers.specs.Lists.{at};
-ghost use Rattle·sets·specs.specs.Sets.{OnLine, SetWords};
 
 // The words of the overlap sets, by ascending least second end; those from `count` on are 0.
+#[derive(Clone, Copy)]
 pub struct Sets {
     pub count: usize,
     pub words: [u64; Table::ROWS],
@@ -33,8 +33,8 @@ pub fn list_sets<'a>(
     rows: usize,
     top: usize,
 ) -> Sets
-    requires { ⌜ OnLine rows (at (now first)) (at (now second)) top ⌝ }
-    ensures { λ r. ⌜ SetWords rows (at (now (first .entry))) (at (now (second .entry))) (r .count) (r .words) ⌝ }
+    requires { OnLine rows (at first.now) (at second.now) top }
+    ensures { SetWords rows (at first.now) (at second.now) result.count result.words }
 {
     // for each element of the line the word of the rows that start there, and of those that end there
     let mut starts = [0u64; Sets::LINE];
@@ -73,8 +73,8 @@ pub fn list_sets<'a>(
 
 // A row of a set that has one: the lowest.
 pub fn lowest_row(word: u64) -> usize
-    requires { ⌜ word ≢ 0 ⌝ }
-    ensures { λ r. ⌜ (r < 64) × (bit word r ≡ true) ⌝ }
+    requires { word ≢ 0 }
+    ensures { (result < 64) × (bit word result ≡ true) }
 {
     u64::trailing_zeros(word) as usize
 }

@@ -8,40 +8,41 @@
 // Slots are scanned by stretches: neighbouring slots that hold the same rows. A row takes a stretch whole, or parts it where its load is
 // used up inside, so there is at most one stretch more than rows, however long the interval is. Of the rows that start at one element each
 // scans on from where the row before it stopped: every slot up to there has a last end past the element.
+#![tactic(auto)]
+
 mod parting;
 mod plain;
+
+ghost use Rattle.std.specs.Prelude.{◌≡◌, ℕ, ◌+◌, ◌≤◌, ◌<◌, length, set};
+ghost use Rattle.numbers.specs.Lists.{at};
+ghost use Rattle.rules.specs.Bounds.{max_slots};
+ghost use Rattle.sets.specs.Chained.{ChainedRows};
+ghost use Rattle.placing.specs.Filled.{FilledSlots};
 
 use parting::STRETCHES;
 pub use plain::fill_plain;
 use sets::HEADS;
 use table::Table;
-ghost use mathlib.Core.Path.{_≡_};
-ghost use Prim.Native.Nat.{ℕ, _+_, _≤_, _<_};
-ghost use lib.ListN.{length, set};
-ghost use Rattle·numbers.specs.Lists.{at};
-ghost use Rattle·rules.specs.Bounds.{max-slots};
-ghost use Rattle·sets.specs.Chained.{ChainedRows};
-ghost use Rattle·placing.specs.Filled.{FilledSlots};
 
 // A byte as an index.
 fn wide(x: u8) -> usize
-    ensures { λ r. ⌜ r ≡ x ⌝ }
+    ensures { result ≡ x }
 {
     x as usize
 }
 
 // A slot's number as an index.
 fn slot(x: u16) -> usize
-    ensures { λ r. ⌜ r ≡ x ⌝ }
+    ensures { result ≡ x }
 {
     x as usize
 }
 
 // Clears the word of the stretch that is all slots.
 fn clear(slots: usize, words: &mut [u64])
-    requires { ⌜ slots ≤ length (now words) ⌝ }
-    ensures { λ _. ⌜ (0 < slots → now (words .exit) ≡ set (now (words .entry)) 0 0)
-        × (slots ≡ 0 → now (words .exit) ≡ now (words .entry)) ⌝ }
+    requires { slots ≤ length words.old }
+    ensures { (0 < slots → words.new ≡ set words.old 0 0)
+        × (slots ≡ 0 → words.new ≡ words.old) }
 {
     if 0 < slots {
         words[0] = 0;
@@ -60,11 +61,11 @@ pub fn fill<'a>(
     slots: usize,
     words: &mut [u64],
 )
-    requires { ⌜ ((n : ℕ) × (first : ℕ → ℕ) × ChainedRows n first (at (now second)) top (now head) (now next))
-        × (slots ≤ max-slots) × (slots ≤ length (now words)) ⌝ }
-    ensures { λ _. ⌜ ((n : ℕ) (first : ℕ → ℕ)
-        → ChainedRows n first (at (now (second .entry))) top (now (head .entry)) (now (next .entry))
-        → FilledSlots n first (at (now (second .entry))) (at (now (load .entry))) slots (now (words .entry)) (now (words .exit))) ⌝ }
+    requires { ((n : ℕ) × (first : ℕ → ℕ) × ChainedRows n first (at second.now) top head.now next.now)
+        × (slots ≤ max_slots) × (slots ≤ length words.old) }
+    ensures { (n : ℕ) (first : ℕ → ℕ)
+        → ChainedRows n first (at second.now) top head.now next.now
+        → FilledSlots n first (at second.now) (at load.now) slots words.old words.new }
 {
     let mut end = [0u16; STRETCHES];
     let mut last = [0u8; STRETCHES];

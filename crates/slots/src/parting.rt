@@ -1,12 +1,11 @@
 // Stretches of neighbouring slots that hold the same rows: one is parted where a row's load is used up inside, and at the end the word of
 // each is spread to its slots.
+ghost use Rattle.std.specs.Prelude.{◌≡◌, ℕ, ◌≤◌, ◌<◌, length};
+ghost use Rattle.numbers.specs.Lists.{at};
+ghost use Rattle.rules.specs.Bounds.{max_slots};
+ghost use Rattle.stretches.specs.Stretches.{most_stretches, Tiles, Parted, Repeated, Spread};
+
 use table::Table;
-ghost use mathlib.Core.Path.{_≡_};
-ghost use Prim.Native.Nat.{ℕ, _≤_, _<_};
-ghost use lib.ListN.{length};
-ghost use Rattle·numbers.specs.Lists.{at};
-ghost use Rattle·rules.specs.Bounds.{max-slots};
-ghost use Rattle·stretches.specs.Stretches.{most-stretches, Tiles, Parted, Repeated, Spread};
 
 // Each row parts one stretch at most.
 pub const STRETCHES: usize = Table::ROWS + 1;
@@ -20,10 +19,10 @@ pub fn part(
     middle: usize,
     new: usize,
 )
-    requires { ⌜ (length (now end) ≡ most-stretches) × (length (now last) ≡ most-stretches) × (length (now after) ≡ most-stretches)
-        × (k < most-stretches) × (new < most-stretches) × (middle ≤ max-slots) ⌝ }
-    ensures { λ r. ⌜ Parted k middle new (now (end .entry)) (now (last .entry)) (now (after .entry))
-        (now (end .exit)) (now (last .exit)) (now (after .exit)) ⌝ }
+    requires { (length end.old ≡ most_stretches) × (length last.old ≡ most_stretches) × (length after.old ≡ most_stretches)
+        × (k < most_stretches) × (new < most_stretches) × (middle ≤ max_slots) }
+    ensures { Parted k middle new end.old last.old after.old
+        end.new last.new after.new }
 {
     end[new] = end[k];
     last[new] = last[k];
@@ -34,8 +33,8 @@ pub fn part(
 
 // Writes the word at slot `from` to the slots after it, up to slot `to`.
 fn repeat(from: usize, to: usize, words: &mut [u64])
-    requires { ⌜ (from < to) × (to ≤ length (now words)) ⌝ }
-    ensures { λ _. ⌜ Repeated from to (now (words .entry)) (now (words .exit)) ⌝ }
+    requires { (from < to) × (to ≤ length words.old) }
+    ensures { Repeated from to words.old words.new }
 {
     let word = words[from];
     let mut s = from + 1;
@@ -47,9 +46,9 @@ fn repeat(from: usize, to: usize, words: &mut [u64])
 
 // Writes the word of each stretch, which stands at its first slot, to all of its slots.
 pub fn spread(end: &[u16; STRETCHES], after: &[u8; STRETCHES], slots: usize, words: &mut [u64])
-    requires { ⌜ ((of begin : ℕ → ℕ) × Tiles slots of begin (now end) (now after)) × (slots ≤ length (now words)) ⌝ }
-    ensures { λ _. ⌜ ((of begin : ℕ → ℕ) → Tiles slots of begin (now (end .entry)) (now (after .entry))
-        → Spread slots of begin (now (words .entry)) (now (words .exit))) ⌝ }
+    requires { ((of begin : ℕ → ℕ) × Tiles slots of begin end.now after.now) × (slots ≤ length words.old) }
+    ensures { (of begin : ℕ → ℕ) → Tiles slots of begin end.now after.now
+        → Spread slots of begin words.old words.new }
 {
     let mut k: u8 = 0;
     let mut s: usize = 0;

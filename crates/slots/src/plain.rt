@@ -2,17 +2,16 @@
 // gathered to stretches. Each row, in document 01's order, goes through the slots, and of every row that is there already it is asked
 // whether the two overlap. The test is the line's (document 01, "From ring to line"): on the line two rows share a segment just when the
 // first end of each is below the second end of the other.
+ghost use Rattle.std.specs.Prelude.{◌≡◌, ℕ, ◌≤◌, ◌<◌, length};
+ghost use Rattle.numbers.specs.Lists.{at};
+ghost use Rattle.rules.specs.Bounds.{max_rows};
+ghost use Rattle.rules.specs.Line.{meet};
+ghost use Rattle.sets.specs.Chained.{ChainedRows};
+ghost use Rattle.placing.specs.Filled.{FilledSlots};
+ghost use Rattle.slots.specs.Plain.{is_open, RowPlaced, Cleared};
+
 use sets::HEADS;
 use table::Table;
-ghost use mathlib.Core.Path.{_≡_};
-ghost use Prim.Native.Nat.{ℕ, _≤_, _<_};
-ghost use lib.ListN.{length};
-ghost use Rattle·numbers.specs.Lists.{at};
-ghost use Rattle·rules.specs.Bounds.{max-rows};
-ghost use Rattle·rules.specs.Line.{meet};
-ghost use Rattle·sets.specs.Chained.{ChainedRows};
-ghost use Rattle·placing.specs.Filled.{FilledSlots};
-ghost use Rattle·slots·specs.specs.Plain.{isOpen, RowPlaced, Cleared};
 
 // Rows `j` and `i` overlap: on the line the first end of each is below the second end of the other.
 fn do_overlap<'a>(
@@ -21,8 +20,8 @@ fn do_overlap<'a>(
     j: usize,
     i: usize,
 ) -> bool
-    requires { ⌜ (j < max-rows) × (i < max-rows) ⌝ }
-    ensures { λ r. ⌜ r ≡ meet (at (now (first .entry))) (at (now (second .entry))) j i ⌝ }
+    requires { (j < max_rows) × (i < max_rows) }
+    ensures { result ≡ meet (at first.now) (at second.now) j i }
 {
     if table::end_at(first, j) >= table::end_at(second, i) {
         return false;
@@ -37,8 +36,8 @@ fn is_free<'a>(
     i: usize,
     word: u64,
 ) -> bool
-    requires { ⌜ i < max-rows ⌝ }
-    ensures { λ r. ⌜ r ≡ isOpen (at (now (first .entry))) (at (now (second .entry))) i word ⌝ }
+    requires { i < max_rows }
+    ensures { result ≡ is_open (at first.now) (at second.now) i word }
 {
     let mut asked: u64 = 0;
     while asked != word {
@@ -60,9 +59,9 @@ fn place_row<'a>(
     slots: usize,
     words: &mut [u64],
 )
-    requires { ⌜ (i < max-rows) × (slots ≤ length (now words)) ⌝ }
-    ensures { λ _. ⌜ RowPlaced (at (now (first .entry))) (at (now (second .entry))) i load slots
-        (now (words .entry)) (now (words .exit)) ⌝ }
+    requires { (i < max_rows) × (slots ≤ length words.old) }
+    ensures { RowPlaced (at first.now) (at second.now) i load slots
+        words.old words.new }
 {
     let row = 1u64 << i;
     let mut left = load;
@@ -81,8 +80,8 @@ fn place_row<'a>(
 
 // Clears the words of so many slots.
 fn clear(slots: usize, words: &mut [u64])
-    requires { ⌜ slots ≤ length (now words) ⌝ }
-    ensures { λ _. ⌜ Cleared slots (now (words .entry)) (now (words .exit)) ⌝ }
+    requires { slots ≤ length words.old }
+    ensures { Cleared slots words.old words.new }
 {
     let mut s: usize = 0;
     while s < slots {
@@ -103,10 +102,10 @@ pub fn fill_plain<'a>(
     slots: usize,
     words: &mut [u64],
 )
-    requires { ⌜ ((n : ℕ) × ChainedRows n (at (now first)) (at (now second)) top (now head) (now next)) × (slots ≤ length (now words)) ⌝ }
-    ensures { λ _. ⌜ ((n : ℕ) → ChainedRows n (at (now (first .entry))) (at (now (second .entry))) top (now (head .entry))
-        (now (next .entry)) → FilledSlots n (at (now (first .entry))) (at (now (second .entry))) (at (now (load .entry))) slots
-        (now (words .entry)) (now (words .exit))) ⌝ }
+    requires { ((n : ℕ) × ChainedRows n (at first.now) (at second.now) top head.now next.now) × (slots ≤ length words.old) }
+    ensures { (n : ℕ) → ChainedRows n (at first.now) (at second.now) top head.now
+        next.now → FilledSlots n (at first.now) (at second.now) (at load.now) slots
+        words.old words.new }
 {
     clear(slots, words);
     let mut element: usize = 1;

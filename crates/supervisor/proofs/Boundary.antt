@@ -1,139 +1,139 @@
 -- What a C program may rely on, proved of every answer that the contracts allow.
-use mathlib.Core.Path.{_≡_, sym, ap, _∙_}
-use mathlib.Core.List.{List, [], _∷_}
-use Prim.Native.Nat.{ℕ, _≤_, _<_}
+use mathlib.Core.Path.{◌≡◌, sym, ap, ◌∙◌}
+use mathlib.Core.List.{List, [], ◌∷◌}
+use Prim.Native.Nat.{ℕ, ◌≤◌, ◌<◌}
 use native.Mathlib.Omega.{arith}
 use lib.ListN.{length}
-use Rattle·numbers.specs.Lists.{at}
-use Rattle·rules.specs.TableFile.{fileTable}
-use Rattle·rules.specs.Line.{Sets}
-use Rattle·rules.specs.Loads.{hyperperiod}
-use Rattle·rules.specs.Refusals.{Check, Answers, short-output, bound-checks, verdict-checks, sets-checks}
-use Rattle·rules.specs.Calls.{lent, c-answer, Ask, fileAsk, limitedAsk}
-use Rattle·rules.proofs.Answers.{None, none-left, passed, done, joined, answered, answers-only}
-use Rattle·outline.specs.Outlined.{outline-checks}
-use Rattle·outline.proofs.Outlined.{outline-list-only}
-use Rattle·table.specs.declared.Answer.{Answer}
-use Rattle·promises.specs.Demands.{Carries}
-use Rattle·planner.specs.Proper.{Proper}
-use Rattle·planner.proofs.Asks.{file-proper}
-use Rattle·planner.proofs.Promises.{carried}
-use Rattle·limited.proofs.Promises.{limited-proper, same-plan}
-use Rattle·relayed.proofs.Promises.{relayed-carried}
-use Rattle·supervisor·specs.specs.ToC.{VerdictToC, Valued, ValuesToC, PlanToC}
-use Rattle·supervisor·specs.specs.Boundary.{Carried-to-C, Limited-to-C, Relayed-to-C, Values-are, Carried-by-value, Listed-by-value}
-use Rattle·supervisor·specs.specs.Boundary.{Boundary}
-use Rattle·supervisor·proofs.proofs.Values.{values-none}
-use Rattle·supervisor·proofs.proofs.Lists.{told-apart, element-of-plan}
+use Rattle.numbers.specs.Lists.{at}
+use Rattle.rules.specs.TableFile.{file_table}
+use Rattle.rules.specs.Line.{Sets}
+use Rattle.rules.specs.Loads.{hyperperiod}
+use Rattle.rules.specs.Refusals.{Check, Answers, short_output, bound_checks, verdict_checks, sets_checks}
+use Rattle.rules.specs.Calls.{lent, c_answer, Ask, file_ask, limited_ask}
+use Rattle.rules.proofs.Answers.{None, none_left, passed, done, joined, answered, answers_only}
+use Rattle.outline.specs.Outlined.{outline_checks}
+use Rattle.outline.proofs.Outlined.{outline_list_only}
+use Rattle.table.specs.declared.Answer.{Answer}
+use Rattle.promises.specs.Demands.{Carries}
+use Rattle.planner.specs.Proper.{Proper}
+use Rattle.planner.proofs.Asks.{file_proper}
+use Rattle.planner.proofs.Promises.{carried}
+use Rattle.limited.proofs.Promises.{limited_proper, same_plan}
+use Rattle.relayed.proofs.Promises.{relayed_carried}
+use Rattle.supervisor.specs.ToC.{VerdictToC, Valued, ValuesToC, PlanToC}
+use Rattle.supervisor.specs.Boundary.{CarriedToC, LimitedToC, RelayedToC, ValuesAre, CarriedByValue, ListedByValue}
+use Rattle.supervisor.specs.Boundary.{Boundary}
+use Rattle.supervisor.proofs.Values.{values_none}
+use Rattle.supervisor.proofs.Lists.{told_apart, element_of_plan}
 
 -- an answer of 0 has number 0 and place 0
-number-zero : (r n p : ℕ) → r ≡ c-answer n p → r ≡ 0 → n ≡ 0
-number-zero r n p e z = omega arith
+number_zero : (r n p : ℕ) → r ≡ c_answer n p → r ≡ 0 → n ≡ 0
+number_zero r n p e z = omega arith
 
-place-zero : (r n p : ℕ) → r ≡ c-answer n p → r ≡ 0 → p ≡ 0
-place-zero r n p e z = omega arith
+place_zero : (r n p : ℕ) → r ≡ c_answer n p → r ≡ 0 → p ≡ 0
+place_zero r n p e z = omega arith
 
-one-zero : (r n p : ℕ) → r ≡ c-answer n p → n ≡ 0 → p ≡ 0 → r ≡ 0
-one-zero r n p e z q = omega arith
+one_zero : (r n p : ℕ) → r ≡ c_answer n p → n ≡ 0 → p ≡ 0 → r ≡ 0
+one_zero r n p e z q = omega arith
 
 -- of any proper ask, with limits, with a relay, or without
 module _ (a : Ask) (N : Proper a) (was now : List ℕ) (r s : ℕ) (A : VerdictToC a r) (P : PlanToC a was now s) (z : r ≡ 0)
-    (room : hyperperiod (a .table) ≤ length was) where
-  n-zero : A .number ≡ 0
-  n-zero = number-zero r (A .number) (A .place) (A .as-one) z
+    (room : hyperperiod a.table ≤ length was) where
+  n_zero : A.number ≡ 0
+  n_zero = number_zero r A.number A.place A.as_one z
 
-  planned-by : (P .answer .number ≡ 0) × (P .answer .place ≡ 0) × ((ws : List ℕ) × Carries (a .table) ws × (now ≡ lent ws was))
-  planned-by =
-      let place = place-zero r (A .number) (A .place) (A .as-one) z in
-      carried a (P .answer) was now N (P .planned) (rw (n-zero, place) at (A .answers)) room
+  planned_by : (P.answer.number ≡ 0) × (P.answer.place ≡ 0) × ((ws : List ℕ) × Carries a.table ws × (now ≡ lent ws was))
+  planned_by =
+      let place = place_zero r A.number A.place A.as_one z in
+      carried a P.answer was now N P.planned (rw (n_zero, place) at A.answers) room
 
-  carried-by : (s ≡ 0) × ((ws : List ℕ) × Carries (a .table) ws × (now ≡ lent ws was))
-  carried-by = (one-zero s _ _ (P .as-one) (planned-by .0) (planned-by .1), planned-by .2)
+  carried_by : (s ≡ 0) × ((ws : List ℕ) × Carries a.table ws × (now ≡ lent ws was))
+  carried_by = (one_zero s _ _ P.as_one planned_by.0 planned_by.1, planned_by.2)
 
-pub carried-to-c : Carried-to-C
-carried-to-c f was now r s A P z room = carried-by (fileAsk f) (file-proper f) was now r s A P z room
+pub carried_to_c : CarriedToC
+carried_to_c f was now r s A P z room = carried_by (file_ask f) (file_proper f) was now r s A P z room
 
-pub limited-to-c : Limited-to-C
-limited-to-c f was now then our their r s q A P Q z room =
-    let a = limitedAsk f our their in
-    let w = planned-by a (limited-proper f our their) was now r s A P z room in
-    let e = same-plan f our their (P .answer) (Q .answer) was now then (P .planned) (Q .planned) (w .0) in
-    let number : Q .answer .number ≡ 0 = sym (ap (λ (b : Answer). b .number) (e .0)) ∙ w .0 in
-    let place : Q .answer .place ≡ 0 = sym (ap (λ (b : Answer). b .place) (e .0)) ∙ w .1 in
-    (carried-by a (limited-proper f our their) was now r s A P z room, one-zero q _ _ (Q .as-one) number place, sym (e .1))
+pub limited_to_c : LimitedToC
+limited_to_c f was now then our their r s q A P Q z room =
+    let a = limited_ask f our their in
+    let w = planned_by a (limited_proper f our their) was now r s A P z room in
+    let e = same_plan f our their P.answer Q.answer was now then P.planned Q.planned w.0 in
+    let number : Q.answer.number ≡ 0 = sym (ap (λ (b : Answer). b.number) e.0) ∙ w.0 in
+    let place : Q.answer.place ≡ 0 = sym (ap (λ (b : Answer). b.place) e.0) ∙ w.1 in
+    (carried_by a (limited_proper f our their) was now r s A P z room, one_zero q _ _ Q.as_one number place, sym e.1)
 
-pub relayed-to-c : Relayed-to-C
-relayed-to-c f was now relay r s A P z room =
-    let place = place-zero r (A .number) (A .place) (A .as-one) z in
-    let n = number-zero r (A .number) (A .place) (A .as-one) z in
-    let w = relayed-carried f relay (P .answer) was now (P .planned) (rw (n, place) at (A .answers)) room in
-    (one-zero s _ _ (P .as-one) (w .0) (w .1), w .2)
+pub relayed_to_c : RelayedToC
+relayed_to_c f was now relay r s A P z room =
+    let place = place_zero r A.number A.place A.as_one z in
+    let n = number_zero r A.number A.place A.as_one z in
+    let w = relayed_carried f relay P.answer was now P.planned (rw (n, place) at A.answers) room in
+    (one_zero s _ _ P.as_one w.0 w.1, w.2)
 
 -- ---- with the values
 
 module _ (f was now : List ℕ) (r : ℕ) (A : ValuesToC f was now r) (z : r ≡ 0) where
-  n : A .number ≡ 0
-  n = number-zero r (A .number) (A .place) (A .as-one) z
+  n : A.number ≡ 0
+  n = number_zero r A.number A.place A.as_one z
 
   given : Valued f was now
-  given = A .called .done n
+  given = A.called.done n
 
-  none : None (verdict-checks f)
-  none = values-none f (length was) (A .place) (rw n at (A .called .answers))
+  none : None (verdict_checks f)
+  none = values_none f (length was) A.place (rw n at A.called.answers)
 
-  outline-none : None (outline-checks f)
-  unfolding verdict-checks
-  outline-none = none-left (outline-checks f) (bound-checks (fileTable f)) none
+  outline_none : None (outline_checks f)
+  unfolding verdict_checks
+  outline_none = none_left (outline_checks f) (bound_checks (file_table f)) none
 
-  hyper-at : at now 3 ≡ hyperperiod (fileTable f)
+  hyper_at : at now 3 ≡ hyperperiod (file_table f)
   unfolding lent
-  hyper-at = ap (λ (l : List ℕ). at l 3) (given .written) ∙ given .admitted .hyper-is
+  hyper_at = ap (λ (l : List ℕ). at l 3) given.written ∙ given.admitted.hyper_is
 
-  sets-at : at now 5 ≡ length (given .admitted .list)
+  sets_at : at now 5 ≡ length given.admitted.list
   unfolding lent
-  sets-at = ap (λ (l : List ℕ). at l 5) (given .written) ∙ given .admitted .sets-is
+  sets_at = ap (λ (l : List ℕ). at l 5) given.written ∙ given.admitted.sets_is
 
   -- any list of the sets is as long as the sixth value says
-  length-at : (ws : List ℕ) → Sets (fileTable f) ws → length ws ≡ at now 5
-  length-at ws S = ap length (outline-list-only f outline-none ws (given .admitted .list) S (given .admitted .listed)) ∙ sym sets-at
+  length_at : (ws : List ℕ) → Sets (file_table f) ws → length ws ≡ at now 5
+  length_at ws S = ap length (outline_list_only f outline_none ws given.admitted.list S given.admitted.listed) ∙ sym sets_at
 
-  abbrev no-room : ℕ → Check
-  no-room room = short-output ((ws : List ℕ) × Sets (fileTable f) ws × (room < length ws))
+  abbrev no_room : ℕ → Check
+  no_room room = short_output ((ws : List ℕ) × Sets (file_table f) ws × (room < length ws))
 
-  listed : (room : ℕ) → at now 5 ≤ room → Answers (sets-checks (outline-checks f) (fileTable f) room) 0 0
-  unfolding sets-checks
+  listed : (room : ℕ) → at now 5 ≤ room → Answers (sets_checks (outline_checks f) (file_table f) room) 0 0
+  unfolding sets_checks
   listed room l =
-      joined (outline-checks f) (no-room room ∷ []) 0 0 outline-none
-      (passed (no-room room) [] 0 0 (λ w. omega (arith, w .2, length-at (w .0) (w .1), l)) done)
+      joined (outline_checks f) (no_room room ∷ []) 0 0 outline_none
+      (passed (no_room room) [] 0 0 (λ w. omega (arith, w.2, length_at w.0 w.1, l)) done)
 
-pub values-are : Values-are
-values-are f was now r s A W z =
-    let e = answers-only (verdict-checks f) (W .number) 0 (W .place) 0 (W .answers) (answered (verdict-checks f) (none f was now r A z)) in
-    (one-zero s _ _ (W .as-one) (e .0) (e .1), hyper-at f was now r A z)
+pub values_are : ValuesAre
+values_are f was now r s A W z =
+    let e = answers_only (verdict_checks f) W.number 0 W.place 0 W.answers (answered (verdict_checks f) (none f was now r A z)) in
+    (one_zero s _ _ W.as_one e.0 e.1, hyper_at f was now r A z)
 
-pub carried-by-value : Carried-by-value
-carried-by-value f was now plan plan′ r s A P z room =
-    let h = hyper-at f was now r A z in
-    let a = answered (verdict-checks f) (none f was now r A z) in
-    let w = carried (fileAsk f) (P .answer) plan plan′ (file-proper f) (P .planned) a (omega arith) in
-    (one-zero s _ _ (P .as-one) (w .0) (w .1), w .2)
+pub carried_by_value : CarriedByValue
+carried_by_value f was now plan plan' r s A P z room =
+    let h = hyper_at f was now r A z in
+    let a = answered (verdict_checks f) (none f was now r A z) in
+    let w = carried (file_ask f) P.answer plan plan' (file_proper f) P.planned a (omega arith) in
+    (one_zero s _ _ P.as_one w.0 w.1, w.2)
 
-pub listed-by-value : Listed-by-value
-listed-by-value f was now list list′ r s A S z room =
+pub listed_by_value : ListedByValue
+listed_by_value f was now list list' r s A S z room =
     let e =
-    answers-only (sets-checks (outline-checks f) (fileTable f) (length list)) (S .number) 0 (S .place) 0 (S .listed .answers)
+    answers_only (sets_checks (outline_checks f) (file_table f) (length list)) S.number 0 S.place 0 S.listed.answers
     (listed f was now r A z (length list) room) in
-    let w = S .listed .done (e .0) in
-    (one-zero s _ _ (S .as-one) (e .0) (e .1), (w .0, w .1, length-at f was now r A z (w .0) (w .1), w .3))
+    let w = S.listed.done e.0 in
+    (one_zero s _ _ S.as_one e.0 e.1, (w.0, w.1, length_at f was now r A z w.0 w.1, w.3))
 
 pub boundary : Boundary
 boundary = record {
-  carried = carried-to-c;
-  limited = limited-to-c;
-  relayed = relayed-to-c;
-  values-are = values-are;
-  carried-by-value = carried-by-value;
-  listed-by-value = listed-by-value;
-  told-apart = told-apart;
-  element-of-plan = element-of-plan;
+  carried = carried_to_c;
+  limited = limited_to_c;
+  relayed = relayed_to_c;
+  values_are = values_are;
+  carried_by_value = carried_by_value;
+  listed_by_value = listed_by_value;
+  told_apart = told_apart;
+  element_of_plan = element_of_plan;
 }

@@ -1,81 +1,81 @@
 -- Only one answer to C fits a file, or an ask, and the memory lent beside it.
-use mathlib.Core.Path.{_≡_, refl, sym, ap, ap₂, _∙_}
+use mathlib.Core.Path.{◌≡◌, refl, sym, ap, ap₂, ◌∙◌}
 use mathlib.Core.List.{List}
 use Prim.Native.Nat.{ℕ}
-use native.Mathlib.Decide.{ℕ-discrete}
+use native.Mathlib.Decide.{ℕ_discrete}
 use lib.ListN.{length}
-use Rattle·rules.specs.Refusals.{shared-checks, verdict-checks}
-use Rattle·rules.specs.Calls.{lent, c-answer, Ask}
-use Rattle·rules.proofs.Answers.{None, answered, answers-only}
-use Rattle·table.specs.declared.Answer.{Answer}
-use Rattle·outline.proofs.Listed.{file-listed-only}
-use Rattle·verdict.specs.declared.Verdict.{Verdict}
-use Rattle·verdict.specs.declared.Verdict.the-variants.{Admitted}
-use Rattle·verdict.specs.Verdict.{cutOf, otherOf, intervalOf, hyperOf, loadOf, setsOf, IsVerdict}
-use Rattle·verdict.proofs.Judging.{judged-only}
-use Rattle·planner.proofs.Only.{plan-only}
-use Rattle·raising.proofs.Writing.{raised-only}
-use Rattle·supervisor·specs.specs.ToC.{VerdictToC, values, values-checks, Valued, ValuesToC, SharedToC, SetsToC, PlanToC, RaiseToC}
-use Rattle·supervisor·proofs.proofs.Values.{values-none}
+use Rattle.rules.specs.Refusals.{shared_checks, verdict_checks}
+use Rattle.rules.specs.Calls.{lent, c_answer, Ask}
+use Rattle.rules.proofs.Answers.{None, answered, answers_only}
+use Rattle.table.specs.declared.Answer.{Answer}
+use Rattle.outline.proofs.Listed.{file_listed_only}
+use Rattle.verdict.specs.declared.Verdict.{Verdict}
+use Rattle.verdict.specs.declared.Verdict.TheVariants.{Admitted}
+use Rattle.verdict.specs.Verdict.{cut_of, other_of, interval_of, hyper_of, load_of, sets_of, IsVerdict}
+use Rattle.verdict.proofs.Judging.{judged_only}
+use Rattle.planner.proofs.Only.{plan_only}
+use Rattle.raising.proofs.Writing.{raised_only}
+use Rattle.supervisor.specs.ToC.{VerdictToC, values, values_checks, Valued, ValuesToC, SharedToC, SetsToC, PlanToC, RaiseToC}
+use Rattle.supervisor.proofs.Values.{values_none}
 
-pub verdict-to-c-only : (a : Ask) (r s : ℕ) → VerdictToC a r → VerdictToC a s → r ≡ s
-verdict-to-c-only a r s A B =
-    let e = answers-only (a .checks) (A .number) (B .number) (A .place) (B .place) (A .answers) (B .answers) in
-    A .as-one ∙ ap₂ c-answer (e .0) (e .1) ∙ sym (B .as-one)
+pub verdict_to_c_only : (a : Ask) (r s : ℕ) → VerdictToC a r → VerdictToC a s → r ≡ s
+verdict_to_c_only a r s A B =
+    let e = answers_only a.checks A.number B.number A.place B.place A.answers B.answers in
+    A.as_one ∙ ap₂ c_answer e.0 e.1 ∙ sym B.as_one
 
 -- values as the verdict that gives them
-abbrev verdictOf : {f was now : List ℕ} → Valued f was now → Verdict
-verdictOf d = Admitted (d .cut) (d .other) (d .interval) (d .hyper) (d .load) (d .sets)
+abbrev verdict_of : {f was now : List ℕ} → Valued f was now → Verdict
+verdict_of d = Admitted d.cut d.other d.interval d.hyper d.load d.sets
 
-pub values-to-c-only : (f was now then : List ℕ) (r s : ℕ) → ValuesToC f was now r → ValuesToC f was then s → (r ≡ s) × (now ≡ then)
-values-to-c-only f was now then r s A B =
-    (A .as-one ∙ ap₂ c-answer (same .0) (same .1) ∙ sym (B .as-one), go (ℕ-discrete (A .number) 0))
+pub values_to_c_only : (f was now then : List ℕ) (r s : ℕ) → ValuesToC f was now r → ValuesToC f was then s → (r ≡ s) × (now ≡ then)
+values_to_c_only f was now then r s A B =
+    (A.as_one ∙ ap₂ c_answer same.0 same.1 ∙ sym B.as_one, go (ℕ_discrete A.number 0))
   where
-    same : (A .number ≡ B .number) × (A .place ≡ B .place)
-    same = answers-only (values-checks f (length was)) _ _ _ _ (A .called .answers) (B .called .answers)
+    same : (A.number ≡ B.number) × (A.place ≡ B.place)
+    same = answers_only (values_checks f (length was)) _ _ _ _ A.called.answers B.called.answers
 
     -- the values are those of a verdict, and only one verdict fits
-    is-verdict : None (verdict-checks f) → {now : List ℕ} (d : Valued f was now) → IsVerdict f (verdictOf d)
-    is-verdict none d = record {
-      answers = answered (verdict-checks f) none;
-      done = λ e. d .admitted;
+    is_verdict : None (verdict_checks f) → {now : List ℕ} (d : Valued f was now) → IsVerdict f (verdict_of d)
+    is_verdict none d = record {
+      answers = answered (verdict_checks f) none;
+      done = λ e. d.admitted;
       refused = λ e. absurd (e refl);
     }
 
-    go : Dec (A .number ≡ 0) → now ≡ then
+    go : Dec (A.number ≡ 0) → now ≡ then
     go (yes z) =
-        let none = values-none f (length was) (A .place) (rw z at (A .called .answers)) in
-        let a = A .called .done z in
-        let b = B .called .done (sym (same .0) ∙ z) in
-        let e = judged-only f (verdictOf a) (verdictOf b) (is-verdict none a) (is-verdict none b) in
-        a .written
-        ∙ ap (λ (v : Verdict). lent (values (cutOf v) (otherOf v) (intervalOf v) (hyperOf v) (loadOf v) (setsOf v)) was) e
-        ∙ sym (b .written)
-    go (no z) = A .called .refused z ∙ sym (B .called .refused (λ e. z (same .0 ∙ e)))
+        let none = values_none f (length was) A.place (rw z at A.called.answers) in
+        let a = A.called.done z in
+        let b = B.called.done (sym same.0 ∙ z) in
+        let e = judged_only f (verdict_of a) (verdict_of b) (is_verdict none a) (is_verdict none b) in
+        a.written
+        ∙ ap (λ (v : Verdict). lent (values (cut_of v) (other_of v) (interval_of v) (hyper_of v) (load_of v) (sets_of v)) was) e
+        ∙ sym b.written
+    go (no z) = A.called.refused z ∙ sym (B.called.refused (λ e. z (same.0 ∙ e)))
 
-pub shared-to-c-only : (f : List ℕ) (i j was now then r s : ℕ) → SharedToC f i j was now r → SharedToC f i j was then s
+pub shared_to_c_only : (f : List ℕ) (i j was now then r s : ℕ) → SharedToC f i j was now r → SharedToC f i j was then s
     → (r ≡ s) × (now ≡ then)
-shared-to-c-only f i j was now then r s A B =
-    (A .as-one ∙ ap₂ c-answer (same .0) (same .1) ∙ sym (B .as-one), go (ℕ-discrete (A .number) 0))
+shared_to_c_only f i j was now then r s A B =
+    (A.as_one ∙ ap₂ c_answer same.0 same.1 ∙ sym B.as_one, go (ℕ_discrete A.number 0))
   where
-    same : (A .number ≡ B .number) × (A .place ≡ B .place)
-    same = answers-only (shared-checks f i j) _ _ _ _ (A .called .answers) (B .called .answers)
+    same : (A.number ≡ B.number) × (A.place ≡ B.place)
+    same = answers_only (shared_checks f i j) _ _ _ _ A.called.answers B.called.answers
 
-    go : Dec (A .number ≡ 0) → now ≡ then
-    go (yes z) = A .called .done z ∙ sym (B .called .done (sym (same .0) ∙ z))
-    go (no h) = A .called .refused h ∙ sym (B .called .refused (λ z. h (same .0 ∙ z)))
+    go : Dec (A.number ≡ 0) → now ≡ then
+    go (yes z) = A.called.done z ∙ sym (B.called.done (sym same.0 ∙ z))
+    go (no h) = A.called.refused h ∙ sym (B.called.refused (λ z. h (same.0 ∙ z)))
 
-pub sets-to-c-only : (f was now then : List ℕ) (r s : ℕ) → SetsToC f was now r → SetsToC f was then s → (r ≡ s) × (now ≡ then)
-sets-to-c-only f was now then r s A B =
-    let e = file-listed-only f was now then _ _ _ _ _ _ (A .listed) (B .listed) in
-    (A .as-one ∙ ap₂ c-answer (e .1) (e .2) ∙ sym (B .as-one), e .0)
+pub sets_to_c_only : (f was now then : List ℕ) (r s : ℕ) → SetsToC f was now r → SetsToC f was then s → (r ≡ s) × (now ≡ then)
+sets_to_c_only f was now then r s A B =
+    let e = file_listed_only f was now then _ _ _ _ _ _ A.listed B.listed in
+    (A.as_one ∙ ap₂ c_answer e.1 e.2 ∙ sym B.as_one, e.0)
 
-pub plan-to-c-only : (a : Ask) (was now then : List ℕ) (r s : ℕ) → PlanToC a was now r → PlanToC a was then s → (r ≡ s) × (now ≡ then)
-plan-to-c-only a was now then r s A B =
-    let e = plan-only a (A .answer) (B .answer) was now then (A .planned) (B .planned) in
-    (A .as-one ∙ ap (λ (a : Answer). c-answer (a .number) (a .place)) (e .0) ∙ sym (B .as-one), e .1)
+pub plan_to_c_only : (a : Ask) (was now then : List ℕ) (r s : ℕ) → PlanToC a was now r → PlanToC a was then s → (r ≡ s) × (now ≡ then)
+plan_to_c_only a was now then r s A B =
+    let e = plan_only a A.answer B.answer was now then A.planned B.planned in
+    (A.as_one ∙ ap (λ (a : Answer). c_answer a.number a.place) e.0 ∙ sym B.as_one, e.1)
 
-pub raise-to-c-only : (f was now then : List ℕ) (r s : ℕ) → RaiseToC f was now r → RaiseToC f was then s → (r ≡ s) × (now ≡ then)
-raise-to-c-only f was now then r s A B =
-    let e = raised-only f was now then _ _ _ _ (A .raised) (B .raised) in
-    (A .as-one ∙ ap₂ c-answer (e .0) (e .1) ∙ sym (B .as-one), e .2)
+pub raise_to_c_only : (f was now then : List ℕ) (r s : ℕ) → RaiseToC f was now r → RaiseToC f was then s → (r ≡ s) × (now ≡ then)
+raise_to_c_only f was now then r s A B =
+    let e = raised_only f was now then _ _ _ _ A.raised B.raised in
+    (A.as_one ∙ ap₂ c_answer e.0 e.1 ∙ sym B.as_one, e.2)

@@ -1,31 +1,32 @@
 // The functions for the supervisor, a C program: verdict, its values, shared segments, list of sets, whole plan and raised file, and
 // verdict and whole plan with limits and with a relay, each answering 256 × number + place; and the list of one element
 // (include/ringplan.h).
+#![tactic(auto)]
+
+ghost use Rattle.std.specs.Prelude.{◌≡◌, ◌≤◌, length};
+ghost use Rattle.rules.specs.Refusals.{last_number};
+ghost use Rattle.rules.proofs.Small.{last_place};
+ghost use Rattle.rules.specs.Calls.{lent, file_ask, limited_ask, relayed_ask, c_answer};
+ghost use Rattle.supervisor.specs.ToC.{VerdictToC, values, value_count, ValuesToC, SharedToC, SetsToC, PlanToC, RaiseToC};
+ghost use Rattle.supervisor.specs.ToC.{list_refusal, ListToC};
+
 use limited::Limits;
 use lists::Head;
 use table::Answer;
 use verdict::Verdict;
-ghost use mathlib.Core.Path.{_≡_};
-ghost use Prim.Native.Nat.{_≤_};
-ghost use lib.ListN.{length};
-ghost use Rattle·rules.specs.Refusals.{last-number};
-ghost use Rattle·rules.proofs.Small.{last-place};
-ghost use Rattle·rules.specs.Calls.{lent, fileAsk, limitedAsk, relayedAsk, c-answer};
-ghost use Rattle·supervisor·specs.specs.ToC.{VerdictToC, values, value-count, ValuesToC, SharedToC, SetsToC, PlanToC, RaiseToC};
-ghost use Rattle·supervisor·specs.specs.ToC.{list-refusal, ListToC};
 
 // Number and place as one number.
 fn joined(number: u32, place: u32) -> u32
-    requires { ⌜ (number ≤ last-number) × (place ≤ last-place) ⌝ }
-    ensures { λ r. ⌜ r ≡ c-answer number place ⌝ }
+    requires { (number ≤ last_number) × (place ≤ last_place) }
+    ensures { result ≡ c_answer number place }
 {
     256 * number + place
 }
 
 // Whether the bus can carry the table of a file.
-#[no_mangle]
+#[unsafe(no_mangle)]
 pub extern "C" fn ring_verdict(file: &[u8]) -> u32
-    ensures { λ r. ⌜ VerdictToC (fileAsk (now (file .entry))) r ⌝ }
+    ensures { VerdictToC (file_ask file.now) result }
 {
     let answer = verdict::judge(file);
     joined(answer.number(), answer.place())
@@ -46,8 +47,8 @@ fn write_values(
     load: u32,
     sets: u32,
 )
-    requires { ⌜ value-count ≤ length (now out) ⌝ }
-    ensures { λ _. ⌜ now (out .exit) ≡ lent (values cut other interval hyper load sets) (now (out .entry)) ⌝ }
+    requires { value_count ≤ length out.old }
+    ensures { out.new ≡ lent (values cut other interval hyper load sets) out.old }
 {
     out[0] = cut;
     out[1] = other;
@@ -58,9 +59,9 @@ fn write_values(
 }
 
 // Fills in what the verdict returns of an admitted table.
-#[no_mangle]
+#[unsafe(no_mangle)]
 pub extern "C" fn ring_values(file: &[u8], out: &mut [u32]) -> u32
-    ensures { λ r. ⌜ ValuesToC (now (file .entry)) (now (out .entry)) (now (out .exit)) r ⌝ }
+    ensures { ValuesToC file.now out.old out.new result }
 {
     let answer = verdict::judge(file);
     let Verdict::Admitted {
@@ -84,9 +85,9 @@ pub extern "C" fn ring_values(file: &[u8], out: &mut [u32]) -> u32
 // ---- where two rows meet
 
 // Fills in the word of the segments that two rows share.
-#[no_mangle]
+#[unsafe(no_mangle)]
 pub extern "C" fn ring_shared(file: &[u8], i: usize, j: usize, word: &mut u32) -> u32
-    ensures { λ r. ⌜ SharedToC (now (file .entry)) i j (now (word .entry)) (now (word .exit)) r ⌝ }
+    ensures { SharedToC file.now i j word.old word.new result }
 {
     let found = meeting::meet(file, i, j);
     if found.answer.number == Answer::DONE {
@@ -98,27 +99,27 @@ pub extern "C" fn ring_shared(file: &[u8], i: usize, j: usize, word: &mut u32) -
 // ---- lists and plans
 
 // Fills in the list of the overlap sets of a table.
-#[no_mangle]
+#[unsafe(no_mangle)]
 pub extern "C" fn ring_sets(file: &[u8], sets: &mut [u64]) -> u32
-    ensures { λ r. ⌜ SetsToC (now (file .entry)) (now (sets .entry)) (now (sets .exit)) r ⌝ }
+    ensures { SetsToC file.now sets.old sets.new result }
 {
     let listing = outline::list_of_sets(file, sets);
     joined(listing.answer.number, listing.answer.place)
 }
 
 // Fills the whole plan of an admitted table.
-#[no_mangle]
+#[unsafe(no_mangle)]
 pub extern "C" fn ring_plan(file: &[u8], plan: &mut [u64]) -> u32
-    ensures { λ r. ⌜ PlanToC (fileAsk (now (file .entry))) (now (plan .entry)) (now (plan .exit)) r ⌝ }
+    ensures { PlanToC (file_ask file.now) plan.old plan.new result }
 {
     let answer = planner::whole_plan(file, plan);
     joined(answer.number, answer.place)
 }
 
 // Fills it by the plain planner (#114): the same words.
-#[no_mangle]
+#[unsafe(no_mangle)]
 pub extern "C" fn ring_plain_plan(file: &[u8], plan: &mut [u64]) -> u32
-    ensures { λ r. ⌜ PlanToC (fileAsk (now (file .entry))) (now (plan .entry)) (now (plan .exit)) r ⌝ }
+    ensures { PlanToC (file_ask file.now) plan.old plan.new result }
 {
     let found = planner::plain_plan(file, plan);
     joined(found.number, found.place)
@@ -127,9 +128,9 @@ pub extern "C" fn ring_plain_plan(file: &[u8], plan: &mut [u64]) -> u32
 // ---- with limits of two parties (#108)
 
 // Whether the bus can carry the table of a file within limits.
-#[no_mangle]
+#[unsafe(no_mangle)]
 pub extern "C" fn ring_verdict_limited(file: &[u8], ours: u32, theirs: u32) -> u32
-    ensures { λ r. ⌜ VerdictToC (limitedAsk (now (file .entry)) ours theirs) r ⌝ }
+    ensures { VerdictToC (limited_ask file.now ours theirs) result }
 {
     let limits = Limits {
         ours: ours,
@@ -140,9 +141,9 @@ pub extern "C" fn ring_verdict_limited(file: &[u8], ours: u32, theirs: u32) -> u
 }
 
 // Fills the whole plan of a table that is admitted within limits.
-#[no_mangle]
+#[unsafe(no_mangle)]
 pub extern "C" fn ring_plan_limited(file: &[u8], ours: u32, theirs: u32, plan: &mut [u64]) -> u32
-    ensures { λ r. ⌜ PlanToC (limitedAsk (now (file .entry)) ours theirs) (now (plan .entry)) (now (plan .exit)) r ⌝ }
+    ensures { PlanToC (limited_ask file.now ours theirs) plan.old plan.new result }
 {
     let limits = Limits {
         ours: ours,
@@ -155,18 +156,18 @@ pub extern "C" fn ring_plan_limited(file: &[u8], ours: u32, theirs: u32, plan: &
 // ---- with a relay (#113)
 
 // Whether the bus can carry the table of a file with a relay.
-#[no_mangle]
+#[unsafe(no_mangle)]
 pub extern "C" fn ring_verdict_relayed(file: &[u8], relay: u32) -> u32
-    ensures { λ r. ⌜ VerdictToC (relayedAsk (now (file .entry)) relay) r ⌝ }
+    ensures { VerdictToC (relayed_ask file.now relay) result }
 {
     let split = relayed::judge(file, relay as usize);
     joined(split.number(), split.place())
 }
 
 // Fills the whole plan of a table that is admitted with a relay: the words are of split rows.
-#[no_mangle]
+#[unsafe(no_mangle)]
 pub extern "C" fn ring_plan_relayed(file: &[u8], relay: u32, plan: &mut [u64]) -> u32
-    ensures { λ r. ⌜ PlanToC (relayedAsk (now (file .entry)) relay) (now (plan .entry)) (now (plan .exit)) r ⌝ }
+    ensures { PlanToC (relayed_ask file.now relay) plan.old plan.new result }
 {
     let relays = relayed::whole_plan(file, relay as usize, plan);
     joined(relays.number, relays.place)
@@ -175,9 +176,9 @@ pub extern "C" fn ring_plan_relayed(file: &[u8], relay: u32, plan: &mut [u64]) -
 // ---- light rows raised (#111)
 
 // The file of the table with its light rows' costs raised to the least that passes, as long as the file.
-#[no_mangle]
+#[unsafe(no_mangle)]
 pub extern "C" fn ring_raise(file: &[u8], out: &mut [u8]) -> u32
-    ensures { λ r. ⌜ RaiseToC (now (file .entry)) (now (out .entry)) (now (out .exit)) r ⌝ }
+    ensures { RaiseToC file.now out.old out.new result }
 {
     let raised = raising::raise(file, out);
     joined(raised.number, raised.place)
@@ -187,15 +188,15 @@ pub extern "C" fn ring_raise(file: &[u8], out: &mut [u8]) -> u32
 
 // A refusal as one number. A place may be a slot, and what isn't refused is how many bytes were written: both are below 2^32.
 fn refusal(number: u32, place: u32) -> u64
-    ensures { λ r. ⌜ r ≡ list-refusal number place ⌝ }
+    ensures { result ≡ list_refusal number place }
 {
     4294967296 * number as u64 + place as u64
 }
 
 // Fills in the list file of one element's moves in a plan (#101).
-#[no_mangle]
+#[unsafe(no_mangle)]
 pub extern "C" fn ring_element_list(file: &[u8], plan: &[u64], element: u32, list: &mut [u8]) -> u64
-    ensures { λ r. ⌜ ListToC (now (file .entry)) (now (plan .entry)) element (now (list .entry)) (now (list .exit)) r ⌝ }
+    ensures { ListToC file.now plan.now element list.old list.new result }
 {
     let made = maker::make_file(file, plan, element as u64, list);
     if made.answer.number != Answer::DONE {

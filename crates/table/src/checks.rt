@@ -1,15 +1,14 @@
 // The checks that the reader and the writer share: limits, a table's size, a row.
-use crate::Answer;
-use crate::Row;
-use crate::Table;
-ghost use Prim.Native.Nat.{_+_, _*_, _≤_};
-ghost use Rattle·rules.specs.TableFile.{headerSize};
-ghost use Rattle·rules.specs.Refusals.{Answers, size-checks, faults};
-ghost use Rattle·table·specs.specs.Rows.{longest-row, single, sized};
-ghost use Rattle·numbers.specs.Decides.{Decides};
+ghost use Rattle.std.specs.Prelude.{◌+◌, ◌*◌, ◌≤◌};
+ghost use Rattle.rules.specs.TableFile.{header_size};
+ghost use Rattle.rules.specs.Refusals.{Answers, size_checks, faults};
+ghost use Rattle.table.specs.Rows.{longest_row, single, sized};
+ghost use Rattle.numbers.specs.Decides.{Decides};
+
+use crate::{Answer, Row, Table};
 
 fn within(x: usize, low: usize, high: usize) -> bool
-    ensures { λ r. ⌜ Decides ((low ≤ x) × (x ≤ high)) r ⌝ }
+    ensures { Decides ((low ≤ x) × (x ≤ high)) result }
 {
     if x < low {
         return false;
@@ -19,8 +18,8 @@ fn within(x: usize, low: usize, high: usize) -> bool
 
 // Checks 4 to 6, of a table whose file or slice has `size` places: it is to have `front`, and `each` a row.
 pub fn size_fault(elements: usize, rows: usize, size: usize, front: usize, each: usize) -> u32
-    requires { ⌜ (front ≤ headerSize) × (each ≤ longest-row) ⌝ }
-    ensures { λ r. ⌜ Answers (size-checks (sized elements rows) size (front + each * rows)) r 0 ⌝ }
+    requires { (front ≤ header_size) × (each ≤ longest_row) }
+    ensures { Answers (size_checks (sized elements rows) size (front + each * rows)) result 0 }
 {
     if !within(elements, 2, Table::ELEMENTS) {
         return Answer::WRONG_ELEMENTS;
@@ -36,7 +35,7 @@ pub fn size_fault(elements: usize, rows: usize, size: usize, front: usize, each:
 
 // Checks 7 to 9 and 26 of one row.
 pub fn row_fault(elements: usize, rings: usize, row: Row) -> u32
-    ensures { λ r. ⌜ Answers (faults (single elements rings row) 0) r 0 ⌝ }
+    ensures { Answers (faults (single elements rings row) 0) result 0 }
 {
     if !within(row.first as usize, 1, elements) {
         return Answer::WRONG_ENDS;

@@ -1,15 +1,14 @@
 // A table in memory: a column for each of its rows' numbers. Below this crate a table is its columns, whatever file it came from. Labels
 // stand beside them, for those who ask: planning needs none.
-use crate::Row;
-use crate::Table;
-use crate::wide;
-ghost use mathlib.Core.Path.{_≡_};
-ghost use Prim.Native.Nat.{_<_};
-ghost use Rattle·numbers.specs.Lists.{at};
-ghost use Rattle·rules.specs.Bounds.{max-rows, max-rings};
-ghost use Rattle·table·specs.specs.Columns.{HasRow, noColumns};
+ghost use Rattle.std.specs.Prelude.{◌≡◌, ◌<◌};
+ghost use Rattle.numbers.specs.Lists.{at};
+ghost use Rattle.rules.specs.Bounds.{max_rows, max_rings};
+ghost use Rattle.table.specs.Columns.{HasRow, no_columns};
+
+use crate::{Row, Table, wide};
 
 // Every column has 0 past the last row.
+#[derive(Clone, Copy)]
 pub struct Columns {
     pub elements: usize,
     pub rows: usize,
@@ -23,7 +22,7 @@ pub struct Columns {
 
 // The columns of no table: what stands beside a refusal.
 pub fn no_columns() -> Columns
-    ensures { λ r. ⌜ r ≡ noColumns ⌝ }
+    ensures { result ≡ no_columns }
 {
     Columns {
         elements: 0,
@@ -47,8 +46,8 @@ pub fn row_at<'a>(
     way: usize,
     label: u16,
 ) -> Row
-    requires { ⌜ i < max-rows ⌝ }
-    ensures { λ r. ⌜ HasRow (now (cost .entry)) (now (period .entry)) (now (first .entry)) (now (second .entry)) i way label r ⌝ }
+    requires { i < max_rows }
+    ensures { HasRow cost.now period.now first.now second.now i way label result }
 {
     Row {
         cost: cost[i],
@@ -61,21 +60,21 @@ pub fn row_at<'a>(
 }
 
 fn byte_wide(x: u8) -> usize
-    ensures { λ r. ⌜ r ≡ x ⌝ }
+    ensures { result ≡ x }
 {
     x as usize
 }
 
 fn number_wide(x: u16) -> u64
-    ensures { λ r. ⌜ r ≡ x ⌝ }
+    ensures { result ≡ x }
 {
     x as u64
 }
 
 // An end of row `i`.
 pub fn end_at(ends: &[u8; Table::ROWS], i: usize) -> usize
-    requires { ⌜ i < max-rows ⌝ }
-    ensures { λ r. ⌜ r ≡ at (now (ends .entry)) i ⌝ }
+    requires { i < max_rows }
+    ensures { result ≡ at ends.now i }
 {
     byte_wide(ends[i])
 }
@@ -83,8 +82,8 @@ pub fn end_at(ends: &[u8; Table::ROWS], i: usize) -> usize
 // The direction of row `i`. With one ring it is not looked up: a loop over a plain table's rows then has no directions in it, and is
 // compiled as if there were none.
 pub fn way_at(way: &[u8; Table::ROWS], rings: usize, i: usize) -> usize
-    requires { ⌜ (i < max-rows) × (rings < max-rings → at (now way) i ≡ 0) ⌝ }
-    ensures { λ r. ⌜ r ≡ at (now (way .entry)) i ⌝ }
+    requires { (i < max_rows) × (rings < max_rings → at way.now i ≡ 0) }
+    ensures { result ≡ at way.now i }
 {
     if rings < Table::RINGS {
         return 0;
@@ -94,8 +93,8 @@ pub fn way_at(way: &[u8; Table::ROWS], rings: usize, i: usize) -> usize
 
 // The cost or the period of row `i`.
 pub fn slots_at(column: &[u16; Table::ROWS], i: usize) -> u64
-    requires { ⌜ i < max-rows ⌝ }
-    ensures { λ r. ⌜ r ≡ at (now (column .entry)) i ⌝ }
+    requires { i < max_rows }
+    ensures { result ≡ at column.now i }
 {
     number_wide(column[i])
 }

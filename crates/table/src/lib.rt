@@ -1,40 +1,24 @@
 // A table: its bounds, its columns in memory, and the checks that its reader and its writer share.
+#![tactic(auto)]
+
 mod checks;
 mod columns;
 mod marks;
 mod versions;
 
-pub use checks::row_fault;
-pub use checks::size_fault;
-pub use columns::Columns;
-pub use columns::end_at;
-pub use columns::no_columns;
-pub use columns::row_at;
-pub use columns::slots_at;
-pub use columns::way_at;
-pub use marks::begins;
-pub use marks::is_no_mark;
-pub use marks::is_plain;
-pub use marks::is_strange;
-pub use marks::mark_byte;
-pub use marks::put_start;
-pub use marks::rings_of;
-pub use versions::is_unknown;
-pub use versions::label_in;
-pub use versions::last_of;
-pub use versions::row_bytes;
-pub use versions::row_place;
-pub use versions::version_of;
-pub use versions::way_in;
-ghost use mathlib.Core.Path.{_≡_};
-ghost use Prim.Native.Nat.{_+_, _*_, _<_, _≤_};
-ghost use lib.ListN.{length};
-ghost use lib.Seq.{sets};
-ghost use Rattle·rules.specs.Bounds.{max-elements, max-rows, max-rings, max-slots};
-ghost use Rattle·rules.specs.TableFile.{headerSize, rowNumbers, write16};
-ghost use Rattle·table·specs.specs.Rows.{IsHead};
+ghost use Rattle.std.specs.Prelude.{◌≡◌, ◌+◌, ◌*◌, ◌<◌, ◌≤◌, length};
+ghost use Rattle.std.proofs.lemmas.List.Edits.{sets};
+ghost use Rattle.rules.specs.Bounds.{max_elements, max_rows, max_rings, max_slots};
+ghost use Rattle.rules.specs.TableFile.{header_size, row_numbers, write16};
+ghost use Rattle.table.specs.Rows.{IsHead};
+
+pub use checks::{row_fault, size_fault};
+pub use columns::{Columns, end_at, no_columns, row_at, slots_at, way_at};
+pub use marks::{begins, is_no_mark, is_plain, is_strange, mark_byte, put_start, rings_of};
+pub use versions::{is_unknown, label_in, last_of, row_bytes, row_place, version_of, way_in};
 
 // A table: how many elements the ring has, and how many rows.
+#[derive(Clone, Copy)]
 pub struct Table {
     pub elements: usize,
     pub rows: usize,
@@ -81,8 +65,8 @@ impl Table {
 
     // What a file that has a header says of its table.
     pub fn of(file: &[u8]) -> Table
-        requires { ⌜ headerSize ≤ length (now file) ⌝ }
-        ensures { λ r. ⌜ IsHead (now (file .entry)) r ⌝ }
+        requires { header_size ≤ length file.now }
+        ensures { IsHead file.now result }
     {
         Table {
             elements: wide(file[Table::ELEMENTS_AT]) as usize,
@@ -92,43 +76,44 @@ impl Table {
 
     // That the bounds are document 01's.
     pub fn elements_limit() -> usize
-        ensures { λ r. ⌜ r ≡ max-elements ⌝ }
+        ensures { result ≡ max_elements }
     {
         Table::ELEMENTS
     }
 
     pub fn rows_limit() -> usize
-        ensures { λ r. ⌜ r ≡ max-rows ⌝ }
+        ensures { result ≡ max_rows }
     {
         Table::ROWS
     }
 
     pub fn rings_limit() -> usize
-        ensures { λ r. ⌜ r ≡ max-rings ⌝ }
+        ensures { result ≡ max_rings }
     {
         Table::RINGS
     }
 
     pub fn slots_limit() -> usize
-        ensures { λ r. ⌜ r ≡ max-slots ⌝ }
+        ensures { result ≡ max_slots }
     {
         Table::SLOTS
     }
 
     pub fn header_size() -> usize
-        ensures { λ r. ⌜ r ≡ headerSize ⌝ }
+        ensures { result ≡ header_size }
     {
         Table::HEADER
     }
 
     pub fn row_numbers() -> usize
-        ensures { λ r. ⌜ r ≡ rowNumbers ⌝ }
+        ensures { result ≡ row_numbers }
     {
         Table::ROW_NUMBERS
     }
 }
 
 // One periodic transfer, with its direction: 0 where there is one ring; and its label: 0 in version 1, and where there are two.
+#[derive(Clone, Copy)]
 pub struct Row {
     pub cost: u16,
     pub period: u16,
@@ -139,6 +124,7 @@ pub struct Row {
 }
 
 // What a call answers: a refusal number and its place, or twice 0.
+#[derive(Clone, Copy)]
 pub struct Answer {
     pub number: u32,
     pub place: u32,
@@ -212,7 +198,7 @@ impl Answer {
     pub const NO_ROW: u32 = 32;
 
     pub fn done() -> Answer
-        ensures { λ r. ⌜ (r .number ≡ 0) × (r .place ≡ 0) ⌝ }
+        ensures { (result.number ≡ 0) × (result.place ≡ 0) }
     {
         Answer {
             number: Answer::DONE,
@@ -222,8 +208,8 @@ impl Answer {
 
     // A refusal for row or set `place`, or for no place, 0.
     pub fn at(number: u32, place: usize) -> Answer
-        requires { ⌜ place < max-slots ⌝ }
-        ensures { λ r. ⌜ (r .number ≡ number) × (r .place ≡ place) ⌝ }
+        requires { place < max_slots }
+        ensures { (result.number ≡ number) × (result.place ≡ place) }
     {
         Answer {
             number: number,
@@ -233,23 +219,23 @@ impl Answer {
 }
 
 pub(crate) fn wide(x: u8) -> u16
-    ensures { λ r. ⌜ (r ≡ x) × (r < 256) ⌝ }
+    ensures { (result ≡ x) × (result < 256) }
 {
     x as u16
 }
 
 // The 16 bits at byte `at`, low byte first.
 pub fn read16(file: &[u8], at: usize) -> u16
-    requires { ⌜ at + 1 < length (now file) ⌝ }
-    ensures { λ r. ⌜ r ≡ Rattle·rules.specs.TableFile.read16 (now (file .entry)) at ⌝ }
+    requires { at + 1 < length file.now }
+    ensures { result ≡ Rattle.rules.specs.TableFile.read16 file.now at }
 {
     wide(file[at]) + 256 * wide(file[at + 1])
 }
 
 // 16 bits to byte `at`, low byte first.
 pub fn put16(x: u16, at: usize, out: &mut [u8])
-    requires { ⌜ at + 1 < length (now out) ⌝ }
-    ensures { λ _. ⌜ now (out .exit) ≡ sets (now (out .entry)) at (write16 x) ⌝ }
+    requires { at + 1 < length out.old }
+    ensures { out.new ≡ sets out.old at (write16 x) }
 {
     out[at] = (x % 256) as u8;
     out[at + 1] = (x / 256) as u8;

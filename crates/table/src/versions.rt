@@ -1,18 +1,16 @@
 // The two versions of a file: which it is, and how many bytes a row has. A table with two rings has version 1 alone.
-use crate::Table;
-use crate::read16;
-ghost use mathlib.Core.Path.{_≡_};
-ghost use Prim.Native.Nat.{_+_, _*_, _≤_};
-ghost use lib.ListN.{length};
-ghost use Rattle·numbers.specs.Decides.{Decides};
-ghost use Rattle·rules.specs.Bounds.{max-rows};
-ghost use Rattle·rules.specs.TableFile.{headerSize, rowSize, version, wayIn, labelIn, lastOf};
-ghost use Rattle·rules.specs.Refusals.{wrong-version};
-ghost use Rattle·table·specs.specs.Rows.{longest-row};
+ghost use Rattle.std.specs.Prelude.{◌≡◌, ◌+◌, ◌*◌, ◌≤◌, length};
+ghost use Rattle.numbers.specs.Decides.{Decides};
+ghost use Rattle.rules.specs.Bounds.{max_rows};
+ghost use Rattle.rules.specs.TableFile.{header_size, row_size, version, way_in, label_in, last_of};
+ghost use Rattle.rules.specs.Refusals.{wrong_version};
+ghost use Rattle.table.specs.Rows.{longest_row};
+
+use crate::{Table, read16};
 
 // Check 3.
 pub fn is_unknown(rings: usize, version: u64) -> bool
-    ensures { λ r. ⌜ Decides (wrong-version rings version .applies) r ⌝ }
+    ensures { Decides (wrong_version rings version).applies result }
 {
     if version == Table::VERSION_1 {
         return false;
@@ -25,7 +23,7 @@ pub fn is_unknown(rings: usize, version: u64) -> bool
 
 // Bytes a row.
 pub fn row_bytes(rings: usize, version: u64) -> usize
-    ensures { λ r. ⌜ (r ≡ rowSize rings version) × (r ≤ longest-row) ⌝ }
+    ensures { (result ≡ row_size rings version) × (result ≤ longest_row) }
 {
     if rings == Table::RINGS {
         return Table::ROW_BYTES + Table::WAY_BYTES;
@@ -38,23 +36,23 @@ pub fn row_bytes(rings: usize, version: u64) -> usize
 
 // The version of a file that has a header.
 pub fn version_of(file: &[u8]) -> u64
-    requires { ⌜ headerSize ≤ length (now file) ⌝ }
-    ensures { λ r. ⌜ r ≡ version (now (file .entry)) ⌝ }
+    requires { header_size ≤ length file.now }
+    ensures { result ≡ version file.now }
 {
     read16(file, Table::VERSION_AT) as u64
 }
 
 // The first byte of row `i`, in a file of this version with so many rings.
 pub fn row_place(rings: usize, version: u64, i: usize) -> usize
-    requires { ⌜ i ≤ max-rows ⌝ }
-    ensures { λ r. ⌜ r ≡ headerSize + rowSize rings version * i ⌝ }
+    requires { i ≤ max_rows }
+    ensures { result ≡ header_size + row_size rings version * i }
 {
     Table::HEADER + row_bytes(rings, version) * i
 }
 
 // The direction that a row's last number tells, with so many rings.
 pub fn way_in(rings: usize, last: u16) -> usize
-    ensures { λ r. ⌜ r ≡ wayIn rings last ⌝ }
+    ensures { result ≡ way_in rings last }
 {
     if rings == Table::RINGS {
         last as usize
@@ -65,14 +63,14 @@ pub fn way_in(rings: usize, last: u16) -> usize
 
 // The label that it tells.
 pub fn label_in(rings: usize, last: u16) -> u16
-    ensures { λ r. ⌜ r ≡ labelIn rings last ⌝ }
+    ensures { result ≡ label_in rings last }
 {
     if rings == Table::RINGS { 0 } else { last }
 }
 
 // The last number that tells them.
 pub fn last_of(rings: usize, way: u16, label: u16) -> u16
-    ensures { λ r. ⌜ r ≡ lastOf rings way label ⌝ }
+    ensures { result ≡ last_of rings way label }
 {
     if rings == Table::RINGS { way } else { label }
 }

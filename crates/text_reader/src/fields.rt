@@ -1,17 +1,14 @@
 // A text in lent bytes: its lines, their fields, the numbers in these, and where a place is.
-ghost use mathlib.Core.Path.{_≡_};
-ghost use mathlib.Core.List.{[]};
-ghost use mathlib.Core.Logic.{_≢_};
-ghost use Prim.Native.Nat.{ℕ, _+_, _-_, _*_, _≤_, _<_, min};
-ghost use lib.ListN.{length, drop};
-ghost use Rattle·numbers.specs.Decides.{Decides};
-ghost use Rattle·rules.specs.Text.{zero-byte};
-ghost use Rattle·decimal.specs.Plain.{IsDigit};
-ghost use Rattle·grammar.specs.TableText.{part, until, max-number};
-ghost use Rattle·grammar.specs.TableText as grammar;
-ghost use Rattle·text_reader·specs.specs.Walk.{isSign, blankIs, IsNext, IsField, IsLine, IsNextLine, IsCell, IsSpot, most, stepped};
+ghost use Rattle.std.specs.Prelude.{◌≡◌, [], ◌≢◌, ℕ, ◌+◌, ◌-◌, ◌*◌, ◌≤◌, ◌<◌, min, length, drop};
+ghost use Rattle.numbers.specs.Decides.{Decides};
+ghost use Rattle.rules.specs.Text.{zero_byte};
+ghost use Rattle.decimal.specs.Plain.{IsDigit};
+ghost use Rattle.grammar.specs.TableText.{part, until, max_number};
+ghost use Rattle.grammar.specs.TableText as grammar;
+ghost use Rattle.text_reader.specs.Walk.{is_sign, blank_is, IsNext, IsField, IsLine, IsNextLine, IsCell, IsSpot, most, stepped};
 
 // What is refused of a text, beside the numbers of `table::Answer`.
+#[derive(Clone, Copy)]
 pub struct Fault {
     pub number: u32,
 }
@@ -33,13 +30,14 @@ impl Fault {
 // ---- fields
 
 // A stretch of bytes: its first place, and the place after it.
+#[derive(Clone, Copy)]
 pub struct Span {
     pub start: usize,
     pub end: usize,
 }
 
 fn is_blank(b: u8) -> bool
-    ensures { λ r. ⌜ r ≡ grammar.isBlank b ⌝ }
+    ensures { result ≡ grammar.is_blank b }
 {
     if b == b' ' {
         return true;
@@ -51,7 +49,7 @@ fn is_blank(b: u8) -> bool
 }
 
 fn is_stop(b: u8, blank: bool) -> bool
-    ensures { λ r. ⌜ r ≡ blankIs blank b ⌝ }
+    ensures { result ≡ blank_is blank b }
 {
     if blank {
         return is_blank(b);
@@ -61,8 +59,8 @@ fn is_stop(b: u8, blank: bool) -> bool
 
 // The first place from `at` on that has a blank, or with `blank` false none; the line's end where there is no such place.
 fn stop(line: &[u8], at: usize, blank: bool) -> usize
-    requires { ⌜ at ≤ length (now line) ⌝ }
-    ensures { λ r. ⌜ (r ≡ at + until (blankIs blank) (drop at (now (line .entry)))) × (r ≤ length (now (line .entry))) ⌝ }
+    requires { at ≤ length line.now }
+    ensures { (result ≡ at + until (blank_is blank) (drop at line.now)) × (result ≤ length line.now) }
 {
     let mut i = at;
     while i < line.len() {
@@ -76,8 +74,8 @@ fn stop(line: &[u8], at: usize, blank: bool) -> usize
 
 // The first field from `at` on; an empty one at the line's end where there is none.
 fn next_field(line: &[u8], at: usize) -> Span
-    requires { ⌜ at ≤ length (now line) ⌝ }
-    ensures { λ r. ⌜ ((from : ℕ) → IsNext (part from (now (line .entry))) at r) ⌝ }
+    requires { at ≤ length line.now }
+    ensures { (from : ℕ) → IsNext (part from line.now) at result }
 {
     let start = stop(line, at, false);
     Span {
@@ -88,7 +86,7 @@ fn next_field(line: &[u8], at: usize) -> Span
 
 // Field number `k`; an empty one at the line's end where there is none.
 pub fn field(line: &[u8], k: usize) -> Span
-    ensures { λ r. ⌜ ((from : ℕ) → IsField (part from (now (line .entry))) k r) ⌝ }
+    ensures { (from : ℕ) → IsField (part from line.now) k result }
 {
     let mut found = next_field(line, 0);
     let mut left = k;
@@ -101,7 +99,7 @@ pub fn field(line: &[u8], k: usize) -> Span
 
 // Whether there is a field number `k`.
 pub fn has_field(line: &[u8], k: usize) -> bool
-    ensures { λ r. ⌜ ((from : ℕ) → Decides (grammar.field (part from (now (line .entry))) k .bytes ≢ []) r) ⌝ }
+    ensures { (from : ℕ) → Decides ((grammar.field (part from line.now) k).bytes ≢ []) result }
 {
     let found = field(line, k);
     found.start < found.end
@@ -110,6 +108,7 @@ pub fn has_field(line: &[u8], k: usize) -> bool
 // ---- lines
 
 // A line as far as its comment, and the place where the next one starts.
+#[derive(Clone, Copy)]
 pub struct Line {
     pub start: usize,
     pub end: usize,
@@ -118,7 +117,7 @@ pub struct Line {
 
 // The first place of `sign`; the end where there is none.
 fn find(bytes: &[u8], sign: u8) -> usize
-    ensures { λ r. ⌜ (r ≡ until (isSign sign) (now (bytes .entry))) × (r ≤ length (now (bytes .entry))) ⌝ }
+    ensures { (result ≡ until (is_sign sign) bytes.now) × (result ≤ length bytes.now) }
 {
     let mut i: usize = 0;
     while i < bytes.len() {
@@ -132,8 +131,8 @@ fn find(bytes: &[u8], sign: u8) -> usize
 
 // The line that starts at `at`.
 fn line_at(text: &[u8], at: usize) -> Line
-    requires { ⌜ at ≤ length (now text) ⌝ }
-    ensures { λ r. ⌜ IsLine (now (text .entry)) at r ⌝ }
+    requires { at ≤ length text.now }
+    ensures { IsLine text.now at result }
 {
     let end = at + find(&text[at..], b'\n');
     Line {
@@ -145,8 +144,8 @@ fn line_at(text: &[u8], at: usize) -> Line
 
 // The first line from `from` on that has a field; an empty one where there is none.
 pub fn next_line(text: &[u8], from: usize) -> Line
-    requires { ⌜ from ≤ length (now text) + 1 ⌝ }
-    ensures { λ r. ⌜ IsNextLine (now (text .entry)) from r ⌝ }
+    requires { from ≤ length text.now + 1 }
+    ensures { IsNextLine text.now from result }
 {
     let mut at = from;
     while at <= text.len() {
@@ -169,6 +168,7 @@ pub fn next_line(text: &[u8], from: usize) -> Line
 // ---- numbers
 
 // What a field holds: a number, or a fault and its place.
+#[derive(Clone, Copy)]
 pub struct Cell {
     pub number: u32,
     pub place: usize,
@@ -176,7 +176,7 @@ pub struct Cell {
 }
 
 fn is_digit(b: u8) -> bool
-    ensures { λ r. ⌜ Decides (IsDigit b) r ⌝ }
+    ensures { Decides (IsDigit b) result }
 {
     if b < b'0' {
         return false;
@@ -186,8 +186,8 @@ fn is_digit(b: u8) -> bool
 
 // A number with one digit more, as far as 65,536.
 fn grow(x: u32, digit: u8) -> u32
-    requires { ⌜ (x ≤ max-number + 1) × IsDigit digit ⌝ }
-    ensures { λ r. ⌜ r ≡ min (x * 10 + (digit - zero-byte)) (max-number + 1) ⌝ }
+    requires { (x ≤ max_number + 1) × IsDigit digit }
+    ensures { result ≡ min (x * 10 + (digit - zero_byte)) (max_number + 1) }
 {
     let next = x * 10 + (digit - b'0') as u32;
     if next > 65536 {
@@ -197,7 +197,7 @@ fn grow(x: u32, digit: u8) -> u32
 }
 
 fn refuse(number: u32, place: usize) -> Cell
-    ensures { λ r. ⌜ (r .number ≡ number) × (r .place ≡ place) × (r .value ≡ 0) ⌝ }
+    ensures { (result.number ≡ number) × (result.place ≡ place) × (result.value ≡ 0) }
 {
     Cell {
         number: number,
@@ -208,7 +208,7 @@ fn refuse(number: u32, place: usize) -> Cell
 
 // The number in a field that starts at `place`.
 pub fn number(digits: &[u8], place: usize) -> Cell
-    ensures { λ r. ⌜ IsCell (part place (now (digits .entry))) r ⌝ }
+    ensures { IsCell (part place digits.now) result }
 {
     let mut x: u32 = 0;
     let mut i: usize = 0;
@@ -232,21 +232,22 @@ pub fn number(digits: &[u8], place: usize) -> Cell
 // ---- places
 
 // A line and a column, counted from 1.
+#[derive(Clone, Copy)]
 pub struct Spot {
     pub line: usize,
     pub column: usize,
 }
 
 fn least(a: usize, b: usize) -> usize
-    ensures { λ r. ⌜ r ≡ min a b ⌝ }
+    ensures { result ≡ min a b }
 {
     if a < b { a } else { b }
 }
 
 // Past byte `b`.
 fn step(spot: Spot, b: u8) -> Spot
-    requires { ⌜ (spot .line ≤ most) × (spot .column ≤ most) ⌝ }
-    ensures { λ r. ⌜ r ≡ stepped spot b ⌝ }
+    requires { (spot.line ≤ most) × (spot.column ≤ most) }
+    ensures { result ≡ stepped spot b }
 {
     if b == b'\n' {
         return Spot {
@@ -262,7 +263,7 @@ fn step(spot: Spot, b: u8) -> Spot
 
 // Where place `place` is.
 pub fn spot_of(text: &[u8], place: usize) -> Spot
-    ensures { λ r. ⌜ IsSpot (now (text .entry)) place r ⌝ }
+    ensures { IsSpot text.now place result }
 {
     let end = least(place, text.len());
     let mut at = Spot { line: 1, column: 1 };

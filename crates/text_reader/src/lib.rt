@@ -1,53 +1,42 @@
 // The reader of tables in text: from a text to numbers in memory.
 //
 // A line is lent as far as its comment, and `from` is the place of the text where it starts.
+#![tactic(auto)]
+
 mod fields;
 
-use fields::Cell;
-use fields::Fault;
-pub use fields::Spot;
-use fields::field;
-use fields::has_field;
-use fields::next_line;
-pub use fields::spot_of;
-use table::Answer;
-use table::Row;
-use table::Table;
-use table::label_in;
-use table::mark_byte;
-use table::way_in;
-ghost use mathlib.Core.Path.{_≡_};
-ghost use mathlib.Core.Bool.{_||_};
-ghost use mathlib.Core.List.{[], _∷_};
-ghost use Prim.Native.Nat.{ℕ, _+_, _*_, _≤_, _<_};
-ghost use lib.ListN.{length};
-ghost use Rattle·numbers.specs.Decides.{Decides};
-ghost use Rattle·rules.specs.Bounds.{max-rows};
-ghost use Rattle·rules.specs.TableFile.{rowNumbers};
-ghost use Rattle·rules.specs.Refusals.{Answers, wrong-elements};
-ghost use Rattle·rules.specs.Calls.{lent};
-ghost use Rattle·table.specs.Rows.{sized};
-ghost use Rattle·grammar.specs.TableText as grammar;
-ghost use Rattle·grammar.specs.TableText.{part, max-text, ringsIn, textRings, textTable, missing-field, spare-field, value-checks};
-ghost use Rattle·grammar.specs.TableText.{TextRead};
-ghost use Rattle·text_reader·specs.specs.Walk.{IsCell};
-ghost use Rattle·text_reader·specs.specs.Reading.{AreCells, IsRowOf, inRing, IsForm, IsRowAt, IsHeading, blame, Rest, AreRows, versionFor};
-ghost use Rattle·text_reader·specs.specs.Reading.{IsNothing, AreLines};
+ghost use Rattle.std.specs.Prelude.{◌≡◌, ◌||◌, [], ◌∷◌, ℕ, ◌+◌, ◌*◌, ◌≤◌, ◌<◌, length};
+ghost use Rattle.numbers.specs.Decides.{Decides};
+ghost use Rattle.rules.specs.Bounds.{max_rows};
+ghost use Rattle.rules.specs.TableFile.{row_numbers};
+ghost use Rattle.rules.specs.Refusals.{Answers, wrong_elements};
+ghost use Rattle.rules.specs.Calls.{lent};
+ghost use Rattle.table.specs.Rows.{sized};
+ghost use Rattle.grammar.specs.TableText as grammar;
+ghost use Rattle.grammar.specs.TableText.{part, max_text, rings_in, text_rings, text_table, missing_field, spare_field, value_checks};
+ghost use Rattle.grammar.specs.TableText.{TextRead};
+ghost use Rattle.text_reader.specs.Walk.{IsCell};
+ghost use Rattle.text_reader.specs.Reading.{AreCells, IsRowOf, in_ring, IsForm, IsRowAt, IsHeading, blame, Rest, AreRows, version_for};
+ghost use Rattle.text_reader.specs.Reading.{IsNothing, AreLines};
+
+use fields::{Cell, Fault, field, has_field, next_line};
+pub use fields::{Spot, spot_of};
+use table::{Answer, Row, Table, label_in, mark_byte, way_in};
 
 // ---- a line
 
 // The place where field `k` starts.
 fn place_of(line: &[u8], from: usize, k: usize) -> usize
-    requires { ⌜ from + length (now line) ≤ max-text ⌝ }
-    ensures { λ r. ⌜ r ≡ grammar.field (part from (now (line .entry))) k .start ⌝ }
+    requires { from + length line.now ≤ max_text }
+    ensures { result ≡ (grammar.field (part from line.now) k).start }
 {
     from + field(line, k).start
 }
 
 // The number in field `k`.
 fn cell_at(line: &[u8], from: usize, k: usize) -> Cell
-    requires { ⌜ from + length (now line) ≤ max-text ⌝ }
-    ensures { λ r. ⌜ IsCell (grammar.field (part from (now (line .entry))) k) r ⌝ }
+    requires { from + length line.now ≤ max_text }
+    ensures { IsCell (grammar.field (part from line.now) k) result }
 {
     let found = field(line, k);
     let start = found.start;
@@ -56,6 +45,7 @@ fn cell_at(line: &[u8], from: usize, k: usize) -> Cell
 }
 
 // A fault of a text and its place, or twice 0.
+#[derive(Clone, Copy)]
 pub struct FaultAt {
     pub number: u32,
     pub place: usize,
@@ -63,9 +53,9 @@ pub struct FaultAt {
 
 // Whether field `needed` is missing, or there is a field `spare`.
 fn shape_fault(line: &[u8], from: usize, needed: usize, spare: usize) -> FaultAt
-    requires { ⌜ from + length (now line) ≤ max-text ⌝ }
-    ensures { λ r. ⌜ Answers (missing-field (grammar.field (part from (now (line .entry))) needed)
-        ∷ spare-field (grammar.field (part from (now (line .entry))) spare) ∷ []) (r .number) (r .place) ⌝ }
+    requires { from + length line.now ≤ max_text }
+    ensures { Answers (missing_field (grammar.field (part from line.now) needed)
+        ∷ spare_field (grammar.field (part from line.now) spare) ∷ []) result.number result.place }
 {
     if !has_field(line, needed) {
         return FaultAt {
@@ -88,6 +78,7 @@ fn shape_fault(line: &[u8], from: usize, needed: usize, spare: usize) -> FaultAt
 // ---- the heading
 
 // What the heading says, or a fault and its place.
+#[derive(Clone, Copy)]
 pub struct Heading {
     pub number: u32,
     pub place: usize,
@@ -96,7 +87,7 @@ pub struct Heading {
 }
 
 fn refuse_heading(number: u32, place: usize) -> Heading
-    ensures { λ r. ⌜ (r .number ≡ number) × (r .place ≡ place) ⌝ }
+    ensures { (result.number ≡ number) × (result.place ≡ place) }
 {
     Heading {
         number: number,
@@ -108,7 +99,7 @@ fn refuse_heading(number: u32, place: usize) -> Heading
 
 // Check 4.
 fn is_wrong_size(elements: u16) -> bool
-    ensures { λ r. ⌜ Decides (wrong-elements (sized elements 1) .applies) r ⌝ }
+    ensures { Decides (wrong_elements (sized elements 1)).applies result }
 {
     if elements < 2 {
         return true;
@@ -118,7 +109,7 @@ fn is_wrong_size(elements: u16) -> bool
 
 // Whether the line begins with this word.
 fn is_word(line: &[u8], word: &[u8]) -> bool
-    ensures { λ r. ⌜ ((from : ℕ) → Decides (grammar.field (part from (now (line .entry))) 0 .bytes ≡ now (word .entry)) r) ⌝ }
+    ensures { (from : ℕ) → Decides ((grammar.field (part from line.now) 0).bytes ≡ word.now) result }
 {
     let first = field(line, 0);
     let start = first.start;
@@ -128,7 +119,7 @@ fn is_word(line: &[u8], word: &[u8]) -> bool
 
 // Check 36.
 fn is_no_heading(line: &[u8]) -> bool
-    ensures { λ r. ⌜ ((from : ℕ) → Decides (grammar.no-heading (part from (now (line .entry))) .applies) r) ⌝ }
+    ensures { (from : ℕ) → Decides (grammar.no_heading (part from line.now)).applies result }
 {
     if is_word(line, b"elements") {
         return false;
@@ -141,7 +132,7 @@ fn is_no_heading(line: &[u8]) -> bool
 
 // How many rings a heading says.
 fn rings_in(line: &[u8]) -> usize
-    ensures { λ r. ⌜ ((from : ℕ) → r ≡ ringsIn (part from (now (line .entry)))) ⌝ }
+    ensures { (from : ℕ) → result ≡ rings_in (part from line.now) }
 {
     let word = field(line, 0);
     let start = word.start;
@@ -155,8 +146,8 @@ fn rings_in(line: &[u8]) -> usize
 }
 
 fn heading_of(line: &[u8], from: usize) -> Heading
-    requires { ⌜ from + length (now line) ≤ max-text ⌝ }
-    ensures { λ r. ⌜ IsHeading (part from (now (line .entry))) r ⌝ }
+    requires { from + length line.now ≤ max_text }
+    ensures { IsHeading (part from line.now) result }
 {
     if is_no_heading(line) {
         return refuse_heading(Fault::NO_HEADING, place_of(line, from, 0));
@@ -183,6 +174,7 @@ fn heading_of(line: &[u8], from: usize) -> Heading
 // ---- a row
 
 // The first four numbers of a row, or a fault and its place.
+#[derive(Clone, Copy)]
 pub struct Cells {
     pub number: u32,
     pub place: usize,
@@ -190,8 +182,8 @@ pub struct Cells {
 }
 
 fn first_cells(line: &[u8], from: usize) -> Cells
-    requires { ⌜ from + length (now line) ≤ max-text ⌝ }
-    ensures { λ r. ⌜ AreCells (part from (now (line .entry))) r ⌝ }
+    requires { from + length line.now ≤ max_text }
+    ensures { AreCells (part from line.now) result }
 {
     let mut value = [0u16; 4];
     let mut k: usize = 0;
@@ -215,6 +207,7 @@ fn first_cells(line: &[u8], from: usize) -> Cells
 }
 
 // A row, with its last number for a label, or a fault and its place.
+#[derive(Clone, Copy)]
 pub struct Form {
     pub number: u32,
     pub place: usize,
@@ -222,7 +215,7 @@ pub struct Form {
 }
 
 fn refuse_row(number: u32, place: usize) -> Form
-    ensures { λ r. ⌜ (r .number ≡ number) × (r .place ≡ place) ⌝ }
+    ensures { (result.number ≡ number) × (result.place ≡ place) }
 {
     Form {
         number: number,
@@ -240,15 +233,15 @@ fn refuse_row(number: u32, place: usize) -> Form
 
 // The last field that a row must have.
 fn needed(rings: usize) -> usize
-    ensures { λ r. ⌜ r ≡ grammar.needed rings ⌝ }
+    ensures { result ≡ grammar.needed rings }
 {
     if rings == Table::RINGS { 4 } else { 3 }
 }
 
 // The fields of a row, from left to right.
 fn form_of(line: &[u8], from: usize, rings: usize) -> Form
-    requires { ⌜ from + length (now line) ≤ max-text ⌝ }
-    ensures { λ r. ⌜ IsForm rings (part from (now (line .entry))) r ⌝ }
+    requires { from + length line.now ≤ max_text }
+    ensures { IsForm rings (part from line.now) result }
 {
     let cells = first_cells(line, from);
     if cells.number != 0 {
@@ -279,7 +272,7 @@ fn form_of(line: &[u8], from: usize, rings: usize) -> Form
 
 // The row, with the direction and the label that its last number tells.
 fn in_ring(rings: usize, row: Row) -> Row
-    ensures { λ r. ⌜ r ≡ inRing rings row ⌝ }
+    ensures { result ≡ in_ring rings row }
 {
     Row {
         cost: row.cost,
@@ -293,7 +286,7 @@ fn in_ring(rings: usize, row: Row) -> Row
 
 // The field that check 7, 8, 9 or 26 is told at: of 7 the second end, where the first is an element of the ring.
 fn blamed(number: u32, elements: usize, first: u16) -> usize
-    ensures { λ r. ⌜ r ≡ blame number elements first ⌝ }
+    ensures { result ≡ blame number elements first }
 {
     if number == Answer::WRONG_PERIOD {
         return 1;
@@ -315,8 +308,8 @@ fn blamed(number: u32, elements: usize, first: u16) -> usize
 
 // Checks 7 to 9 and 26 of a row that the line says.
 fn value_fault(line: &[u8], from: usize, rings: usize, elements: usize, row: Row) -> FaultAt
-    requires { ⌜ (from + length (now line) ≤ max-text) × IsRowOf (part from (now line)) row ⌝ }
-    ensures { λ r. ⌜ Answers (value-checks rings elements (part from (now (line .entry)))) (r .number) (r .place) ⌝ }
+    requires { (from + length line.now ≤ max_text) × IsRowOf (part from line.now) row }
+    ensures { Answers (value_checks rings elements (part from line.now)) result.number result.place }
 {
     let first = row.first;
     let number = table::row_fault(elements, rings, in_ring(rings, row));
@@ -334,8 +327,8 @@ fn value_fault(line: &[u8], from: usize, rings: usize, elements: usize, row: Row
 
 // The line as row `i` of a table.
 fn row_at(line: &[u8], from: usize, rings: usize, elements: usize, i: usize) -> Form
-    requires { ⌜ from + length (now line) ≤ max-text ⌝ }
-    ensures { λ r. ⌜ IsRowAt rings elements (part from (now (line .entry))) i r ⌝ }
+    requires { from + length line.now ≤ max_text }
+    ensures { IsRowAt rings elements (part from line.now) i result }
 {
     if i >= Table::ROWS {
         return refuse_row(Answer::WRONG_ROWS, place_of(line, from, 0));
@@ -354,6 +347,7 @@ fn row_at(line: &[u8], from: usize, rings: usize, elements: usize, i: usize) -> 
 // ---- all rows
 
 // How many rows a text has and whether one has a last field, or a fault and its place.
+#[derive(Clone, Copy)]
 pub struct Rows {
     pub number: u32,
     pub place: usize,
@@ -362,7 +356,7 @@ pub struct Rows {
 }
 
 fn either(a: bool, b: bool) -> bool
-    ensures { λ r. ⌜ r ≡ (a || b) ⌝ }
+    ensures { result ≡ (a || b) }
 {
     if a {
         return true;
@@ -372,9 +366,9 @@ fn either(a: bool, b: bool) -> bool
 
 // The rows of a text from `from` on; their numbers stand at the front of `numbers`.
 fn read_rows(text: &[u8], from: usize, rings: usize, elements: usize, numbers: &mut [u16]) -> Rows
-    requires { ⌜ (length (now text) ≤ max-text) × Rest (now text) from × (rings ≡ textRings (now text))
-        × (elements ≡ textTable (now text) .elements) × (rowNumbers * max-rows ≤ length (now numbers)) ⌝ }
-    ensures { λ r. ⌜ AreRows (now (text .entry)) (now (numbers .entry)) (now (numbers .exit)) r ⌝ }
+    requires { (length text.now ≤ max_text) × Rest text.now from × (rings ≡ text_rings text.now)
+        × (elements ≡ (text_table text.now).elements) × (row_numbers * max_rows ≤ length numbers.old) }
+    ensures { AreRows text.now numbers.old numbers.new result }
 {
     let mut labelled = false;
     let mut i: usize = 0;
@@ -407,6 +401,7 @@ fn read_rows(text: &[u8], from: usize, rings: usize, elements: usize, numbers: &
 // ---- the text
 
 // What the reader returns beside the numbers that it fills in. The place of a fault is a place of the text.
+#[derive(Clone, Copy)]
 pub struct TextReading {
     pub number: u32,
     pub place: usize,
@@ -416,7 +411,7 @@ pub struct TextReading {
 }
 
 fn refuse_text(number: u32, place: usize) -> TextReading
-    ensures { λ r. ⌜ (r .number ≡ number) × (r .place ≡ place) × IsNothing r ⌝ }
+    ensures { (result.number ≡ number) × (result.place ≡ place) × IsNothing result }
 {
     TextReading {
         number: number,
@@ -432,7 +427,7 @@ fn refuse_text(number: u32, place: usize) -> TextReading
 
 // The version that holds the labels.
 fn version_for(rings: usize, labelled: bool) -> u64
-    ensures { λ r. ⌜ r ≡ versionFor rings labelled ⌝ }
+    ensures { result ≡ version_for rings labelled }
 {
     if rings == Table::RINGS {
         return Table::VERSION_1;
@@ -445,8 +440,8 @@ fn version_for(rings: usize, labelled: bool) -> u64
 
 // The heading and the rows of a text that is not too long; the rows' numbers stand at the front of `numbers`.
 fn read_lines(text: &[u8], numbers: &mut [u16]) -> TextReading
-    requires { ⌜ (length (now text) ≤ max-text) × (rowNumbers * max-rows ≤ length (now numbers)) ⌝ }
-    ensures { λ r. ⌜ AreLines (now (text .entry)) (now (numbers .entry)) (now (numbers .exit)) r ⌝ }
+    requires { (length text.now ≤ max_text) × (row_numbers * max_rows ≤ length numbers.old) }
+    ensures { AreLines text.now numbers.old numbers.new result }
 {
     let first = next_line(text, 0);
     let start = first.start;
@@ -478,8 +473,8 @@ fn read_lines(text: &[u8], numbers: &mut [u16]) -> TextReading
 
 // The numbers, written to the front of `out`.
 fn put_front(numbers: &[u16], out: &mut [u16])
-    requires { ⌜ length (now numbers) ≤ length (now out) ⌝ }
-    ensures { λ _. ⌜ now (out .exit) ≡ lent (now (numbers .entry)) (now (out .entry)) ⌝ }
+    requires { length numbers.now ≤ length out.old }
+    ensures { out.new ≡ lent numbers.now out.old }
 {
     let mut k: usize = 0;
     while k < numbers.len() {
@@ -496,8 +491,8 @@ const NUMBERS: usize = Table::ROW_NUMBERS * Table::ROWS;
 
 // The reader: its checks, then 17. Fills the front of `out` with five numbers a row.
 pub fn read(text: &[u8], out: &mut [u16]) -> TextReading
-    ensures { λ r. ⌜ TextRead (now (text .entry)) (now (out .entry)) (now (out .exit))
-        (r .number) (r .place) (r .mark) (r .version) (r .table .elements) (r .table .rows) ⌝ }
+    ensures { TextRead text.now out.old out.new
+        result.number result.place result.mark result.version result.table.elements result.table.rows }
 {
     if text.len() > TEXT {
         return refuse_text(Fault::LONG_TEXT, TEXT);

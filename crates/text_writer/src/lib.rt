@@ -1,30 +1,22 @@
 // The writer of tables in text: from numbers in memory to a text.
 //
 // Each `put_` function writes from place `at` on, as far as there is room, and returns the place after what it wrote.
-use decimal::put_bytes;
-use decimal::put_decimal;
-use decimal::put_line;
-use table::Answer;
-use table::Row;
-use table::Table;
-use table::is_no_mark;
-use table::rings_of;
-use table::row_bytes;
-use writer::check_version;
-use writer::row_of;
-ghost use mathlib.Core.Path.{_≡_};
-ghost use mathlib.Core.List.{[], _∷_};
-ghost use Prim.Native.Nat.{_+_, _*_, _≤_};
-ghost use lib.ListN.{length};
-ghost use Rattle·numbers.specs.Lists.{each};
-ghost use Rattle·rules.specs.Bounds.{max-rows};
-ghost use Rattle·rules.specs.TableFile.{rowNumbers, memoryLabelledWith};
-ghost use Rattle·decimal.specs.Puts.{limit, max-line, Puts, PutsLine, PutsLines};
-ghost use Rattle·grammar.specs.TableText.{headLine, note, rowLine, tableText, TextWritten};
-ghost use Rattle·text_writer·specs.specs.Lines.{numberLine, WrittenWith};
+#![tactic(auto)]
+
+ghost use Rattle.std.specs.Prelude.{◌≡◌, [], ◌∷◌, ◌+◌, ◌*◌, ◌≤◌, length};
+ghost use Rattle.numbers.specs.Lists.{each};
+ghost use Rattle.rules.specs.Bounds.{max_rows};
+ghost use Rattle.rules.specs.TableFile.{row_numbers, memory_labelled_with};
+ghost use Rattle.decimal.specs.Puts.{limit, max_line, Puts, PutsLine, PutsLines};
+ghost use Rattle.grammar.specs.TableText.{head_line, note, row_line, table_text, TextWritten};
+ghost use Rattle.text_writer.specs.Lines.{number_line, WrittenWith};
+
+use decimal::{put_bytes, put_decimal, put_line};
+use table::{Answer, Row, Table, is_no_mark, rings_of, row_bytes};
+use writer::{check_version, row_of};
 
 fn put_heading(rings: usize, elements: u64, out: &mut [u8]) -> usize
-    ensures { λ r. ⌜ PutsLine (headLine rings elements) (now (out .entry)) 0 (now (out .exit)) r ⌝ }
+    ensures { PutsLine (head_line rings elements) out.old 0 out.new result }
 {
     if rings == Table::RINGS {
         return put_line(b"board", &[elements], out, 0);
@@ -34,8 +26,8 @@ fn put_heading(rings: usize, elements: u64, out: &mut [u8]) -> usize
 
 // What stands in a row, as a comment.
 fn put_note(rings: usize, version: u64, out: &mut [u8], at: usize) -> usize
-    requires { ⌜ at + max-line ≤ limit ⌝ }
-    ensures { λ r. ⌜ PutsLine (note rings version) (now (out .entry)) at (now (out .exit)) r ⌝ }
+    requires { at + max_line ≤ limit }
+    ensures { PutsLine (note rings version) out.old at out.new result }
 {
     if rings == Table::RINGS {
         return put_bytes(b"# cost period first second direction\n", out, at);
@@ -48,8 +40,8 @@ fn put_note(rings: usize, version: u64, out: &mut [u8], at: usize) -> usize
 
 // The line of a row that has its last number for a label.
 fn put_row(rings: usize, version: u64, row: Row, out: &mut [u8], at: usize) -> usize
-    requires { ⌜ at + max-line * 2 ≤ limit ⌝ }
-    ensures { λ r. ⌜ PutsLine (numberLine rings version row) (now (out .entry)) at (now (out .exit)) r ⌝ }
+    requires { at + max_line * 2 ≤ limit }
+    ensures { PutsLine (number_line rings version row) out.old at out.new result }
 {
     let period = row.period as u64;
     let first = row.first as u64;
@@ -71,9 +63,9 @@ fn put_rows(
     out: &mut [u8],
     at: usize,
 ) -> usize
-    requires { ⌜ (rows ≤ max-rows) × (rowNumbers * rows ≤ length (now numbers)) × (at + max-line * (rows + 1) ≤ limit) ⌝ }
-    ensures { λ r. ⌜ PutsLines (each rows (λ i. rowLine version (memoryLabelledWith rings 0 rows (now (numbers .entry))) i ∷ [])) rows
-        (now (out .entry)) at (now (out .exit)) r ⌝ }
+    requires { (rows ≤ max_rows) × (row_numbers * rows ≤ length numbers.now) × (at + max_line * (rows + 1) ≤ limit) }
+    ensures { PutsLines (each rows (λ i. row_line version (memory_labelled_with rings 0 rows numbers.now) i ∷ [])) rows
+        out.old at out.new result }
 {
     let mut next = at;
     let mut i: usize = 0;
@@ -93,9 +85,9 @@ fn put_text(
     numbers: &[u16],
     out: &mut [u8],
 ) -> usize
-    requires { ⌜ (rows ≤ max-rows) × (rowNumbers * rows ≤ length (now numbers)) ⌝ }
-    ensures { λ r. ⌜ Puts (tableText version (memoryLabelledWith rings elements rows (now (numbers .entry)))) (now (out .entry)) 0
-        (now (out .exit)) r ⌝ }
+    requires { (rows ≤ max_rows) × (row_numbers * rows ≤ length numbers.now) }
+    ensures { Puts (table_text version (memory_labelled_with rings elements rows numbers.now)) out.old 0
+        out.new result }
 {
     let headed = put_heading(rings, elements, out);
     let noted = put_note(rings, version, out, headed);
@@ -104,21 +96,22 @@ fn put_text(
 
 // How many bytes it has.
 fn text_size(rings: usize, version: u64, elements: u64, rows: usize, numbers: &[u16]) -> usize
-    requires { ⌜ (rows ≤ max-rows) × (rowNumbers * rows ≤ length (now numbers)) ⌝ }
-    ensures { λ r. ⌜ r ≡ length (tableText version (memoryLabelledWith rings elements rows (now (numbers .entry)))) ⌝ }
+    requires { (rows ≤ max_rows) × (row_numbers * rows ≤ length numbers.now) }
+    ensures { result ≡ length (table_text version (memory_labelled_with rings elements rows numbers.now)) }
 {
     let mut none = [0u8; 0];
     put_text(rings, version, elements, rows, numbers, &mut none)
 }
 
 // What the writer returns: its answer, and how many bytes the text has.
+#[derive(Clone, Copy)]
 pub struct TextWriting {
     pub answer: Answer,
     pub size: usize,
 }
 
 fn refuse_write(answer: Answer) -> TextWriting
-    ensures { λ r. ⌜ (r .answer ≡ answer) × (r .size ≡ 0) ⌝ }
+    ensures { (result.answer ≡ answer) × (result.size ≡ 0) }
 {
     TextWriting {
         answer: answer,
@@ -135,8 +128,8 @@ fn write_with(
     numbers: &[u16],
     out: &mut [u8],
 ) -> TextWriting
-    ensures { λ r. ⌜ WrittenWith rings version elements rows (now (numbers .entry)) (now (out .entry)) (now (out .exit))
-        (r .answer .number) (r .answer .place) (r .size) ⌝ }
+    ensures { WrittenWith rings version elements rows numbers.now out.old out.new
+        result.answer.number result.answer.place result.size }
 {
     let answer = check_version(rings, version, elements as usize, rows as usize, numbers);
     if answer.number != Answer::DONE {
@@ -164,8 +157,8 @@ pub fn write(
     numbers: &[u16],
     out: &mut [u8],
 ) -> TextWriting
-    ensures { λ r. ⌜ TextWritten (now (mark .entry)) version elements rows (now (numbers .entry)) (now (out .entry)) (now (out .exit))
-        (r .answer .number) (r .answer .place) (r .size) ⌝ }
+    ensures { TextWritten mark.now version elements rows numbers.now out.old out.new
+        result.answer.number result.answer.place result.size }
 {
     if is_no_mark(mark) {
         return refuse_write(Answer::at(Answer::WRONG_MARK, 0));

@@ -1,25 +1,25 @@
 // The time of a table: its hyperperiod, and how that is cut into planning intervals.
+#![tactic(auto)]
+
+ghost use Rattle.std.specs.Prelude.{◌≡◌, not, ℕ, ◌+◌, ◌*◌, ◌/◌, ◌<◌, ◌≤◌, min, eqb};
+ghost use Rattle.numbers.specs.Finite.{any};
+ghost use Rattle.numbers.specs.Lists.{at};
+ghost use Rattle.numbers.specs.Divisors.{divides, lcm, Past};
+ghost use Rattle.numbers.specs.Pairs.{IsLcm, LeastGcd};
+ghost use Rattle.rules.specs.Bounds.{max_rows, max_slots};
+ghost use Rattle.rules.specs.Bus as bus;
+ghost use Rattle.rules.specs.Loads.{start, end, intervals};
+ghost use Rattle.time.specs.Time.{Periods, Capped, Nearing, Clocks, no_time, time_of, Timed, Begins};
+
 use table::Table;
-ghost use mathlib.Core.Path.{_≡_};
-ghost use mathlib.Core.Bool.{not};
-ghost use Prim.Native.Nat.{ℕ, _+_, _*_, _/_, _<_, _≤_, min};
-ghost use lib.Dec.{eqb};
-ghost use Rattle·numbers.specs.Finite.{any};
-ghost use Rattle·numbers.specs.Lists.{at};
-ghost use Rattle·numbers.specs.Divisors.{divides, lcm, Past};
-ghost use Rattle·numbers.specs.Pairs.{IsLcm, LeastGcd};
-ghost use Rattle·rules.specs.Bounds.{max-rows, max-slots};
-ghost use Rattle·rules.specs.Bus as bus;
-ghost use Rattle·rules.specs.Loads.{start, end, intervals};
-ghost use Rattle·time·specs.specs.Time.{Periods, Capped, Nearing, Clocks, noTime, timeOf, Timed, Begins};
 
 // ---- h
 
 // The least common multiple of `h` and `period`. The remainder tells whether `h` is one already, and else begins their greatest common
 // divisor.
 fn raised(h: u64, period: u64) -> u64
-    requires { ⌜ (0 < h) × (h ≤ max-slots) × (0 < period) × (period ≤ max-slots) ⌝ }
-    ensures { λ r. ⌜ IsLcm h period r ⌝ }
+    requires { (0 < h) × (h ≤ max_slots) × (0 < period) × (period ≤ max_slots) }
+    ensures { IsLcm h period result }
 {
     if h == 1 {
         return period;
@@ -35,8 +35,8 @@ fn raised(h: u64, period: u64) -> u64
 
 // `next` is no multiple of the first `count` of `kept`.
 fn is_leading(kept: &[u16; Table::ROWS], count: usize, next: u64) -> bool
-    requires { ⌜ (count ≤ max-rows) × ((k : ℕ) → k < count → 0 < at (now kept) k) ⌝ }
-    ensures { λ r. ⌜ r ≡ not (any count (λ k. divides (at (now (kept .entry)) k) next)) ⌝ }
+    requires { (count ≤ max_rows) × ((k : ℕ) → k < count → 0 < at kept.now k) }
+    ensures { result ≡ not (any count (λ k. divides (at kept.now k) next)) }
 {
     let mut k: usize = 0;
     while k < count {
@@ -50,8 +50,8 @@ fn is_leading(kept: &[u16; Table::ROWS], count: usize, next: u64) -> bool
 
 // The one place where a period is looked for among those met. Of two periods with one place the later puts the earlier out.
 fn place_of(period: u64) -> usize
-    requires { ⌜ period ≤ max-slots ⌝ }
-    ensures { λ r. ⌜ r < max-rows ⌝ }
+    requires { period ≤ max_slots }
+    ensures { result < max_rows }
 {
     ((period + period / 64) % 64) as usize
 }
@@ -59,7 +59,7 @@ fn place_of(period: u64) -> usize
 // ---- L
 
 fn lower(a: u64, b: u64) -> u64
-    ensures { λ r. ⌜ r ≡ min a b ⌝ }
+    ensures { result ≡ min a b }
 {
     if b < a {
         return b;
@@ -69,9 +69,9 @@ fn lower(a: u64, b: u64) -> u64
 
 // `l` lowered to the greatest common divisors of period `i` and each before it.
 fn lowered(l: u64, period: &[u16; Table::ROWS], i: usize) -> u64
-    requires { ⌜ ((n : ℕ) × Periods n (at (now period)) × Nearing n (at (now period)) i 0 l × (i < n)) ⌝ }
-    ensures { λ r. ⌜ ((n : ℕ) → Periods n (at (now (period .entry))) → Nearing n (at (now (period .entry))) i 0 l → i < n
-        → Nearing n (at (now (period .entry))) (i + 1) 0 r) ⌝ }
+    requires { (n : ℕ) × Periods n (at period.now) × Nearing n (at period.now) i 0 l × (i < n) }
+    ensures { (n : ℕ) → Periods n (at period.now) → Nearing n (at period.now) i 0 l → i < n
+        → Nearing n (at period.now) (i + 1) 0 result }
 {
     let own = table::slots_at(period, i);
     let mut least = l;
@@ -85,8 +85,8 @@ fn lowered(l: u64, period: &[u16; Table::ROWS], i: usize) -> u64
 
 // The least greatest common divisor of any two of the first `count` periods: L, where they lead.
 fn shortest_of(count: usize, period: &[u16; Table::ROWS]) -> u64
-    requires { ⌜ Periods count (at (now period)) ⌝ }
-    ensures { λ r. ⌜ LeastGcd count (at (now (period .entry))) r ⌝ }
+    requires { Periods count (at period.now) }
+    ensures { LeastGcd count (at period.now) result }
 {
     let mut l = table::slots_at(period, 0);
     let mut i: usize = 1;
@@ -101,16 +101,16 @@ fn shortest_of(count: usize, period: &[u16; Table::ROWS]) -> u64
 
 // The first multiple of `period` past `slot`.
 fn after(period: u64, slot: u64) -> u64
-    requires { ⌜ (1 ≤ period) × (period ≤ max-slots) × (slot ≤ max-slots) ⌝ }
-    ensures { λ r. ⌜ r ≡ slot / period * period + period ⌝ }
+    requires { (1 ≤ period) × (period ≤ max_slots) × (slot ≤ max_slots) }
+    ensures { result ≡ slot / period * period + period }
 {
     slot / period * period + period
 }
 
 // The first multiple past `slot` of any of the first `count` periods.
 fn multiple_past(count: usize, period: &[u16; Table::ROWS], slot: u64) -> u64
-    requires { ⌜ Periods count (at (now period)) × (slot ≤ max-slots) ⌝ }
-    ensures { λ r. ⌜ Past count (at (now (period .entry))) slot r ⌝ }
+    requires { Periods count (at period.now) × (slot ≤ max_slots) }
+    ensures { Past count (at period.now) slot result }
 {
     let mut end = after(table::slots_at(period, 0), slot);
     let mut k: usize = 1;
@@ -122,6 +122,7 @@ fn multiple_past(count: usize, period: &[u16; Table::ROWS], slot: u64) -> u64
 }
 
 // h, L, and the leading periods with their count, from which it is known where the intervals end.
+#[derive(Clone, Copy)]
 pub struct Time {
     pub hyper: u64,
     pub interval: u64,
@@ -132,7 +133,7 @@ pub struct Time {
 impl Time {
     // The time of no table: what stands beside a refusal.
     pub fn none() -> Time
-        ensures { λ r. ⌜ r ≡ noTime ⌝ }
+        ensures { result ≡ no_time }
     {
         Time {
             hyper: 0,
@@ -145,8 +146,8 @@ impl Time {
     // The time of a table, all 0 where h is above 4096: it only grows from row to row, so the rows after that are left. Nothing is divided
     // for a period that was met and not put out: most tables have few.
     pub fn of(rows: usize, period: &[u16; Table::ROWS]) -> Time
-        requires { ⌜ Periods rows (at (now period)) ⌝ }
-        ensures { λ r. ⌜ Clocks rows (at (now (period .entry))) r ⌝ }
+        requires { Periods rows (at period.now) }
+        ensures { Clocks rows (at period.now) result }
     {
         let mut met = [0u16; Table::ROWS];
         let mut kept = [0u16; Table::ROWS];
@@ -179,8 +180,8 @@ impl Time {
 
     // The end of the interval that begins at `slot`. Where one period leads, every interval is as long as L.
     pub fn next_end(self, slot: u64) -> u64
-        requires { ⌜ ((t : bus.Table) × (k : ℕ) × Timed t self × Begins t k slot) ⌝ }
-        ensures { λ r. ⌜ ((t : bus.Table) (k : ℕ) → Timed t self → Begins t k slot → r ≡ end t k) ⌝ }
+        requires { (t : bus.Table) × (k : ℕ) × Timed t self × Begins t k slot }
+        ensures { (t : bus.Table) (k : ℕ) → Timed t self → Begins t k slot → result ≡ end t k }
     {
         if self.count == 1 {
             return slot + self.interval;
@@ -190,8 +191,8 @@ impl Time {
 
     // The first slot of interval `k`, or h where there are no more than `k` intervals: found by going from end to end.
     fn walk_to(self, k: u64) -> u64
-        requires { ⌜ ((t : bus.Table) × Timed t self) ⌝ }
-        ensures { λ r. ⌜ ((t : bus.Table) → Timed t self → r ≡ start t (min k (intervals t))) ⌝ }
+        requires { (t : bus.Table) × Timed t self }
+        ensures { (t : bus.Table) → Timed t self → result ≡ start t (min k (intervals t)) }
     {
         let mut slot: u64 = 0;
         let mut passed: u64 = 0;
@@ -207,8 +208,8 @@ impl Time {
 
     // The first slot of interval `k`, or h where there are no more than `k` intervals.
     pub fn start_of(self, k: u64) -> u64
-        requires { ⌜ ((t : bus.Table) × Timed t self) ⌝ }
-        ensures { λ r. ⌜ ((t : bus.Table) → Timed t self → r ≡ start t (min k (intervals t))) ⌝ }
+        requires { (t : bus.Table) × Timed t self }
+        ensures { (t : bus.Table) → Timed t self → result ≡ start t (min k (intervals t)) }
     {
         if self.count != 1 {
             return self.walk_to(k);
@@ -224,8 +225,8 @@ impl Time {
 
 // Whether L is one of the leading periods. Then every interval is as long as L.
 pub fn has_shortest(period: &[u16; Table::ROWS], count: usize, interval: u64) -> bool
-    requires { ⌜ count ≤ max-rows ⌝ }
-    ensures { λ r. ⌜ r ≡ any count (λ k. eqb (at (now (period .entry)) k) interval) ⌝ }
+    requires { count ≤ max_rows }
+    ensures { result ≡ any count (λ k. eqb (at period.now k) interval) }
 {
     let mut k: usize = 0;
     while k < count {
@@ -246,10 +247,10 @@ pub fn end_of(
     even: bool,
     slot: u64,
 ) -> u64
-    requires { ⌜ ((t : bus.Table) × (k : ℕ) × (h : ℕ) × Timed t (timeOf h interval count (now period)) × Begins t k slot)
-        × (even ≡ any count (λ k. eqb (at (now period) k) interval)) ⌝ }
-    ensures { λ r. ⌜ ((t : bus.Table) (k h : ℕ) → Timed t (timeOf h interval count (now (period .entry))) → Begins t k slot
-        → r ≡ end t k) ⌝ }
+    requires { ((t : bus.Table) × (k : ℕ) × (h : ℕ) × Timed t (time_of h interval count period.now) × Begins t k slot)
+        × (even ≡ any count (λ k. eqb (at period.now k) interval)) }
+    ensures { (t : bus.Table) (k h : ℕ) → Timed t (time_of h interval count period.now) → Begins t k slot
+        → result ≡ end t k }
 {
     if even {
         return slot + interval;
@@ -259,8 +260,8 @@ pub fn end_of(
 
 // h, the least common multiple of the periods, or 0 where it is above 4096.
 pub fn hyperperiod_of(rows: usize, period: &[u16; Table::ROWS]) -> u64
-    requires { ⌜ Periods rows (at (now period)) ⌝ }
-    ensures { λ r. ⌜ Capped (lcm rows (at (now (period .entry)))) r ⌝ }
+    requires { Periods rows (at period.now) }
+    ensures { Capped (lcm rows (at period.now)) result }
 {
     Time::of(rows, period).hyper
 }

@@ -1,171 +1,171 @@
 -- Rows and sets weighed: 13, 14, or the reported load of document 01 and how many sets there are.
-use mathlib.Core.Path.{_≡_, sym, ap, _∙_}
+use mathlib.Core.Path.{◌≡◌, sym, ap, ◌∙◌}
 use mathlib.Core.Bool.{Bool}
 use mathlib.Core.List.{List}
-use Prim.Native.Nat.{ℕ, _*_, _/_, _≤_, _<_}
+use Prim.Native.Nat.{ℕ, ◌*◌, ◌/◌, ◌≤◌, ◌<◌}
 use native.Mathlib.Omega.{arith}
 use lib.Dec.{T, ltb, eqb}
 use lib.ListN.{length, take, length-take}
-use lib.Seq.{getD-take}
-use Rattle·numbers.specs.Finite.{lowest}
-use Rattle·numbers.specs.Finite as finite
-use Rattle·numbers.specs.Word.{bit}
-use Rattle·numbers.specs.Lists.{at}
-use Rattle·numbers.specs.Rounding.{up}
-use Rattle·numbers.proofs.Finite.{lowest-has, lowest-below, lowest-eq, largest-eq, largest-under}
-use Rattle·numbers.proofs.Rounding.{up-least}
-use Rattle·rules.specs.Bus.{Table}
-use Rattle·rules.specs.Line.{Sets}
-use Rattle·rules.specs.Loads.{hyperperiod, shortest, rate, load, equalPeriods, light, past, over, reported}
-use Rattle·rules.specs.Refusals.{light-row, over-bound, bound-checks}
-use Rattle·rules.proofs.Answers.{answered}
-use Rattle·table.specs.Sound.{Sound}
-use Rattle·table.specs.Columns.{ByRow}
-use Rattle·sets.specs.Sets.{OnLine, SetWords}
-use Rattle·lags.specs.Lags.{Admissible}
-use Rattle·lags.proofs.Intervals.{hyperperiod-positive}
-use Rattle·time.specs.Time.{Timed}
-use Rattle·time.specs.declared.Time.{Time}
-use Rattle·outline.proofs.Sets.{Ends, ends-on-line, ring-list}
-use Rattle·outline.proofs.Outlined.{answers-at}
-use Rattle·verdict·specs.specs.Weights.{Rates, weight, Weighed}
-use Rattle·verdict·proofs.proofs.Weighing.{weight-load, past-over, within-one, equal-is, light-is, rates-are, rates-small}
-use Rattle·verdict·specs.specs.declared.Loaded.{Loaded}
-use Rattle·verdict·specs.specs.Weighing.{RowsWeighed, Weighable, Weighs}
-use Rattle·verdict·proofs.proofs.Bound.{NoneLight, light-refused, over-refused, bound-none}
+use lib.Seq.{get_or-take}
+use Rattle.numbers.specs.Finite.{lowest}
+use Rattle.numbers.specs.Finite as finite
+use Rattle.numbers.specs.Word.{bit}
+use Rattle.numbers.specs.Lists.{at}
+use Rattle.numbers.specs.Rounding.{up}
+use Rattle.numbers.proofs.Finite.{lowest_has, lowest_below, lowest_eq, largest_eq, largest_under}
+use Rattle.numbers.proofs.Rounding.{up_least}
+use Rattle.rules.specs.Bus.{Table}
+use Rattle.rules.specs.Line.{Sets}
+use Rattle.rules.specs.Loads.{hyperperiod, shortest, rate, load, equal_periods, light, past, over, reported}
+use Rattle.rules.specs.Refusals.{light_row, over_bound, bound_checks}
+use Rattle.rules.proofs.Answers.{answered}
+use Rattle.table.specs.Sound.{Sound}
+use Rattle.table.specs.Columns.{ByRow}
+use Rattle.sets.specs.Sets.{OnLine, SetWords}
+use Rattle.lags.specs.Lags.{Admissible}
+use Rattle.lags.proofs.Intervals.{hyperperiod_positive}
+use Rattle.time.specs.Time.{Timed}
+use Rattle.time.specs.declared.Time.{Time}
+use Rattle.outline.proofs.Sets.{Ends, ends_on_line, ring_list}
+use Rattle.outline.proofs.Outlined.{answers_at}
+use Rattle.verdict.specs.Weights.{Rates, weight, Weighed}
+use Rattle.verdict.proofs.Weighing.{weight_load, past_over, within_one, equal_is, light_is, rates_are, rates_small}
+use Rattle.verdict.specs.declared.Loaded.{Loaded}
+use Rattle.verdict.specs.Weighing.{RowsWeighed, Weighable, Weighs}
+use Rattle.verdict.proofs.Bound.{NoneLight, light_refused, over_refused, bound_none}
 
 -- ---- the weights of a table's sets
 
-module _ (t : Table) (xs ws : List ℕ) (k a b : ℕ) (r : (i : ℕ) → i < t .rows → at xs i ≡ rate t i)
-    (W : Weighed (t .rows) xs k ws (equalPeriods t) (hyperperiod t) (shortest t) a b) where
-  loads-are : (j : ℕ) → j < k → weight (t .rows) xs (at ws j) ≡ load t (bit (at (take k ws) j))
-  loads-are j l = weight-load t xs r (at ws j) ∙ ap (λ (w : ℕ). load t (bit w)) (sym (getD-take k ws j 0 l))
+module _ (t : Table) (xs ws : List ℕ) (k a b : ℕ) (r : (i : ℕ) → i < t.rows → at xs i ≡ rate t i)
+    (W : Weighed t.rows xs k ws (equal_periods t) (hyperperiod t) (shortest t) a b) where
+  loads_are : (j : ℕ) → j < k → weight t.rows xs (at ws j) ≡ load t (bit (at (take k ws) j))
+  loads_are j l = weight_load t xs r (at ws j) ∙ ap (λ (w : ℕ). load t (bit w)) (sym (get_or-take k ws j 0 l))
 
-  over-lowest : a ≡ lowest k (λ j. over t (bit (at (take k ws) j)))
-  over-lowest =
-      W .over-is
-      ∙ lowest-eq k (λ j. past (equalPeriods t) (hyperperiod t) (shortest t) (weight (t .rows) xs (at ws j)))
+  over_lowest : a ≡ lowest k (λ j. over t (bit (at (take k ws) j)))
+  over_lowest =
+      W.over_is
+      ∙ lowest_eq k (λ j. past (equal_periods t) (hyperperiod t) (shortest t) (weight t.rows xs (at ws j)))
       (λ j. over t (bit (at (take k ws) j)))
-      (λ j l. ap (past (equalPeriods t) (hyperperiod t) (shortest t)) (loads-are j l) ∙ past-over t (bit (at (take k ws) j)))
+      (λ j l. ap (past (equal_periods t) (hyperperiod t) (shortest t)) (loads_are j l) ∙ past_over t (bit (at (take k ws) j)))
 
-  largest-load : b ≡ finite.largest k (λ j. load t (bit (at (take k ws) j)))
-  largest-load = W .largest-is ∙ largest-eq k (λ j. weight (t .rows) xs (at ws j)) (λ j. load t (bit (at (take k ws) j))) loads-are
+  largest_load : b ≡ finite.largest k (λ j. load t (bit (at (take k ws) j)))
+  largest_load = W.largest_is ∙ largest_eq k (λ j. weight t.rows xs (at ws j)) (λ j. load t (bit (at (take k ws) j))) loads_are
 
   -- the first set over its bound
-  over-stop : a < k → T (over t (bit (at (take k ws) a))) × ((j : ℕ) → j < a → T (over t (bit (at (take k ws) j))) → ⊥)
-  over-stop l =
+  over_stop : a < k → T (over t (bit (at (take k ws) a))) × ((j : ℕ) → j < a → T (over t (bit (at (take k ws) j))) → ⊥)
+  over_stop l =
       let p : ℕ → Bool = λ j. over t (bit (at (take k ws) j)) in
-      (rw over-lowest (lowest-has k p (rw over-lowest at l)), λ j m. lowest-below k p j (rw over-lowest at m))
+      (rw over_lowest (lowest_has k p (rw over_lowest at l)), λ j m. lowest_below k p j (rw over_lowest at m))
 
   -- or none
-  over-none : k ≤ a → (j : ℕ) → j < k → T (over t (bit (at (take k ws) j))) → ⊥
-  over-none l j m = lowest-below k (λ j. over t (bit (at (take k ws) j))) j (omega (arith, over-lowest))
+  over_none : k ≤ a → (j : ℕ) → j < k → T (over t (bit (at (take k ws) j))) → ⊥
+  over_none l j m = lowest_below k (λ j. over t (bit (at (take k ws) j))) j (omega (arith, over_lowest))
 
-  reported-is : length (take k ws) ≡ k → up (1000 * b) (hyperperiod t) ≡ reported t (take k ws)
+  reported_is : length (take k ws) ≡ k → up (1000 * b) (hyperperiod t) ≡ reported t (take k ws)
   unfolding reported
-  reported-is e = rw (e, largest-load)
+  reported_is e = rw (e, largest_load)
 
 -- ---- the rows
 
 module _ {t : Table} {c : Time} (C : Timed t c) where
-  equal : eqb (c .interval) (c .hyper) ≡ equalPeriods t
-  equal = rw (C .interval, C .hyper) (equal-is (C .sound))
+  equal : eqb c.interval c.hyper ≡ equal_periods t
+  equal = rw (C.interval, C.hyper) (equal_is C.sound)
 
-  pub rows-weighed : {i : ℕ} {xs : List ℕ} → ByRow (t .rows) (λ j. c .hyper / t .period j * t .cost j) xs
-      × (i ≡ lowest (t .rows) (λ j. ltb (t .cost j * c .interval) (t .period j))) → RowsWeighed t i xs
-  rows-weighed e = record {
-    rate = rates-are t (C .hyper) (e .0);
-    light-is =
-        e .1
-        ∙ lowest-eq (t .rows) (λ j. ltb (t .cost j * c .interval) (t .period j)) (light t)
-        (λ j l. ap (λ (x : ℕ). ltb (t .cost j * x) (t .period j)) (C .interval) ∙ light-is (C .sound) j l);
+  pub rows_weighed : {i : ℕ} {xs : List ℕ} → ByRow t.rows (λ j. c.hyper / t.period j * t.cost j) xs
+      × (i ≡ lowest t.rows (λ j. ltb (t.cost j * c.interval) (t.period j))) → RowsWeighed t i xs
+  rows_weighed e = record {
+    rate = rates_are t C.hyper e.0;
+    light_is =
+        e.1
+        ∙ lowest_eq t.rows (λ j. ltb (t.cost j * c.interval) (t.period j)) (light t)
+        (λ j l. ap (λ (x : ℕ). ltb (t.cost j * x) (t.period j)) C.interval ∙ light_is C.sound j l);
   }
 
 -- ---- the table that is weighed
 
 module _ {t : Table} {n i : ℕ} {c : Time} {top : ℕ} {first second xs : List ℕ} (A : Weighable t n i c top first second xs) where
   sound : Sound t
-  sound = A .timed .sound
+  sound = A.timed.sound
 
-  rates : (j : ℕ) → j < t .rows → at xs j ≡ rate t j
-  rates = A .weighed .rate .row
+  rates : (j : ℕ) → j < t.rows → at xs j ≡ rate t j
+  rates = A.weighed.rate.row
 
-  low : i ≡ lowest (t .rows) (light t)
-  low = A .weighed .light-is
+  low : i ≡ lowest t.rows (light t)
+  low = A.weighed.light_is
 
   ends : Ends t (at first) (at second)
-  ends i l = (A .first .row i l, A .second .row i l)
+  ends i l = (A.first.row i l, A.second.row i l)
 
-  pub weighable-on-line : OnLine n (at first) (at second) top
-  weighable-on-line = rw (A .rows-is, A .top-is) (ends-on-line t sound (A .clear) (at first) (at second) ends)
+  pub weighable_on_line : OnLine n (at first) (at second) top
+  weighable_on_line = rw (A.rows_is, A.top_is) (ends_on_line t sound A.clear (at first) (at second) ends)
 
-  pub weighable-rates : Rates xs n
-  weighable-rates = rw (A .rows-is) (rates-small sound (A .timed .short) (A .weighed .rate))
+  pub weighable_rates : Rates xs n
+  weighable_rates = rw A.rows_is (rates_small sound A.timed.short A.weighed.rate)
 
   -- ---- each outcome
 
-  pub weighs-light : i < n → (w : Loaded) → (w .answer .number ≡ light-row t i .number) × (w .answer .place ≡ i) → Weighs t w
-  weighs-light h w e =
-      let l : i < t .rows = rw (A .rows-is) at h in
+  pub weighs_light : i < n → (w : Loaded) → (w.answer.number ≡ (light_row t i).number) × (w.answer.place ≡ i) → Weighs t w
+  weighs_light h w e =
+      let l : i < t.rows = rw A.rows_is at h in
       record {
         answers =
-            answers-at (bound-checks t) (w .answer) (light-row t i .number) i e
-            (light-refused t i l
-            (rw low (lowest-has (t .rows) (light t) (rw low at l)))
-            (λ j m. lowest-below (t .rows) (light t) j (rw low at m)));
-        done = λ z. absurd (omega (arith, e .0, z));
+            answers_at (bound_checks t) w.answer (light_row t i).number i e
+            (light_refused t i l
+            (rw low (lowest_has t.rows (light t) (rw low at l)))
+            (λ j m. lowest_below t.rows (light t) j (rw low at m)));
+        done = λ z. absurd (omega (arith, e.0, z));
       }
 
   module _ (heavy : n ≤ i) {k a b : ℕ} {ws : List ℕ} (L : SetWords n (at first) (at second) k ws)
-      (W : Weighed n xs k ws (eqb (c .interval) (c .hyper)) (c .hyper) (c .interval) a b) where
-    none-light : NoneLight t
-    none-light j l = lowest-below (t .rows) (light t) j (omega (arith, low, A .rows-is))
+      (W : Weighed n xs k ws (eqb c.interval c.hyper) c.hyper c.interval a b) where
+    none_light : NoneLight t
+    none_light j l = lowest_below t.rows (light t) j (omega (arith, low, A.rows_is))
 
-    weighed : Weighed (t .rows) xs k ws (equalPeriods t) (hyperperiod t) (shortest t) a b
-    weighed = rw (equal (A .timed), A .timed .hyper, A .timed .interval, A .rows-is) at W
+    weighed : Weighed t.rows xs k ws (equal_periods t) (hyperperiod t) (shortest t) a b
+    weighed = rw (equal A.timed, A.timed.hyper, A.timed.interval, A.rows_is) at W
 
-    listed : SetWords (t .rows) (at first) (at second) k ws
-    listed = rw (A .rows-is) at L
+    listed : SetWords t.rows (at first) (at second) k ws
+    listed = rw A.rows_is at L
 
     list : Sets t (take k ws)
-    list = ring-list t sound (A .clear) (at first) (at second) ends (take k ws) (listed .sets)
+    list = ring_list t sound A.clear (at first) (at second) ends (take k ws) listed.sets
 
     count : length (take k ws) ≡ k
-    count = let s = sound in omega (arith, length-take k ws, L .size, L .few)
+    count = let s = sound in omega (arith, length-take k ws, L.size, L.few)
 
-    pub weighs-over : a < k → (w : Loaded) → (w .answer .number ≡ over-bound t a .number) × (w .answer .place ≡ a) → Weighs t w
-    weighs-over l w e =
-        let u = over-stop t xs ws k a b rates weighed l in
+    pub weighs_over : a < k → (w : Loaded) → (w.answer.number ≡ (over_bound t a).number) × (w.answer.place ≡ a) → Weighs t w
+    weighs_over l w e =
+        let u = over_stop t xs ws k a b rates weighed l in
         record {
           answers =
-              answers-at (bound-checks t) (w .answer) (over-bound t a .number) a e
-              (over-refused t (sound .rows-low) (take k ws) list none-light a (omega (arith, count)) (omega (arith, count, L .few))
-              (u .0) (u .1));
-          done = λ z. absurd (omega (arith, e .0, z));
+              answers_at (bound_checks t) w.answer (over_bound t a).number a e
+              (over_refused t sound.rows_low (take k ws) list none_light a (omega (arith, count)) (omega (arith, count, L.few))
+              u.0 u.1);
+          done = λ z. absurd (omega (arith, e.0, z));
         }
 
-    pub weighs-done : k ≤ a → (w : Loaded) → (w .answer .number ≡ 0) × (w .answer .place ≡ 0) → w .sets ≡ k
-        → w .load ≡ up (1000 * b) (c .hyper) → Weighs t w
-    weighs-done l w d s y =
-        let u = over-none t xs ws k a b rates weighed l in
+    pub weighs_done : k ≤ a → (w : Loaded) → (w.answer.number ≡ 0) × (w.answer.place ≡ 0) → w.sets ≡ k
+        → w.load ≡ up (1000 * b) c.hyper → Weighs t w
+    weighs_done l w d s y =
+        let u = over_none t xs ws k a b rates weighed l in
         record {
           answers =
-              rw (d .0, d .1)
-              (answered (bound-checks t) (bound-none t (sound .rows-low) (take k ws) list none-light (λ j m. u j (rw count at m))));
+              rw (d.0, d.1)
+              (answered (bound_checks t) (bound_none t sound.rows_low (take k ws) list none_light (λ j m. u j (rw count at m))));
           done = λ z. (
             take k ws,
             list,
             s ∙ sym count,
-            y ∙ ap (up (1000 * b)) (A .timed .hyper) ∙ reported-is t xs ws k a b rates weighed count,
+            y ∙ ap (up (1000 * b)) A.timed.hyper ∙ reported_is t xs ws k a b rates weighed count,
           );
         }
 
 -- the reported load of a table that is admitted is at most 1000
-pub reported-small : {t : Table} → Admissible t → (ws : List ℕ) → Sets t ws → reported t ws ≤ 1000
+pub reported_small : {t : Table} → Admissible t → (ws : List ℕ) → Sets t ws → reported t ws ≤ 1000
 unfolding reported
-reported-small {t} A ws S =
-    let s = A .sound in
+reported_small {t} A ws S =
+    let s = A.sound in
     let m : finite.largest (length ws) (λ k. load t (bit (at ws k))) ≤ hyperperiod t =
-    largest-under (λ k. load t (bit (at ws k))) (length ws) (hyperperiod t)
-    (λ k l. within-one s (bit (at ws k)) (A .bounded (bit (at ws k)) (S .each k l))) in
-    up-least (1000 * finite.largest (length ws) (λ k. load t (bit (at ws k)))) (hyperperiod t) (hyperperiod-positive s) 1000 (omega arith)
+    largest_under (λ k. load t (bit (at ws k))) (length ws) (hyperperiod t)
+    (λ k l. within_one s (bit (at ws k)) (A.bounded (bit (at ws k)) (S.each k l))) in
+    up_least (1000 * finite.largest (length ws) (λ k. load t (bit (at ws k)))) (hyperperiod t) (hyperperiod_positive s) 1000 (omega arith)

@@ -1,19 +1,15 @@
 -- Demand 2, of the verdict: it admits a table exactly if none of the refusals that document 01 lists for it applies.
--- It holds statements only; `proofs/Judging.antt` proves `Demand-2` of every answer that the contract allows.
+-- It holds statements only; `proofs/Judging.antt` proves `Demand2` of every answer that the contract allows.
 --
 --   Unrefused cs       no check of the list cs applies
---   Demand-2 f r       the answer r admits the table of file f exactly if no check of the verdict's applies
-use mathlib.Core.Path.{_≡_}
-use mathlib.Core.Logic.{_↔_}
-use mathlib.Core.List.{List}
-use Prim.Native.Nat.{ℕ, _<_}
-use lib.ListN.{length, getD}
-use Rattle·rules.specs.Refusals.{Check, refuse, verdict-checks}
-use Rattle·verdict·specs.specs.declared.Verdict.{Verdict}
-use Rattle·verdict·specs.specs.Verdict.{numberOf}
+--   Demand2 f r       the answer r admits the table of file f exactly if no check of the verdict's applies
+use Rattle.std.specs.Prelude.{◌≡◌, ◌↔◌, List, ℕ, ◌<◌, length, get_or}
+use Rattle.rules.specs.Refusals.{Check, refuse, verdict_checks}
+use Rattle.verdict.specs.declared.Verdict.{Verdict}
+use Rattle.verdict.specs.Verdict.{number_of}
 
 abbrev pub Unrefused : List Check → Type 0
-Unrefused cs = (k : ℕ) → k < length cs → getD cs k (refuse 0 0 ⊥) .applies → ⊥
+Unrefused cs = (k : ℕ) → k < length cs → (get_or cs k (refuse 0 0 ⊥)).applies → ⊥
 
-abbrev pub Demand-2 : List ℕ → Verdict → Type 0
-Demand-2 f r = (numberOf r ≡ 0) ↔ Unrefused (verdict-checks f)
+abbrev pub Demand2 : List ℕ → Verdict → Type 0
+Demand2 f r = (number_of r ≡ 0) ↔ Unrefused (verdict_checks f)

@@ -4,34 +4,31 @@
 --   Weighable t n i c top starts ends xs
 --                          table t has n rows, so weighed; c is its time, its line ends at top, starts and ends are its rows' ends there
 --   Weighs t w             w answers 13 and 14 of table t, and has the reported load and the number of sets where neither applies
-use mathlib.Core.Path.{_≡_}
-use mathlib.Core.List.{List}
-use Prim.Native.Nat.{ℕ}
-use lib.ListN.{length}
-use Rattle·numbers.specs.Finite.{lowest}
-use Rattle·rules.specs.Bus.{Table}
-use Rattle·rules.specs.Line as line
-use Rattle·rules.specs.Loads as loads
-use Rattle·rules.specs.Refusals.{Answers, bound-checks}
-use Rattle·table.specs.Columns.{ByRow}
-use Rattle·time.specs.Time.{Timed}
-use Rattle·time.specs.declared.Time.{Time}
-use Rattle·verdict·specs.specs.declared.Loaded.{Loaded}
+use Rattle.std.specs.Prelude.{◌≡◌, List, ℕ, length}
+use Rattle.numbers.specs.Finite.{lowest}
+use Rattle.rules.specs.Bus.{Table}
+use Rattle.rules.specs.Line as line
+use Rattle.rules.specs.Loads as loads
+use Rattle.rules.specs.Refusals.{Answers, bound_checks}
+use Rattle.table.specs.Columns.{ByRow}
+use Rattle.time.specs.Time.{Timed}
+use Rattle.time.specs.declared.Time.{Time}
+use Rattle.verdict.specs.declared.Loaded.{Loaded}
 
 pub record RowsWeighed (t : Table) (light : ℕ) (xs : List ℕ) : Type 0 where
-  pub rate : ByRow (t .rows) (loads.rate t) xs
-  pub light-is : light ≡ lowest (t .rows) (loads.light t)
+  pub rate : ByRow t.rows (loads.rate t) xs
+  pub light_is : light ≡ lowest t.rows (loads.light t)
 
 pub record Weighable (t : Table) (n light : ℕ) (c : Time) (top : ℕ) (starts ends xs : List ℕ) : Type 0 where
-  pub rows-is : n ≡ t .rows
+  pub rows_is : n ≡ t.rows
   pub weighed : RowsWeighed t light xs
   pub timed : Timed t c
   pub clear : line.HasCuts t
-  pub top-is : top ≡ line.lineTop t
-  pub first : ByRow (t .rows) (line.lineFirst t) starts
-  pub second : ByRow (t .rows) (line.lineSecond t) ends
+  pub top_is : top ≡ line.line_top t
+  pub first : ByRow t.rows (line.line_first t) starts
+  pub second : ByRow t.rows (line.line_second t) ends
 
 pub record Weighs (t : Table) (w : Loaded) : Type 0 where
-  pub answers : Answers (bound-checks t) (w .answer .number) (w .answer .place)
-  pub done : w .answer .number ≡ 0
-      → (ws : List ℕ) × line.Sets t ws × (w .sets ≡ length ws) × (w .load ≡ loads.reported t ws)
+  pub answers : Answers (bound_checks t) w.answer.number w.answer.place
+  pub done : w.answer.number ≡ 0
+      → (ws : List ℕ) × line.Sets t ws × (w.sets ≡ length ws) × (w.load ≡ loads.reported t ws)

@@ -1,26 +1,29 @@
 // The verdict: whether the bus can carry a table (document 01, "Loads and bound"), and what is found of a table that is planned.
+#![tactic(auto)]
+
 mod weights;
 
+ghost use Rattle.std.specs.Prelude.{◌≡◌};
+ghost use Rattle.rules.specs.TableFile.{file_table};
+ghost use Rattle.rules.specs.Bus as bus;
+ghost use Rattle.rules.specs.Refusals.{verdict_checks};
+ghost use Rattle.rules.specs.Calls.{file_ask, Judged};
+ghost use Rattle.table.specs.Sound.{Sound};
+ghost use Rattle.table.specs.Columns.{column_table};
+ghost use Rattle.verdict.specs.Weighing.{Weighable, Weighs};
+ghost use Rattle.verdict.specs.Analysed.{table_checks, blank, Accepted, Analysed};
+ghost use Rattle.verdict.specs.Verdict.{number_of, place_of, cut_of, other_of, interval_of, hyper_of, load_of, sets_of};
+ghost use Rattle.verdict.specs.Verdict.{JudgedBy, VerdictOn};
+
 use outline::Outline;
-use table::Answer;
-use table::Table;
+use table::{Answer, Table};
 use time::Time;
 pub use weights::put_rates;
-ghost use mathlib.Core.Path.{_≡_};
-ghost use Rattle·rules.specs.TableFile.{fileTable};
-ghost use Rattle·rules.specs.Bus as bus;
-ghost use Rattle·rules.specs.Refusals.{verdict-checks};
-ghost use Rattle·rules.specs.Calls.{fileAsk, Judged};
-ghost use Rattle·table.specs.Sound.{Sound};
-ghost use Rattle·table.specs.Columns.{columnTable};
-ghost use Rattle·verdict·specs.specs.Weighing.{Weighable, Weighs};
-ghost use Rattle·verdict·specs.specs.Analysed.{table-checks, blank, Accepted, Analysed};
-ghost use Rattle·verdict·specs.specs.Verdict.{numberOf, placeOf, cutOf, otherOf, intervalOf, hyperOf, loadOf, setsOf};
-ghost use Rattle·verdict·specs.specs.Verdict.{JudgedBy, VerdictOn};
 
 // ---- the analysis
 
 // What rows and sets weigh: the first refusal of 13 and 14, or the reported load and how many sets there are.
+#[derive(Clone, Copy)]
 pub struct Loaded {
     pub answer: Answer,
     pub load: u64,
@@ -28,7 +31,7 @@ pub struct Loaded {
 }
 
 fn unweighed(answer: Answer) -> Loaded
-    ensures { λ r. ⌜ r .answer ≡ answer ⌝ }
+    ensures { result.answer ≡ answer }
 {
     Loaded {
         answer: answer,
@@ -47,9 +50,9 @@ pub fn weigh<'a>(
     ends: &'a [u8; Table::ROWS],
     rate: &'a [u16; Table::ROWS],
 ) -> Loaded
-    requires { ⌜ ((t : bus.Table) × Weighable t rows light time top (now starts) (now ends) (now rate)) ⌝ }
-    ensures { λ r. ⌜ ((t : bus.Table) → Weighable t rows light time top (now (starts .entry)) (now (ends .entry)) (now (rate .entry))
-        → Weighs t r) ⌝ }
+    requires { (t : bus.Table) × Weighable t rows light time top starts.now ends.now rate.now }
+    ensures { (t : bus.Table) → Weighable t rows light time top starts.now ends.now rate.now
+        → Weighs t result }
 {
     if light < rows {
         return unweighed(Answer::at(Answer::LIGHT_ROW, light));
@@ -67,6 +70,7 @@ pub fn weigh<'a>(
 
 // A table analysed: its outline, its reported load, and its rows' rates in units of 1 / h. All is 0 but the outline's answer where it is
 // refused.
+#[derive(Clone, Copy)]
 pub struct Analysis {
     pub outline: Outline,
     pub load: u64,
@@ -75,7 +79,7 @@ pub struct Analysis {
 
 impl Analysis {
     pub fn refused(answer: Answer) -> Analysis
-        ensures { λ r. ⌜ r ≡ blank answer ⌝ }
+        ensures { result ≡ blank answer }
     {
         Analysis {
             outline: Outline::refused(answer),
@@ -96,13 +100,13 @@ pub fn analysis_of<'a>(
     second: &'a [u8; Table::ROWS],
     way: &'a [u8; Table::ROWS],
 ) -> Analysis
-    requires { ⌜ Sound (columnTable elements rows rings (now cost) (now period) (now first) (now second) (now way)) ⌝ }
-    ensures { λ r. ⌜ Analysed
-        (table-checks
-        (columnTable elements rows rings (now (cost .entry)) (now (period .entry)) (now (first .entry)) (now (second .entry))
-        (now (way .entry))))
-        (columnTable elements rows rings (now (cost .entry)) (now (period .entry)) (now (first .entry)) (now (second .entry))
-        (now (way .entry))) r ⌝ }
+    requires { Sound (column_table elements rows rings cost.now period.now first.now second.now way.now) }
+    ensures { Analysed
+        (table_checks
+        (column_table elements rows rings cost.now period.now first.now second.now
+        way.now))
+        (column_table elements rows rings cost.now period.now first.now second.now
+        way.now) result }
 {
     let outline = outline::outline_of(elements, rows, rings, period, first, second, way);
     let answer = outline.answer;
@@ -134,7 +138,7 @@ pub fn analysis_of<'a>(
 
 // The analysis of a file's table, or the first refusal of 1 to 9, 26, 18, 10 to 14.
 pub fn analyse(file: &[u8]) -> Analysis
-    ensures { λ r. ⌜ Analysed (verdict-checks (now (file .entry))) (fileTable (now (file .entry))) r ⌝ }
+    ensures { Analysed (verdict_checks file.now) (file_table file.now) result }
 {
     let mut cost = [0u16; Table::ROWS];
     let mut period = [0u16; Table::ROWS];
@@ -169,6 +173,7 @@ pub fn analyse(file: &[u8]) -> Analysis
 
 // The verdict on a table: what it is on the line and in time, or why it is refused. `other` is the cut of the other ring, 0 where there is
 // one ring.
+#[derive(Clone, Copy)]
 pub enum Verdict {
     Admitted {
         cut: u32,
@@ -183,7 +188,7 @@ pub enum Verdict {
 
 impl Verdict {
     pub fn number(self) -> u32
-        ensures { λ r. ⌜ r ≡ numberOf self ⌝ }
+        ensures { result ≡ number_of self }
     {
         match self {
             Verdict::Admitted {
@@ -199,7 +204,7 @@ impl Verdict {
     }
 
     pub fn place(self) -> u32
-        ensures { λ r. ⌜ r ≡ placeOf self ⌝ }
+        ensures { result ≡ place_of self }
     {
         match self {
             Verdict::Admitted {
@@ -226,13 +231,13 @@ fn judge_table<'a>(
     second: &'a [u8; Table::ROWS],
     way: &'a [u8; Table::ROWS],
 ) -> Verdict
-    requires { ⌜ Sound (columnTable elements rows rings (now cost) (now period) (now first) (now second) (now way)) ⌝ }
-    ensures { λ r. ⌜ JudgedBy
-        (table-checks
-        (columnTable elements rows rings (now (cost .entry)) (now (period .entry)) (now (first .entry)) (now (second .entry))
-        (now (way .entry))))
-        (columnTable elements rows rings (now (cost .entry)) (now (period .entry)) (now (first .entry)) (now (second .entry))
-        (now (way .entry))) r ⌝ }
+    requires { Sound (column_table elements rows rings cost.now period.now first.now second.now way.now) }
+    ensures { JudgedBy
+        (table_checks
+        (column_table elements rows rings cost.now period.now first.now second.now
+        way.now))
+        (column_table elements rows rings cost.now period.now first.now second.now
+        way.now) result }
 {
     let laid = outline::layout_of(elements, rows, rings, period, first, second, way);
     let answer = laid.answer;
@@ -267,8 +272,8 @@ fn judge_table<'a>(
 
 // The verdict that an analysis amounts to.
 pub fn verdict_of(table: Analysis) -> Verdict
-    requires { ⌜ (table .outline .answer .number ≡ 0 → ((t : bus.Table) × Accepted t table)) ⌝ }
-    ensures { λ r. ⌜ VerdictOn table r ⌝ }
+    requires { table.outline.answer.number ≡ 0 → ((t : bus.Table) × Accepted t table) }
+    ensures { VerdictOn table result }
 {
     let answer = table.outline.answer;
     if answer.number != Answer::DONE {
@@ -286,8 +291,8 @@ pub fn verdict_of(table: Analysis) -> Verdict
 
 // Whether the bus can carry the table of a file.
 pub fn judge(file: &[u8]) -> Verdict
-    ensures { λ r. ⌜ Judged (fileAsk (now (file .entry))) (numberOf r) (placeOf r)
-        (cutOf r) (otherOf r) (intervalOf r) (hyperOf r) (loadOf r) (setsOf r) ⌝ }
+    ensures { Judged (file_ask file.now) (number_of result) (place_of result)
+        (cut_of result) (other_of result) (interval_of result) (hyper_of result) (load_of result) (sets_of result) }
 {
     let mut cost = [0u16; Table::ROWS];
     let mut period = [0u16; Table::ROWS];

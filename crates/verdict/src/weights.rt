@@ -2,30 +2,26 @@
 //
 // A load is a whole number of 1 / h, h being a multiple of every period, so loads and bound are compared exactly; the reported load is
 // rounded and no verdict uses it.
+ghost use Rattle.std.specs.Prelude.{◌≡◌, List, true, not, ◌&&◌, ◌||◌, cond, ℕ, ◌+◌, ◌*◌, ◌/◌, ◌<◌, ◌≤◌, max, ltb, eqb, replicate};
+ghost use Rattle.numbers.specs.Lists.{at};
+ghost use Rattle.numbers.specs.Finite.{lowest};
+ghost use Rattle.numbers.specs.Rounding.{up};
+ghost use Rattle.rules.specs.Bounds.{max_rows, max_slots};
+ghost use Rattle.rules.specs.Loads.{past};
+ghost use Rattle.table.specs.Columns.{ByRow};
+ghost use Rattle.sets.specs.Walk.{line_size};
+ghost use Rattle.sets.specs.Sets.{OnLine, SetWords};
+ghost use Rattle.verdict.specs.Weights.{Times, Rates, next_lowest, SumsAt, Weighed};
+
 use sets::Sets;
 use table::Table;
-ghost use mathlib.Core.Path.{_≡_};
-ghost use mathlib.Core.List.{List};
-ghost use mathlib.Core.Bool.{true, not, _&&_, _||_, cond};
-ghost use Prim.Native.Nat.{ℕ, _+_, _*_, _/_, _<_, _≤_, max};
-ghost use lib.Dec.{ltb, eqb};
-ghost use lib.ListN.{replicate};
-ghost use Rattle·numbers.specs.Lists.{at};
-ghost use Rattle·numbers.specs.Finite.{lowest};
-ghost use Rattle·numbers.specs.Rounding.{up};
-ghost use Rattle·rules.specs.Bounds.{max-rows, max-slots};
-ghost use Rattle·rules.specs.Loads.{past};
-ghost use Rattle·table.specs.Columns.{ByRow};
-ghost use Rattle·sets.specs.Walk.{line-size};
-ghost use Rattle·sets.specs.Sets.{OnLine, SetWords};
-ghost use Rattle·verdict·specs.specs.Weights.{Times, Rates, nextLowest, SumsAt, Weighed};
 
 // ---- rows
 
 // How many jobs come in h with the period `period`, where `jobs` come with the period before. Nothing is divided where these are equal.
 fn jobs_in(hyper: u64, last: u64, jobs: u64, period: u64) -> u64
-    requires { ⌜ (1 ≤ period) × (jobs ≡ hyper / last) ⌝ }
-    ensures { λ r. ⌜ r ≡ hyper / period ⌝ }
+    requires { (1 ≤ period) × (jobs ≡ hyper / last) }
+    ensures { result ≡ hyper / period }
 {
     if period == last {
         return jobs;
@@ -35,16 +31,16 @@ fn jobs_in(hyper: u64, last: u64, jobs: u64, period: u64) -> u64
 
 // A row's cost × L is below its period.
 fn is_light(cost: u64, interval: u64, period: u64) -> bool
-    requires { ⌜ (cost ≤ max-slots) × (interval ≤ max-slots) ⌝ }
-    ensures { λ r. ⌜ r ≡ ltb (cost * interval) period ⌝ }
+    requires { (cost ≤ max_slots) × (interval ≤ max_slots) }
+    ensures { result ≡ ltb (cost * interval) period }
 {
     cost * interval < period
 }
 
 // The lowest number that passes a test, one number on: `found` is the one below `n`, or `n` where there is none.
 fn lowest_next(found: usize, n: usize, passes: bool) -> usize
-    requires { ⌜ n < max-rows ⌝ }
-    ensures { λ r. ⌜ r ≡ nextLowest found n passes ⌝ }
+    requires { n < max_rows }
+    ensures { result ≡ next_lowest found n passes }
 {
     if found == n && !passes { n + 1 } else { found }
 }
@@ -59,10 +55,10 @@ pub fn put_rates<'a>(
     period: &'a [u16; Table::ROWS],
     rate: &mut [u16; Table::ROWS],
 ) -> usize
-    requires { ⌜ Times rows (at (now cost)) (at (now period)) × (hyper ≤ max-slots) × (interval ≤ max-slots)
-        × (now rate ≡ replicate max-rows 0) ⌝ }
-    ensures { λ r. ⌜ ByRow rows (λ i. hyper / at (now (period .entry)) i * at (now (cost .entry)) i) (now (rate .exit))
-        × (r ≡ lowest rows (λ i. ltb (at (now (cost .entry)) i * interval) (at (now (period .entry)) i))) ⌝ }
+    requires { Times rows (at cost.now) (at period.now) × (hyper ≤ max_slots) × (interval ≤ max_slots)
+        × (rate.old ≡ replicate max_rows 0) }
+    ensures { ByRow rows (λ i. hyper / at period.now i * at cost.now i) rate.new
+        × (result ≡ lowest rows (λ i. ltb (at cost.now i * interval) (at period.now i))) }
 {
     let mut light: usize = 0;
     let mut last: u64 = 1;
@@ -84,8 +80,8 @@ pub fn put_rates<'a>(
 
 // The load is over the bound: 1 where all periods are equal, (L − 1) / L where they differ.
 fn is_over(load: u64, hyper: u64, interval: u64, equal: bool) -> bool
-    requires { ⌜ (load ≤ max-rows * max-slots) × (hyper ≤ max-slots) × (1 ≤ interval) × (interval ≤ max-slots) ⌝ }
-    ensures { λ r. ⌜ r ≡ past equal hyper interval load ⌝ }
+    requires { (load ≤ max_rows * max_slots) × (hyper ≤ max_slots) × (1 ≤ interval) × (interval ≤ max_slots) }
+    ensures { result ≡ past equal hyper interval load }
 {
     if equal {
         return load > hyper;
@@ -94,12 +90,13 @@ fn is_over(load: u64, hyper: u64, interval: u64, equal: bool) -> bool
 }
 
 fn larger(a: u64, b: u64) -> u64
-    ensures { λ r. ⌜ r ≡ max a b ⌝ }
+    ensures { result ≡ max a b }
 {
     if a < b { b } else { a }
 }
 
 // What is found of sets: how many there are, the lowest over its bound (their number where none is), and the largest load.
+#[derive(Clone, Copy)]
 pub struct Weights {
     pub sets: usize,
     pub over: usize,
@@ -108,11 +105,11 @@ pub struct Weights {
 
 // One more set, of load `load`, where one closes here.
 fn weigh_set(found: Weights, closes: bool, load: u64, hyper: u64, interval: u64) -> Weights
-    requires { ⌜ (closes ≡ true → found .sets < max-rows) × (load ≤ max-rows * max-slots) × (hyper ≤ max-slots)
-        × (1 ≤ interval) × (interval ≤ max-slots) ⌝ }
-    ensures { λ r. ⌜ (r .sets ≡ cond closes (found .sets + 1) (found .sets))
-        × (r .over ≡ cond closes (nextLowest (found .over) (found .sets) (past (eqb interval hyper) hyper interval load)) (found .over))
-        × (r .largest ≡ cond closes (max (found .largest) load) (found .largest)) ⌝ }
+    requires { (closes ≡ true → found.sets < max_rows) × (load ≤ max_rows * max_slots) × (hyper ≤ max_slots)
+        × (1 ≤ interval) × (interval ≤ max_slots) }
+    ensures { (result.sets ≡ cond closes (found.sets + 1) found.sets)
+        × (result.over ≡ cond closes (next_lowest found.over found.sets (past (eqb interval hyper) hyper interval load)) found.over)
+        × (result.largest ≡ cond closes (max found.largest load) found.largest) }
 {
     if closes {
         let sets = found.sets + 1;
@@ -128,14 +125,14 @@ fn weigh_set(found: Weights, closes: bool, load: u64, hyper: u64, interval: u64)
 
 // A set closes where rows end and some row has started since rows last ended.
 fn closes(started: bool, ends: bool) -> bool
-    ensures { λ r. ⌜ r ≡ (started && ends) ⌝ }
+    ensures { result ≡ (started && ends) }
 {
     started && ends
 }
 
 // Whether some row has started since rows last ended, one element on.
 fn goes_on(started: bool, starts: bool, ends: bool) -> bool
-    ensures { λ r. ⌜ r ≡ (starts || (started && not ends)) ⌝ }
+    ensures { result ≡ (starts || (started && not ends)) }
 {
     if starts {
         return true;
@@ -155,10 +152,10 @@ fn rates_at(
     joining: &mut [u32; Sets::LINE],
     leaving: &mut [u32; Sets::LINE],
 )
-    requires { ⌜ Rates (now rate) rows × ((i : ℕ) → i < rows → (at (now first) i < line-size) × (at (now second) i < line-size))
-        × (now joining ≡ replicate line-size 0) × (now leaving ≡ replicate line-size 0) ⌝ }
-    ensures { λ _. ⌜ SumsAt rows (at (now (first .entry))) (at (now (rate .entry))) (now (joining .exit))
-        × SumsAt rows (at (now (second .entry))) (at (now (rate .entry))) (now (leaving .exit)) ⌝ }
+    requires { Rates rate.now rows × ((i : ℕ) → i < rows → (at first.now i < line_size) × (at second.now i < line_size))
+        × (joining.old ≡ replicate line_size 0) × (leaving.old ≡ replicate line_size 0) }
+    ensures { SumsAt rows (at first.now) (at rate.now) joining.new
+        × SumsAt rows (at second.now) (at rate.now) leaving.new }
 {
     let mut i: usize = 0;
     while i < rows {
@@ -181,10 +178,10 @@ pub fn weigh_line<'a>(
     hyper: u64,
     interval: u64,
 ) -> Weights
-    requires { ⌜ OnLine rows (at (now first)) (at (now second)) top × Rates (now rate) rows × (hyper ≤ max-slots)
-        × (1 ≤ interval) × (interval ≤ max-slots) ⌝ }
-    ensures { λ r. ⌜ ((ws : List ℕ) × SetWords rows (at (now (first .entry))) (at (now (second .entry))) (r .sets) ws
-        × Weighed rows (now (rate .entry)) (r .sets) ws (eqb interval hyper) hyper interval (r .over) (r .largest)) ⌝ }
+    requires { OnLine rows (at first.now) (at second.now) top × Rates rate.now rows × (hyper ≤ max_slots)
+        × (1 ≤ interval) × (interval ≤ max_slots) }
+    ensures { (ws : List ℕ) × SetWords rows (at first.now) (at second.now) result.sets ws
+        × Weighed rows rate.now result.sets ws (eqb interval hyper) hyper interval result.over result.largest }
 {
     let mut joining = [0u32; Sets::LINE];
     let mut leaving = [0u32; Sets::LINE];
@@ -210,8 +207,8 @@ pub fn weigh_line<'a>(
 
 // A load in thousandths, rounded up.
 pub fn thousandths(load: u64, hyper: u64) -> u64
-    requires { ⌜ (load ≤ max-rows * max-slots) × (1 ≤ hyper) × (hyper ≤ max-slots) ⌝ }
-    ensures { λ r. ⌜ r ≡ up (1000 * load) hyper ⌝ }
+    requires { (load ≤ max_rows * max_slots) × (1 ≤ hyper) × (hyper ≤ max_slots) }
+    ensures { result ≡ up (1000 * load) hyper }
 {
     (1000 * load + (hyper - 1)) / hyper
 }

@@ -1,34 +1,25 @@
 // The writer: from numbers in memory to a file.
+#![tactic(auto)]
+
 mod memory;
 
-pub use memory::check_version;
-pub use memory::row_of;
-use table::Answer;
-use table::Row;
-use table::Table;
-use table::is_no_mark;
-use table::mark_byte;
-use table::put_start;
-use table::put16;
-use table::rings_of;
-use table::row_place;
-ghost use mathlib.Core.Path.{_≡_};
-ghost use mathlib.Core.List.{[], _∷_, _++_};
-ghost use Prim.Native.Nat.{_+_, _*_, _<_, _≤_};
-ghost use lib.ListN.{length, take};
-ghost use lib.Seq.{sets};
-ghost use Rattle·numbers.specs.Codec.{writeLow};
-ghost use Rattle·rules.specs.Bounds.{max-rows, max-rings};
-ghost use Rattle·rules.specs.TableFile.{headerSize, lastSize, rowWith, rowSize, rowNumbers, lastOf, memoryWith, memoryLabelledWith};
-ghost use Rattle·rules.specs.TableFile.{table-mark, rowBytes, fileHeader};
-ghost use Rattle·rules.specs.Calls.{lent, Written};
-ghost use Rattle·table.specs.Rows.{inFile, EndsFit};
-ghost use Rattle·writer·specs.specs.Written.{WrittenWith};
+ghost use Rattle.std.specs.Prelude.{◌≡◌, [], ◌∷◌, ◌++◌, ◌+◌, ◌*◌, ◌<◌, ◌≤◌, length, take};
+ghost use Rattle.std.proofs.lemmas.List.Edits.{sets};
+ghost use Rattle.numbers.specs.Codec.{write_low};
+ghost use Rattle.rules.specs.Bounds.{max_rows, max_rings};
+ghost use Rattle.rules.specs.TableFile.{header_size, last_size, row_with, row_size, row_numbers, last_of, memory_with, memory_labelled_with};
+ghost use Rattle.rules.specs.TableFile.{table_mark, row_bytes, file_header};
+ghost use Rattle.rules.specs.Calls.{lent, Written};
+ghost use Rattle.table.specs.Rows.{in_file, EndsFit};
+ghost use Rattle.writer.specs.Written.{WrittenWith};
+
+pub use memory::{check_version, row_of};
+use table::{Answer, Row, Table, is_no_mark, mark_byte, put_start, put16, rings_of, row_place};
 
 // The six bytes that all rows have, from `at` on.
 fn put_bytes(row: Row, at: usize, out: &mut [u8])
-    requires { ⌜ (at + rowWith 0 ≤ length (now out)) × (row .first < 256) × (row .second < 256) ⌝ }
-    ensures { λ _. ⌜ now (out .exit) ≡ sets (now (out .entry)) at (inFile 1 0 row) ⌝ }
+    requires { (at + row_with 0 ≤ length out.old) × (row.first < 256) × (row.second < 256) }
+    ensures { out.new ≡ sets out.old at (in_file 1 0 row) }
 {
     put16(row.cost, at, out);
     put16(row.period, at + 2, out);
@@ -38,16 +29,16 @@ fn put_bytes(row: Row, at: usize, out: &mut [u8])
 
 // The byte of a direction.
 fn put_way(way: usize, at: usize, out: &mut [u8])
-    requires { ⌜ (at + 1 ≤ length (now out)) × (way < 256) ⌝ }
-    ensures { λ _. ⌜ now (out .exit) ≡ sets (now (out .entry)) at (writeLow 1 way) ⌝ }
+    requires { (at + 1 ≤ length out.old) × (way < 256) }
+    ensures { out.new ≡ sets out.old at (write_low 1 way) }
 {
     out[at] = way as u8;
 }
 
 // What follows them: the direction, the label, or nothing.
 fn put_last(rings: usize, version: u64, way: usize, label: u16, at: usize, out: &mut [u8])
-    requires { ⌜ (at + lastSize rings version ≤ length (now out)) × (way < 256) ⌝ }
-    ensures { λ _. ⌜ now (out .exit) ≡ sets (now (out .entry)) at (writeLow (lastSize rings version) (lastOf rings way label)) ⌝ }
+    requires { (at + last_size rings version ≤ length out.old) × (way < 256) }
+    ensures { out.new ≡ sets out.old at (write_low (last_size rings version) (last_of rings way label)) }
 {
     if rings == Table::RINGS {
         put_way(way, at, out);
@@ -61,8 +52,8 @@ fn put_last(rings: usize, version: u64, way: usize, label: u16, at: usize, out: 
 
 // The bytes of a row, from `at` on.
 fn put_row(rings: usize, version: u64, row: Row, at: usize, out: &mut [u8])
-    requires { ⌜ (at + rowSize rings version ≤ length (now out)) × (row .first < 256) × (row .second < 256) × (row .way < 256) ⌝ }
-    ensures { λ _. ⌜ now (out .exit) ≡ sets (now (out .entry)) at (inFile rings (lastSize rings version) row) ⌝ }
+    requires { (at + row_size rings version ≤ length out.old) × (row.first < 256) × (row.second < 256) × (row.way < 256) }
+    ensures { out.new ≡ sets out.old at (in_file rings (last_size rings version) row) }
 {
     let way = row.way;
     let label = row.label;
@@ -71,8 +62,8 @@ fn put_row(rings: usize, version: u64, row: Row, at: usize, out: &mut [u8])
 }
 
 fn put_header(last: u8, version: u16, elements: u8, rows: u8, out: &mut [u8])
-    requires { ⌜ headerSize ≤ length (now out) ⌝ }
-    ensures { λ _. ⌜ now (out .exit) ≡ sets (now (out .entry)) 0 (fileHeader (0x52 ∷ 0x42 ∷ last ∷ []) version elements rows) ⌝ }
+    requires { header_size ≤ length out.old }
+    ensures { out.new ≡ sets out.old 0 (file_header (0x52 ∷ 0x42 ∷ last ∷ []) version elements rows) }
 {
     put_start(last, version, out);
     out[Table::ELEMENTS_AT] = elements;
@@ -81,12 +72,12 @@ fn put_header(last: u8, version: u16, elements: u8, rows: u8, out: &mut [u8])
 
 // The bytes of all rows of a slice, past the header.
 fn put_all_bytes(rings: usize, version: u64, numbers: &[u16], rows: usize, out: &mut [u8])
-    requires { ⌜ (rows ≤ max-rows) × (rowNumbers * rows ≤ length (now numbers))
-        × (headerSize + rowSize rings version * rows ≤ length (now out)) × EndsFit (memoryWith rings 0 rows (now numbers)) ⌝ }
-    ensures { λ _. ⌜ now (out .exit) ≡ lent
-        (take headerSize (now (out .entry))
-        ++ rowBytes (lastSize rings version) (memoryLabelledWith rings 0 rows (now (numbers .entry))))
-        (now (out .entry)) ⌝ }
+    requires { (rows ≤ max_rows) × (row_numbers * rows ≤ length numbers.now)
+        × (header_size + row_size rings version * rows ≤ length out.old) × EndsFit (memory_with rings 0 rows numbers.now) }
+    ensures { out.new ≡ lent
+        (take header_size out.old
+        ++ row_bytes (last_size rings version) (memory_labelled_with rings 0 rows numbers.now))
+        out.old }
 {
     let mut i: usize = 0;
     while i < rows {
@@ -110,9 +101,9 @@ fn write_with(
     numbers: &[u16],
     out: &mut [u8],
 ) -> Answer
-    requires { ⌜ rings ≤ max-rings ⌝ }
-    ensures { λ r. ⌜ WrittenWith rings version elements rows (now (numbers .entry)) (now (out .entry)) (now (out .exit)) (r .number)
-        (r .place) ⌝ }
+    requires { rings ≤ max_rings }
+    ensures { WrittenWith rings version elements rows numbers.now out.old out.new result.number
+        result.place }
 {
     let answer = check_version(rings, version, elements as usize, rows as usize, numbers);
     if answer.number != Answer::DONE {
@@ -143,8 +134,8 @@ pub fn write(
     numbers: &[u16],
     out: &mut [u8],
 ) -> Answer
-    ensures { λ r. ⌜ Written (now (mark .entry)) version elements rows (now (numbers .entry)) (now (out .entry)) (now (out .exit))
-        (r .number) (r .place) ⌝ }
+    ensures { Written mark.now version elements rows numbers.now out.old out.new
+        result.number result.place }
 {
     if is_no_mark(mark) {
         return Answer::at(Answer::WRONG_MARK, 0);
@@ -160,8 +151,8 @@ pub fn write_plain(
     numbers: &[u16],
     out: &mut [u8],
 ) -> Answer
-    ensures { λ r. ⌜ Written table-mark version elements rows (now (numbers .entry)) (now (out .entry)) (now (out .exit))
-        (r .number) (r .place) ⌝ }
+    ensures { Written table_mark version elements rows numbers.now out.old out.new
+        result.number result.place }
 {
     write_with(1, version, elements, rows, numbers, out)
 }

@@ -1,23 +1,16 @@
 // A table in memory as a slice of numbers: its rows, and checks 3 to 9, 26 and 20 of it.
-use table::Answer;
-use table::Row;
-use table::Table;
-use table::is_unknown;
-use table::label_in;
-use table::row_fault;
-use table::size_fault;
-use table::way_in;
-ghost use Prim.Native.Nat.{ℕ, _+_, _*_, _≤_};
-ghost use lib.ListN.{length};
-ghost use Rattle·rules.specs.Bounds.{max-rows};
-ghost use Rattle·rules.specs.TableFile.{rowNumbers, memoryWith, memoryLabelledWith};
-ghost use Rattle·rules.specs.Refusals.{Answers, row-checks, memory-checks, label-checks, version-checks};
-ghost use Rattle·table.specs.Rows.{IsRow};
+ghost use Rattle.std.specs.Prelude.{ℕ, ◌+◌, ◌*◌, ◌≤◌, length};
+ghost use Rattle.rules.specs.Bounds.{max_rows};
+ghost use Rattle.rules.specs.TableFile.{row_numbers, memory_with, memory_labelled_with};
+ghost use Rattle.rules.specs.Refusals.{Answers, row_checks, memory_checks, label_checks, version_checks};
+ghost use Rattle.table.specs.Rows.{IsRow};
+
+use table::{Answer, Row, Table, is_unknown, label_in, row_fault, size_fault, way_in};
 
 // Row `i` of a slice that holds it, in a table with so many rings.
 pub fn row_of(rings: usize, numbers: &[u16], i: usize) -> Row
-    requires { ⌜ rowNumbers * (i + 1) ≤ length (now numbers) ⌝ }
-    ensures { λ r. ⌜ ((M n : ℕ) → IsRow (memoryLabelledWith rings M n (now (numbers .entry))) i r) ⌝ }
+    requires { row_numbers * (i + 1) ≤ length numbers.now }
+    ensures { (M n : ℕ) → IsRow (memory_labelled_with rings M n numbers.now) i result }
 {
     let at = Table::ROW_NUMBERS * i;
     Row {
@@ -32,8 +25,8 @@ pub fn row_of(rings: usize, numbers: &[u16], i: usize) -> Row
 
 // Checks 7 to 9 and 26, in a slice that holds the rows.
 fn check_row_numbers(rings: usize, elements: usize, rows: usize, numbers: &[u16]) -> Answer
-    requires { ⌜ (rows ≤ max-rows) × (rowNumbers * rows ≤ length (now numbers)) ⌝ }
-    ensures { λ r. ⌜ Answers (row-checks (memoryWith rings elements rows (now (numbers .entry)))) (r .number) (r .place) ⌝ }
+    requires { (rows ≤ max_rows) × (row_numbers * rows ≤ length numbers.now) }
+    ensures { Answers (row_checks (memory_with rings elements rows numbers.now)) result.number result.place }
 {
     let mut i: usize = 0;
     while i < rows {
@@ -48,7 +41,7 @@ fn check_row_numbers(rings: usize, elements: usize, rows: usize, numbers: &[u16]
 
 // Checks 4 to 9 and 26 of a slice.
 fn check_numbers(rings: usize, elements: usize, rows: usize, numbers: &[u16]) -> Answer
-    ensures { λ r. ⌜ Answers (memory-checks rings elements rows (now (numbers .entry))) (r .number) (r .place) ⌝ }
+    ensures { Answers (memory_checks rings elements rows numbers.now) result.number result.place }
 {
     let number = size_fault(elements, rows, numbers.len(), 0, Table::ROW_NUMBERS);
     if number != Answer::DONE {
@@ -59,9 +52,9 @@ fn check_numbers(rings: usize, elements: usize, rows: usize, numbers: &[u16]) ->
 
 // Check 20, in a slice that holds the rows: version 1 has no place for a label. Rows of two rings have none.
 fn check_labels(rings: usize, version: u64, rows: usize, numbers: &[u16]) -> Answer
-    requires { ⌜ (rows ≤ max-rows) × (rowNumbers * rows ≤ length (now numbers)) ⌝ }
-    ensures { λ r. ⌜ ((M : ℕ) → Answers (label-checks version (memoryLabelledWith rings M rows (now (numbers .entry)))) (r .number)
-        (r .place)) ⌝ }
+    requires { (rows ≤ max_rows) × (row_numbers * rows ≤ length numbers.now) }
+    ensures { (M : ℕ) → Answers (label_checks version (memory_labelled_with rings M rows numbers.now)) result.number
+        result.place }
 {
     if version != Table::VERSION_1 {
         return Answer::done();
@@ -84,7 +77,7 @@ pub fn check_version(
     rows: usize,
     numbers: &[u16],
 ) -> Answer
-    ensures { λ r. ⌜ Answers (version-checks rings version elements rows (now (numbers .entry))) (r .number) (r .place) ⌝ }
+    ensures { Answers (version_checks rings version elements rows numbers.now) result.number result.place }
 {
     if is_unknown(rings, version) {
         return Answer::at(Answer::WRONG_VERSION, 0);

@@ -1,72 +1,72 @@
 -- find: the byte stands at none of the places passed.
 use native.Mathlib.Omega.{arith}
-use borrow.Author.Needs.{needs}
-use mathlib.Core.Logic.{⊎-elim, _≢_}
-use mathlib.Core.Path.{_≡_}
-use Prim.Native.Nat.{ℕ, _-_, _≤_, _<_, min}
+use borrow.Author.Rules.{rules}
+use mathlib.Core.Logic.{⊎_elim, ◌≢◌}
+use mathlib.Core.Path.{◌≡◌}
+use Prim.Native.Nat.{ℕ, ◌-◌, ◌≤◌, ◌<◌, min}
 use native.Mathlib.Numerals.{add-one}
 use lib.ListN.{length}
-use Rattle·numbers.specs.Lists.{at}
-use Rattle·numbers.proofs.Finite.{below}
-use Rattle·cases·proofs.proofs.find.Statement.{statement}
-use Rattle·cases·proofs.proofs.find.Tie as tie
+use Rattle.numbers.specs.Lists.{at}
+use Rattle.numbers.proofs.Finite.{below}
+use Rattle.cases.proofs.find.Statement.{statement}
+use Rattle.cases.proofs.find.Tie as tie
 
-abbrev Inv-loop : tie.InvT-loop
-Inv-loop text from byte i₀ i =
+abbrev invariant-loop : tie.invariant-loop-i
+invariant-loop text from byte i₀ i =
     (min from (length text) ≤ i) × (i ≤ length text) × ((k : ℕ) → from ≤ k → k < i → at text k ≢ byte)
 
-abbrev μ-loop : tie.MeasureT-loop
-μ-loop text from byte i₀ i = length text - i
+abbrev decreases-loop : tie.decreases-loop-i
+decreases-loop text from byte i₀ i = length text - i
 
-least-requires : tie.Need-least-requires Inv-loop μ-loop
-least-requires c κs = search needs
+least-requires : tie.Need-least-i-requires invariant-loop decreases-loop
+least-requires c κs = search rules
 
-loop-holds : tie.Need-loop-holds Inv-loop μ-loop
+loop-holds : tie.Need-loop-i-init invariant-loop decreases-loop
 loop-holds c = (omega arith, omega arith, λ k l h. absurd (let z : ⊥ = omega arith in z))
 
-shared-slice-read-if1 : tie.Need-shared-slice-read-if1 Inv-loop μ-loop
+shared-slice-read-if1 : tie.Need-bounds-text-i invariant-loop decreases-loop
 shared-slice-read-if1 c = omega arith
 
-returns : tie.Need-returns Inv-loop μ-loop
+returns : tie.Need-returns-then-text-i invariant-loop decreases-loop
 returns c =
-    let z = c .before .before .before .loop in
+    let z = c.before.before.before.loop-i in
     record {
-      low = z .inv .0;
-      high = z .inv .1;
-      none = z .inv .2;
-      there = λ l. c .if1 .taken;
+      low = z.invariant.0;
+      high = z.invariant.1;
+      none = z.invariant.2;
+      there = λ l. c.if-text-i.true;
     }
 
-add-i : tie.Need-add-i Inv-loop μ-loop
+add-i : tie.Need-overflow_add-i invariant-loop decreases-loop
 add-i c = omega arith
 
-loop-less : tie.Need-loop-less Inv-loop μ-loop
+loop-less : tie.Need-loop-i-smaller invariant-loop decreases-loop
 loop-less c = omega arith
 
-loop-again : tie.Need-loop-again Inv-loop μ-loop
+loop-again : tie.Need-loop-i-preserved invariant-loop decreases-loop
 loop-again c =
-    let z = c .before .before .before .loop in (
+    let z = c.before.before.before.loop-i in (
       omega arith,
       omega arith,
-      λ k l h. ⊎-elim (λ (e : k ≡ z .i). rw e (c .if1 .left)) (λ m. z .inv .2 k l m) (below (rw add-one at h)),
+      λ k l h. ⊎_elim (λ (e : k ≡ z.i). rw e c.if-text-i.false) (λ m. z.invariant.2 k l m) (below (rw add-one at h)),
     )
 
-returns-2 : tie.Need-returns-2 Inv-loop μ-loop
+returns-2 : tie.Need-returns invariant-loop decreases-loop
 returns-2 c =
-    let z = c .before .loop in
+    let z = c.before.loop-i in
     record {
-      low = z .inv .0;
-      high = z .inv .1;
-      none = z .inv .2;
+      low = z.invariant.0;
+      high = z.invariant.1;
+      none = z.invariant.2;
       there = λ l. absurd (let z : ⊥ = omega arith in z);
     }
 
-pub find-spec : {M : Type 1} → statement M
-find-spec =
+pub find_spec : {M : Type 1} → statement M
+find_spec =
     tie.close
     (tie.spec
-    Inv-loop
-    μ-loop
+    invariant-loop
+    decreases-loop
     least-requires
     loop-holds
     shared-slice-read-if1

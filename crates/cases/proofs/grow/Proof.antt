@@ -1,39 +1,39 @@
 -- grow: no digit, one too many, or one more.
 use native.Mathlib.Omega.{arith}
-use Rattle·cases·proofs.proofs.Reading.{grown-low, grown-high, grown-more}
-use borrow.Author.Needs.{needs}
-use Rattle·cases·proofs.proofs.grow.Statement.{statement}
-use Rattle·cases·proofs.proofs.grow.Tie as tie
+use Rattle.cases.proofs.Reading.{grown_low, grown_high, grown_more}
+use borrow.Author.Rules.{rules}
+use Rattle.cases.proofs.grow.Statement.{statement}
+use Rattle.cases.proofs.grow.Tie as tie
 
-returns : tie.Need-returns
-returns c = grown-low _ _ (c .if1 .taken)
+returns : tie.Need-returns-then-byte-lt48
+returns c = grown_low _ _ c.if-byte-lt48.true
 
-returns-2 : tie.Need-returns-2
-returns-2 c = grown-high _ _ (c .if2 .taken)
+returns-2 : tie.Need-returns-then-byte-gt57
+returns-2 c = grown_high _ _ c.if-byte-gt57.true
 
-cast-digit : tie.Need-cast-digit
-cast-digit c = search needs
+cast-digit : tie.Need-overflow_cast-digit
+cast-digit c = search rules
 
-sub-if3 : tie.Need-sub-if3
-sub-if3 c = search needs
+sub-if3 : tie.Need-overflow_sub-digit-2
+sub-if3 c = search rules
 
-returns-3 : tie.Need-returns-3
+returns-3 : tie.Need-returns-then-x-digit
 returns-3 c =
-    let a = c .before .before .before .args in
-    omega (arith, grown-more (a .byte) (a .x) (omega arith) (omega arith))
+    let a = c.before.before.before.args in
+    omega (arith, grown_more a.byte a.x (omega arith) (omega arith))
 
-mul-result : tie.Need-mul-result
-mul-result c = search needs
+mul-result : tie.Need-overflow_mul-result
+mul-result c = search rules
 
-add-result : tie.Need-add-result
-add-result c = search needs
+add-result : tie.Need-overflow_add-result
+add-result c = search rules
 
-returns-4 : tie.Need-returns-4
+returns-4 : tie.Need-returns
 returns-4 c =
-    let a = c .before .before .before .args in
-    omega (arith, grown-more (a .byte) (a .x) (omega arith) (omega arith))
+    let a = c.before.before.before.args in
+    omega (arith, grown_more a.byte a.x (omega arith) (omega arith))
 
-pub grow-spec : {M : Type 1} → statement M
-grow-spec =
+pub grow_spec : {M : Type 1} → statement M
+grow_spec =
     tie.close
     (tie.spec returns returns-2 cast-digit sub-if3 returns-3 mul-result add-result returns-4)

@@ -1,24 +1,24 @@
 -- number_at: a number past the end is 0.
 use native.Mathlib.Omega.{arith}
 use mathlib.Core.Path.{sym}
-use lib.ListN.{List·getD-eq-default}
-use borrow.Author.Needs.{needs}
-use Rattle·cases·proofs.proofs.number_at.Statement.{statement}
-use Rattle·cases·proofs.proofs.number_at.Tie as tie
+use lib.ListN.{get_or-eq_default}
+use borrow.Author.Rules.{rules}
+use Rattle.cases.proofs.number_at.Statement.{statement}
+use Rattle.cases.proofs.number_at.Tie as tie
 
-mul-result : tie.Need-mul-result
-mul-result c = search needs
+mul-result : tie.Need-offset_bounds-xs-k
+mul-result c = search rules
 
-shared-slice-read-result : tie.Need-shared-slice-read-result
-shared-slice-read-result c = search needs
+shared-slice-read-result : tie.Need-bounds-xs-k
+shared-slice-read-result c = search rules
 
-returns : tie.Need-returns
-returns c = search needs
+returns : tie.Need-returns-then-k-xs
+returns c = search rules
 
-returns-2 : tie.Need-returns-2
+returns-2 : tie.Need-returns-else-k-xs
 returns-2 c =
-    let a = c .before .args in
-    sym (List·getD-eq-default (a .xs .now) 0 {n = a .k} (omega arith))
+    let a = c.before.args in
+    sym (get_or-eq_default a.xs.now 0 {n = a.k} (omega arith))
 
-pub number-at-spec : {M : Type 1} → statement M
-number-at-spec = tie.close (tie.spec mul-result shared-slice-read-result returns returns-2)
+pub number_at_spec : {M : Type 1} → statement M
+number_at_spec = tie.close (tie.spec mul-result shared-slice-read-result returns returns-2)

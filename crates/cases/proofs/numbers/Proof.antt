@@ -1,68 +1,68 @@
 -- numbers: byte by byte; what is left to read gives the rest of the numbers.
 use native.Mathlib.Omega.{arith}
-use borrow.Author.Needs.{needs}
-use Prim.Native.Nat.{_-_, _<_}
+use borrow.Author.Rules.{rules}
+use Prim.Native.Nat.{◌-◌, ◌<◌}
 use lib.ListN.{length}
-use Rattle·cases·proofs.proofs.Reading.{Front, front-start, front-next, front-end}
-use Rattle·cases·proofs.proofs.numbers.Statement.{statement}
-use Rattle·cases·proofs.proofs.numbers.Tie as tie
+use Rattle.cases.proofs.Reading.{Front, front_start, front_next, front_end}
+use Rattle.cases.proofs.numbers.Statement.{statement}
+use Rattle.cases.proofs.numbers.Tie as tie
 
-abbrev Inv-loop : tie.InvT-loop
-Inv-loop text out₀ k₀ x₀ open₀ i₀ out k x «open» i = Front text out₀ i «open» x out k
+abbrev invariant-loop : tie.invariant-loop-i
+invariant-loop text out₀ k₀ x₀ open₀ i₀ out k x «open» i = Front text out₀ i «open» x out k
 
-abbrev μ-loop : tie.MeasureT-loop
-μ-loop text out₀ k₀ x₀ open₀ i₀ out k x «open» i = length text - i
+abbrev decreases-loop : tie.decreases-loop-i
+decreases-loop text out₀ k₀ x₀ open₀ i₀ out k x «open» i = length text - i
 
-loop-holds : tie.Need-loop-holds Inv-loop μ-loop
-loop-holds c = front-start _ _
+loop-holds : tie.Need-loop-i-init invariant-loop decreases-loop
+loop-holds c = front_start _ _
 
-shared-slice-read-byte : tie.Need-shared-slice-read-byte Inv-loop μ-loop
+shared-slice-read-byte : tie.Need-bounds-text-i invariant-loop decreases-loop
 shared-slice-read-byte c = omega arith
 
-is-digit-requires : tie.Need-is-digit-requires Inv-loop μ-loop
-is-digit-requires c κs = search needs
+is-digit-requires : tie.Need-is_digit-digit-requires invariant-loop decreases-loop
+is-digit-requires c κs = search rules
 
-ends-requires : tie.Need-ends-requires Inv-loop μ-loop
-ends-requires c κs = search needs
+ends-requires : tie.Need-ends-requires invariant-loop decreases-loop
+ends-requires c κs = search rules
 
-put-ended-requires : tie.Need-put-ended-requires Inv-loop μ-loop
+put-ended-requires : tie.Need-put_ended-k-requires invariant-loop decreases-loop
 put-ended-requires c κs = omega arith
 
-grow-requires : tie.Need-grow-requires Inv-loop μ-loop
-grow-requires c κs = search needs
+grow-requires : tie.Need-grow-x-requires invariant-loop decreases-loop
+grow-requires c κs = search rules
 
-add-i : tie.Need-add-i Inv-loop μ-loop
+add-i : tie.Need-overflow_add-i invariant-loop decreases-loop
 add-i c = omega arith
 
-loop-less : tie.Need-loop-less Inv-loop μ-loop
+loop-less : tie.Need-loop-i-smaller invariant-loop decreases-loop
 loop-less c = omega arith
 
-loop-again : tie.Need-loop-again Inv-loop μ-loop
+loop-again : tie.Need-loop-i-preserved invariant-loop decreases-loop
 loop-again c =
-    let d = c .before .before .before .before .before .before in
-    let z = d .before .before .before in
-    let l : z .loop .i < length (z .before .before .before .args .text .now) = omega arith in
-    let P = c .before .before .before .put-ended .ensures in
-    rw (d .is-digit .ensures, c .grow .ensures)
-    (front-next (z .loop .inv) l (rw (d .is-digit .ensures) at (rw (c .before .before .before .before .before .ends .ensures) at P)))
+    let d = c.before.before.before.before.before.before in
+    let z = d.before.before.before in
+    let l : z.loop-i.i < length z.before.before.before.args.text.now = omega arith in
+    let P = c.before.before.before.put_ended-k.ensures in
+    rw (d.is_digit-digit.ensures, c.grow-x.ensures)
+    (front_next z.loop-i.invariant l (rw d.is_digit-digit.ensures at (rw c.before.before.before.before.before.ends.ensures at P)))
 
-put-ended-requires-2 : tie.Need-put-ended-requires-2 Inv-loop μ-loop
+put-ended-requires-2 : tie.Need-put_ended-requires invariant-loop decreases-loop
 put-ended-requires-2 c κs = omega arith
 
-same-length : tie.Need-same-length Inv-loop μ-loop
-same-length c = search needs
+same_length : tie.Need-shape_of-out invariant-loop decreases-loop
+same_length c = search rules
 
-returns : tie.Need-returns Inv-loop μ-loop
+returns : tie.Need-returns invariant-loop decreases-loop
 returns c =
-    let z = c .before .before .before .before .before in
-    front-end (z .loop .inv) (omega arith) (c .before .before .put-ended2 .ensures)
+    let z = c.before.before.before.before.before in
+    front_end z.loop-i.invariant (omega arith) c.before.before.put_ended.ensures
 
-pub numbers-spec : {M : Type 1} → statement M
-numbers-spec =
+pub numbers_spec : {M : Type 1} → statement M
+numbers_spec =
     tie.close
     (tie.spec
-    Inv-loop
-    μ-loop
+    invariant-loop
+    decreases-loop
     loop-holds
     shared-slice-read-byte
     is-digit-requires
@@ -73,5 +73,5 @@ numbers-spec =
     loop-less
     loop-again
     put-ended-requires-2
-    same-length
+    same_length
     returns)

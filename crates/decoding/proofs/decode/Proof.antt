@@ -1,32 +1,32 @@
 -- decode: a passed file's columns, with its labels.
-use borrow.Author.Needs.{needs}
-use Rattle·decoding·proofs.proofs.Decoding.{whole-of, decodes-refused, decodes-all}
-use Rattle·decoding·proofs.proofs.decode.Statement.{statement}
-use Rattle·decoding·proofs.proofs.decode.Tie as tie
+use borrow.Author.Rules.{rules}
+use Rattle.decoding.proofs.Decoding.{whole_of, decodes_refused, decodes_all}
+use Rattle.decoding.proofs.decode.Statement.{statement}
+use Rattle.decoding.proofs.decode.Tie as tie
 
-abbrev taken : tie.Else1 → tie.After-decode-into
-taken e = e .before .before .before
+abbrev taken : tie.Else-answer-ne-DONE → tie.After-decode_into-head
+taken e = e.before.before.before
 
-decode-into-requires : tie.Need-decode-into-requires
-decode-into-requires c κs = search needs
+decode-into-requires : tie.Need-decode_into-head-requires
+decode-into-requires c κs = search rules
 
 refused-requires : tie.Need-refused-requires
-refused-requires c κs = search needs
+refused-requires c κs = search rules
 
-returns : tie.Need-returns
+returns : tie.Need-returns-then-answer-ne-DONE
 returns c =
-    let d = c .before .before .before .before in
-    rw (c .refused .ensures) (decodes-refused (d .decode-into .ensures) (c .before .if1 .taken))
+    let d = c in
+    rw c.refused.ensures (decodes_refused d.decode_into-head.ensures c.if-answer-ne-DONE.true)
 
-labels-of-requires : tie.Need-labels-of-requires
+labels-of-requires : tie.Need-labels_of-requires
 labels-of-requires c κs =
-    let d = taken c .decode-into in
-    whole-of _ (d .result .answer) (c .if1 .left) (d .ensures .answers)
+    let d = (taken c).decode_into-head in
+    whole_of _ d.result.answer c.if-answer-ne-DONE.false d.ensures.answers
 
-returns-2 : tie.Need-returns-2
+returns-2 : tie.Need-returns
 returns-2 c =
-    let e = c .before in
-    decodes-all (taken e .decode-into .ensures) (e .if1 .left) (c .labels-of .ensures)
+    let e = c.before in
+    decodes_all (taken e).decode_into-head.ensures e.if-answer-ne-DONE.false c.labels_of.ensures
 
-pub decode-spec : {M : Type 1} → statement M
-decode-spec = tie.close (tie.spec decode-into-requires refused-requires returns labels-of-requires returns-2)
+pub decode_spec : {M : Type 1} → statement M
+decode_spec = tie.close (tie.spec decode-into-requires refused-requires returns labels-of-requires returns-2)

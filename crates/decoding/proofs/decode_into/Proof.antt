@@ -3,118 +3,118 @@ use mathlib.Core.Path.{sym, subst}
 use mathlib.Core.List.{List}
 use Prim.Native.Nat.{ℕ}
 use native.Mathlib.Omega.{arith}
-use borrow.Author.Needs.{needs}
-use Rattle·rules.specs.TableFile.{fileTable}
-use Rattle·rules.specs.Refusals.{header-checks}
-use Rattle·rules.proofs.Answers.{None, none-of}
-use Rattle·table.specs.Columns.{Whole, Holds}
-use Rattle·table.specs.declared.columns.Columns.{Columns}
-use Rattle·table.proofs.Faults.{header-numbered, header-whole}
-use Rattle·decoding·specs.specs.Decoded.{Decoding}
-use Rattle·decoding·proofs.proofs.Decoding.{decoding-start, decoding-end, into-header, into-row, into-all}
-use Rattle·decoding·proofs.proofs.decode_into.Statement.{statement}
-use Rattle·decoding·proofs.proofs.decode_into.Tie as tie
+use borrow.Author.Rules.{rules}
+use Rattle.rules.specs.TableFile.{file_table}
+use Rattle.rules.specs.Refusals.{header_checks}
+use Rattle.rules.proofs.Answers.{None, none_of}
+use Rattle.table.specs.Columns.{Whole, Holds}
+use Rattle.table.specs.declared.columns.Columns.{Columns}
+use Rattle.table.proofs.Faults.{header_numbered, header_whole}
+use Rattle.decoding.specs.Decoded.{Decoding}
+use Rattle.decoding.proofs.Decoding.{decoding_start, decoding_end, into_header, into_row, into_all}
+use Rattle.decoding.proofs.decode_into.Statement.{statement}
+use Rattle.decoding.proofs.decode_into.Tie as tie
 
-abbrev entry : tie.Else1 → tie.Start
-entry e = e .before .before .before
+abbrev entry : tie.Else-number-ne-DONE → tie.Start
+entry e = e.before.before.before
 
-abbrev bytes : tie.Else1 → List ℕ
-bytes e = entry e .args .file .now
+abbrev bytes : tie.Else-number-ne-DONE → List ℕ
+bytes e = (entry e).args.file.now
 
 -- the header has passed
-none : (e : tie.Else1) → None (header-checks (bytes e))
-none e = none-of _ 0 (header-numbered _) (rw (e .if1 .left) at (e .before .header-fault .ensures))
+none : (e : tie.Else-number-ne-DONE) → None (header_checks (bytes e))
+none e = none_of _ 0 (header_numbered _) (rw e.if-number-ne-DONE.false at e.header_fault-number.ensures)
 
-whole : (e : tie.Else1) → Whole (bytes e)
-whole e = header-whole (bytes e) (none e)
+whole : (e : tie.Else-number-ne-DONE) → Whole (bytes e)
+whole e = header_whole (bytes e) (none e)
 
 -- the way back from the rows to the directions, and on to the header's checks
-abbrev turned : tie.After-put-rows → tie.After-put-ways
-turned p = p .before .before .before .before .before .before
+abbrev turned : tie.After-put_rows-answer → tie.After-put_ways
+turned p = p.before.before.before.before.before
 
-abbrev asked : tie.After-put-rows → tie.Else1
-asked p = turned p .before .before
+abbrev asked : tie.After-put_rows-answer → tie.Else-number-ne-DONE
+asked p = (turned p).before.before
 
-abbrev passed : tie.After-of → tie.After-put-rows
-passed o = o .before .before .before
+abbrev passed : tie.After-of-table → tie.After-put_rows-answer
+passed o = o.before.before.before
 
 -- what is written
-abbrev columns : tie.After-rings-of → Columns
+abbrev columns : tie.After-rings_of → Columns
 columns r =
-    let of = r .before .of .result in
-    let p = passed (r .before) in
-    let xs = p .put-rows .last in
+    let of = r.of-table.result in
+    let p = passed r.before in
+    let xs = p.put_rows-answer.new in
     record {
-      elements = of .elements;
-      rows = of .rows;
-      rings = r .rings-of .result;
-      cost = xs .1 .0;
-      period = xs .1 .1 .0;
-      first = xs .1 .1 .1 .0;
-      second = xs .1 .1 .1 .1 .0;
-      way = turned p .put-ways .last .1 .0;
+      elements = of.elements;
+      rows = of.rows;
+      rings = r.rings_of.result;
+      cost = xs.cost;
+      period = xs.period;
+      first = xs.first;
+      second = xs.second;
+      way = (turned p).put_ways.new.way;
     }
 
-held : (r : tie.After-rings-of) → Holds (fileTable (bytes (asked (passed (r .before))))) (columns r)
+held : (r : tie.After-rings_of) → Holds (file_table (bytes (asked (passed r.before)))) (columns r)
 held r =
-    let o = r .before in
+    let o = r.before in
     let p = passed o in
-    let of = o .of .ensures in
+    let of = o.of-table.ensures in
     let k = columns r in
-    decoding-end k (whole (asked p)) (of .elements) (of .rows) (r .rings-of .ensures)
-    (subst (λ (n : ℕ). Decoding (fileTable (bytes (asked p))) n (k .cost) (k .period) (k .first) (k .second)) (sym (of .rows))
-    (p .put-rows .ensures .1 (o .before .if2 .left)))
-    (turned p .put-ways .ensures)
+    decoding_end k (whole (asked p)) of.elements of.rows r.rings_of.ensures
+    (subst (λ (n : ℕ). Decoding (file_table (bytes (asked p))) n k.cost k.period k.first k.second) (sym of.rows)
+    (p.put_rows-answer.ensures.1 o.if-answer-ne-DONE.false))
+    (turned p).put_ways.ensures
 
-header-fault-requires : tie.Need-header-fault-requires
-header-fault-requires c κs = search needs
+header-fault-requires : tie.Need-header_fault-number-requires
+header-fault-requires c κs = search rules
 
 at-requires : tie.Need-at-requires
-at-requires c κs = search needs
+at-requires c κs = search rules
 
 refused-requires : tie.Need-refused-requires
-refused-requires c κs = search needs
+refused-requires c κs = search rules
 
-returns : tie.Need-returns
+returns : tie.Need-returns-then-number-ne-DONE
 returns c =
-    rw (c .refused .ensures)
-    (into-header _ _ (c .before .before .before .header-fault .ensures) (c .before .before .if1 .taken) (c .before .at .ensures .0)
-    (c .before .at .ensures .1))
+    rw c.refused.ensures
+    (into_header _ _ c.header_fault-number.ensures c.if-number-ne-DONE.true c.at.ensures.0
+    c.at.ensures.1)
 
-put-ways-requires : tie.Need-put-ways-requires
+put-ways-requires : tie.Need-put_ways-requires
 put-ways-requires c κs =
-    let e = c .before in
-    (whole e, entry e .pre .ways)
+    let e = c.before in
+    (whole e, (entry e).requires.ways)
 
-put-rows-requires : tie.Need-put-rows-requires
+put-rows-requires : tie.Need-put_rows-answer-requires
 put-rows-requires c κs =
-    let w = c .before .before .before .before .before in
-    let e = w .before .before in
-    let b = entry e .pre in
-    (whole e, rw (b .costs, b .periods, b .firsts, b .seconds) (decoding-start _), w .put-ways .ensures)
+    let w = c in
+    let e = w.before.before.before.before.before.before in
+    let b = (entry e).requires in
+    (whole e, rw (b.costs, b.periods, b.firsts, b.seconds) (decoding_start _), w.put_ways.ensures)
 
-refused-requires-2 : tie.Need-refused-requires-2
-refused-requires-2 c κs = search needs
+refused-requires-2 : tie.Need-refused-requires-then-answer-ne-DONE
+refused-requires-2 c κs = search rules
 
-returns-2 : tie.Need-returns-2
+returns-2 : tie.Need-returns-then-answer-ne-DONE
 returns-2 c =
-    let p = c .before .before .before in
-    rw (c .refused2 .ensures) (into-row _ _ (none (asked p)) (p .put-rows .ensures .0) (c .before .if2 .taken))
+    let p = c.before.before.before in
+    rw c.refused-then-answer-ne-DONE.ensures (into_row _ _ (none (asked p)) p.put_rows-answer.ensures.0 c.if-answer-ne-DONE.true)
 
-of-requires : tie.Need-of-requires
-of-requires c κs = omega (arith, whole (asked (c .before .before)) .size)
+of-requires : tie.Need-of-table-requires
+of-requires c κs = omega (arith, (whole (asked c.before.before)).size)
 
-rings-of-requires : tie.Need-rings-of-requires
-rings-of-requires c κs = omega (arith, whole (asked (passed c)) .size)
+rings-of-requires : tie.Need-rings_of-requires
+rings-of-requires c κs = omega (arith, (whole (asked (passed c))).size)
 
-returns-3 : tie.Need-returns-3
+returns-3 : tie.Need-returns
 returns-3 c =
-    let o = c .before in
+    let o = c.before in
     let p = passed o in
-    into-all _ _ (none (asked p)) (p .put-rows .ensures .0) (o .before .if2 .left) (held c)
+    into_all _ _ (none (asked p)) p.put_rows-answer.ensures.0 o.if-answer-ne-DONE.false (held c)
 
-pub decode-into-spec : {M : Type 1} → statement M
-decode-into-spec =
+pub decode_into_spec : {M : Type 1} → statement M
+decode_into_spec =
     tie.close
     (tie.spec
     header-fault-requires

@@ -1,73 +1,71 @@
 -- `decoding::header_fault` meets its contract.
 use mathlib.Core.Path.{refl}
-use mathlib.Core.List.{List}
-use Prim.Native.Nat.{ℕ}
 use native.Mathlib.Omega.{arith}
-use Rattle·rules.specs.TableFile.{mark, version, fileRings}
-use Rattle·rules.specs.Refusals.{unknown-mark, wrong-version, header-checks}
-use Rattle·rules.proofs.Answers.{applied, passed}
-use Rattle·table.proofs.Faults.{header-rest}
-use borrow.Author.Needs.{needs}
-use Rattle·decoding·proofs.proofs.header_fault.Statement.{statement}
-use Rattle·decoding·proofs.proofs.header_fault.Tie as tie
+use Rattle.rules.specs.TableFile.{mark}
+use Rattle.rules.specs.Refusals.{unknown_mark, header_checks}
+use Rattle.rules.proofs.Answers.{applied, passed}
+use Rattle.table.proofs.Faults.{header_rest}
+use borrow.Author.Rules.{rules}
+use Rattle.decoding.proofs.header_fault.Statement.{statement}
+use Rattle.decoding.proofs.header_fault.Tie as tie
 
-returns : tie.Need-returns
-unfolding header-checks
-returns c = applied _ _ 1 0 (c .if1 .taken) refl refl
+returns : tie.Need-returns-then-file-lt-HEADER
+unfolding header_checks
+returns c = applied _ _ 1 0 c.if-file-lt-HEADER.true refl refl
 
-is-strange-requires : tie.Need-is-strange-requires
-is-strange-requires c κs = search needs
+is-strange-requires : tie.Need-is_strange-requires
+is-strange-requires c κs = search rules
 
-returns-2 : tie.Need-returns-2
-unfolding header-checks
+returns-2 : tie.Need-returns-then-is_strange
+unfolding header_checks
 returns-2 c =
     passed _ _ 2 0 (λ l. let z : ⊥ = omega arith in z)
-    (applied _ _ 2 0 (c .before .is-strange .ensures .holds (c .if2 .taken)) refl refl)
+    (applied _ _ 2 0 (c.is_strange.ensures.holds c.if-is_strange.true) refl refl)
 
-rings-of-requires : tie.Need-rings-of-requires
-rings-of-requires c κs = search needs
+rings-of-requires : tie.Need-rings_of-rings-requires
+rings-of-requires c κs = search rules
 
-version-of-requires : tie.Need-version-of-requires
-version-of-requires c κs = search needs
+version-of-requires : tie.Need-version_of-version-requires
+version-of-requires c κs = search rules
 
-is-unknown-requires : tie.Need-is-unknown-requires
-is-unknown-requires c κs = search needs
+is-unknown-requires : tie.Need-is_unknown-requires
+is-unknown-requires c κs = search rules
 
 -- the mark is one of the two
-known-mark : (z : tie.Else2) → unknown-mark (mark (z .before .before .before .before .args .file .now)) .applies → ⊥
-known-mark z = z .before .is-strange .ensures .fails (z .if2 .left)
+known_mark : (z : tie.Else-is_strange) → (unknown_mark (mark z.args.file.now)).applies → ⊥
+known_mark z = z.is_strange.ensures.fails z.if-is_strange.false
 
-returns-3 : tie.Need-returns-3
-unfolding header-checks
+returns-3 : tie.Need-returns-then-is_unknown
+unfolding header_checks
 returns-3 c =
-    let v = c .before .before in
+    let v = c in
     passed _ _ 3 0 (λ l. let z : ⊥ = omega arith in z)
-    (passed _ _ 3 0 (known-mark (v .before .before))
-    (applied _ _ 3 0 (rw (v .before .rings-of .ensures, v .version-of .ensures) at (c .before .is-unknown .ensures .holds (c .if3 .taken)))
+    (passed _ _ 3 0 (known_mark v.before.before.before.before)
+    (applied _ _ 3 0 (rw (v.rings_of-rings.ensures, v.version_of-version.ensures) at (c.is_unknown.ensures.holds c.if-is_unknown.true))
     refl refl))
 
-of-requires : tie.Need-of-requires
-of-requires c κs = search needs
+of-requires : tie.Need-of-table-requires
+of-requires c κs = search rules
 
-row-bytes-requires : tie.Need-row-bytes-requires
-row-bytes-requires c κs = search needs
+row-bytes-requires : tie.Need-row_bytes-requires
+row-bytes-requires c κs = search rules
 
-size-fault-requires : tie.Need-size-fault-requires
-size-fault-requires c κs = (omega arith, c .row-bytes .ensures .1)
+size-fault-requires : tie.Need-size_fault-requires
+size-fault-requires c κs = (omega arith, c.row_bytes.ensures.1)
 
-returns-4 : tie.Need-returns-4
+returns-4 : tie.Need-returns
 returns-4 c =
-    let o = c .before .before .of .ensures in
-    let y = c .before .before .before in
-    let u = y .before in
-    let v = u .before .version-of .ensures in
-    let r = u .before .before .rings-of .ensures in
-    let z = u .before .before .before in
-    header-rest _ _ (z .before .before .if1 .left) (known-mark z) (rw (r, v) at (u .is-unknown .ensures .fails (y .if3 .left)))
-    (rw (c .before .row-bytes .ensures .0, r, v, o .elements, o .rows) at (c .size-fault .ensures))
+    let o = c.of-table.ensures in
+    let y = c in
+    let u = y in
+    let v = u.version_of-version.ensures in
+    let r = u.rings_of-rings.ensures in
+    let z = u.before.before.before.before.before.before.before in
+    header_rest _ _ z.if-file-lt-HEADER.false (known_mark z) (rw (r, v) at (u.is_unknown.ensures.fails y.if-is_unknown.false))
+    (rw (c.row_bytes.ensures.0, r, v, o.elements, o.rows) at c.size_fault.ensures)
 
-pub header-fault-spec : {M : Type 1} → statement M
-header-fault-spec =
+pub header_fault_spec : {M : Type 1} → statement M
+header_fault_spec =
     tie.close
     (tie.spec
     returns

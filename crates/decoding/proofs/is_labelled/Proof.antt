@@ -1,36 +1,36 @@
 -- `decoding::is_labelled` meets its contract.
-use mathlib.Core.Path.{sym, _∙_}
+use mathlib.Core.Path.{sym, ◌∙◌}
 use native.Mathlib.Omega.{arith}
-use Rattle·numbers.proofs.Truth.{decides-yes, decides-no, denied, granted}
-use borrow.Author.Needs.{needs}
-use Rattle·decoding·proofs.proofs.is_labelled.Statement.{statement}
-use Rattle·decoding·proofs.proofs.is_labelled.Tie as tie
+use Rattle.numbers.proofs.Truth.{decides_yes, decides_no, denied, granted}
+use borrow.Author.Rules.{rules}
+use Rattle.decoding.proofs.is_labelled.Statement.{statement}
+use Rattle.decoding.proofs.is_labelled.Tie as tie
 
-returns : tie.Need-returns
-returns c = decides-no (λ w. let z : ⊥ = omega (arith, w .0, c .if1 .taken) in z)
+returns : tie.Need-returns-then-file-lt-HEADER
+returns c = decides_no (λ w. let z : ⊥ = omega (arith, w.0, c.if-file-lt-HEADER.true) in z)
 
-is-plain-requires : tie.Need-is-plain-requires
-is-plain-requires c κs = search needs
+is-plain-requires : tie.Need-is_plain-requires
+is-plain-requires c κs = search rules
 
-returns-2 : tie.Need-returns-2
-returns-2 c = decides-no (λ w. denied (c .before .is-plain .ensures) (c .if2 .taken) (w .1))
+returns-2 : tie.Need-returns-then-not-is_plain
+returns-2 c = decides_no (λ w. denied c.is_plain.ensures c.if-not-is_plain.true w.1)
 
-version-of-requires : tie.Need-version-of-requires
-version-of-requires c κs = search needs
+version-of-requires : tie.Need-version_of-requires
+version-of-requires c κs = search rules
 
-returns-3 : tie.Need-returns-3
+returns-3 : tie.Need-returns-then-version_of-eq-VERSION_2
 returns-3 c =
-    let z = c .before .before in
-    decides-yes (
-      z .before .before .if1 .left,
-      granted (z .before .is-plain .ensures) (z .if2 .left),
-      sym (c .before .version-of .ensures) ∙ c .if3 .taken,
+    let z = c in
+    decides_yes (
+      z.if-file-lt-HEADER.false,
+      granted z.is_plain.ensures z.if-not-is_plain.false,
+      sym c.version_of.ensures ∙ c.if-version_of-eq-VERSION_2.true,
     )
 
-returns-4 : tie.Need-returns-4
-returns-4 c = decides-no (λ w. c .if3 .left (c .before .version-of .ensures ∙ w .2))
+returns-4 : tie.Need-returns
+returns-4 c = decides_no (λ w. c.if-version_of-eq-VERSION_2.false (c.version_of.ensures ∙ w.2))
 
-pub is-labelled-spec : {M : Type 1} → statement M
-is-labelled-spec =
+pub is_labelled_spec : {M : Type 1} → statement M
+is_labelled_spec =
     tie.close
     (tie.spec returns is-plain-requires returns-2 version-of-requires returns-3 returns-4)

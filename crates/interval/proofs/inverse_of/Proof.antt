@@ -1,23 +1,23 @@
 -- `inverse_of` rounds the quotient up.
 use native.Mathlib.Omega.{arith}
-use Prim.Native.Nat.{_^_}
-use Rattle·numbers.proofs.Rounding.{up-over, up-under}
-use Rattle·interval·proofs.proofs.inverse_of.Statement.{statement}
-use Rattle·interval·proofs.proofs.inverse_of.Tie as tie
+use Prim.Native.Nat.{◌^◌}
+use Rattle.numbers.proofs.Rounding.{up_over, up_under}
+use Rattle.interval.proofs.inverse_of.Statement.{statement}
+use Rattle.interval.proofs.inverse_of.Tie as tie
 
-sub-result : tie.Need-sub-result
-sub-result c = c .pre .0
+sub-result : tie.Need-overflow_sub-result
+sub-result c = c.requires.0
 
-add-result : tie.Need-add-result
-add-result c = omega (arith, c .pre .1)
+add-result : tie.Need-overflow_add-result
+add-result c = omega (arith, c.requires.1)
 
-div-result : tie.Need-div-result
-div-result c = omega (arith, c .pre .0)
+div-result : tie.Need-nonzero_div-result
+div-result c = omega (arith, c.requires.0)
 
 returns : tie.Need-returns
 returns c =
-    let h = c .args .h in
-    record { least = up-over (2 ^ 36) h (c .pre .0); most = up-under (2 ^ 36) h (c .pre .0) }
+    let h = c.args.h in
+    record { least = up_over (2 ^ 36) h c.requires.0; most = up_under (2 ^ 36) h c.requires.0 }
 
-pub inverse-of-spec : {M : Type 1} → statement M
-inverse-of-spec = tie.close (tie.spec sub-result add-result div-result returns)
+pub inverse_of_spec : {M : Type 1} → statement M
+inverse_of_spec = tie.close (tie.spec sub-result add-result div-result returns)

@@ -1,17 +1,17 @@
 -- `kept_live::removed` meets its contract.
-use borrow.Author.Needs.{needs}
-use Rattle·kept_live·proofs.proofs.Small.{remove-small}
-use Rattle·kept_live·proofs.proofs.removed.Statement.{statement}
-use Rattle·kept_live·proofs.proofs.removed.Tie as tie
+use borrow.Author.Rules.{rules}
+use Rattle.kept_live.proofs.Small.{remove_small}
+use Rattle.kept_live.proofs.removed.Statement.{statement}
+use Rattle.kept_live.proofs.removed.Tie as tie
 
 remove-requires : tie.Need-remove-requires
-remove-requires c κs = search needs
+remove-requires c κs = search rules
 
 told-requires : tie.Need-told-requires
-told-requires c κs = remove-small (c .remove .ensures)
+told-requires c κs = remove_small c.remove.ensures
 
 returns : tie.Need-returns
-returns c = search needs
+returns c = search rules
 
-pub removed-spec : {M : Type 1} → statement M
-removed-spec = tie.close (tie.spec remove-requires told-requires returns)
+pub removed_spec : {M : Type 1} → statement M
+removed_spec = tie.close (tie.spec remove-requires told-requires returns)

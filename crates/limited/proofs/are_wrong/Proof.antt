@@ -1,13 +1,13 @@
 -- are_wrong: one test after the other.
 use borrow.Author.Tests.{lt-ltb, le-ltb}
-use Rattle·limited·proofs.proofs.are_wrong.Statement.{statement}
-use Rattle·limited·proofs.proofs.are_wrong.Tie as tie
+use Rattle.limited.proofs.are_wrong.Statement.{statement}
+use Rattle.limited.proofs.are_wrong.Tie as tie
 
-returns : tie.Need-returns
-returns c = simp (lt-ltb _ _ (c .if1 .taken))
+returns : tie.Need-returns-then-limits-gt-MOST
+returns c = simp (lt-ltb _ _ c.if-limits-gt-MOST.true)
 
-returns-2 : tie.Need-returns-2
-returns-2 c = simp (le-ltb _ _ (c .before .if1 .left))
+returns-2 : tie.Need-returns-else-limits-gt-MOST
+returns-2 c = simp (le-ltb _ _ c.if-limits-gt-MOST.false)
 
-pub are-wrong-spec : {M : Type 1} → statement M
-are-wrong-spec = tie.close (tie.spec returns returns-2)
+pub are_wrong_spec : {M : Type 1} → statement M
+are_wrong_spec = tie.close (tie.spec returns returns-2)

@@ -2,49 +2,49 @@
 use mathlib.Core.List.{List}
 use Prim.Native.Nat.{ℕ}
 use native.Mathlib.Omega.{arith}
-use borrow.Author.Needs.{needs}
-use Rattle·rules.proofs.Answers.{None, none-of}
-use Rattle·lists·specs.specs.Entries.{head-checks}
-use Rattle·lists·proofs.proofs.Entries.{first-few}
-use Rattle·lists·proofs.proofs.Heads.{head-numbered, head-passed, head-hyper, file-stopped, file-joined}
-use Rattle·lists·proofs.proofs.check_file.Statement.{statement}
-use Rattle·lists·proofs.proofs.check_file.Tie as tie
+use borrow.Author.Rules.{rules}
+use Rattle.rules.proofs.Answers.{None, none_of}
+use Rattle.lists.specs.Entries.{head_checks}
+use Rattle.lists.proofs.Entries.{first_few}
+use Rattle.lists.proofs.Heads.{head_numbered, head_passed, head_hyper, file_stopped, file_joined}
+use Rattle.lists.proofs.check_file.Statement.{statement}
+use Rattle.lists.proofs.check_file.Tie as tie
 
-abbrev bytes : tie.Else1 → List ℕ
-bytes z = z .before .before .before .args .file .now
+abbrev bytes : tie.Else-number-ne-DONE → List ℕ
+bytes z = z.before.before.before.args.file.now
 
 -- the head has passed
-none : (z : tie.Else1) → None (head-checks (bytes z))
-none z = none-of (head-checks (bytes z)) 0 (head-numbered (bytes z)) (rw (z .if1 .left) at (z .before .head-fault .ensures))
+none : (z : tie.Else-number-ne-DONE) → None (head_checks (bytes z))
+none z = none_of (head_checks (bytes z)) 0 (head_numbered (bytes z)) (rw z.if-number-ne-DONE.false at z.before.head_fault-number.ensures)
 
-head-fault-requires : tie.Need-head-fault-requires
-head-fault-requires c κs = search needs
+head-fault-requires : tie.Need-head_fault-number-requires
+head-fault-requires c κs = search rules
 
 at-requires : tie.Need-at-requires
-at-requires c κs = search needs
+at-requires c κs = search rules
 
-returns : tie.Need-returns
+returns : tie.Need-returns-then-number-ne-DONE
 returns c =
-    rw (c .at .ensures .0, c .at .ensures .1) (file-stopped _ _ 0 (c .before .if1 .taken) (c .before .before .head-fault .ensures))
+    rw (c.at.ensures.0, c.at.ensures.1) (file_stopped _ _ 0 c.before.if-number-ne-DONE.true c.before.before.head_fault-number.ensures)
 
-of-requires : tie.Need-of-requires
-of-requires c κs = head-passed (bytes c) (none c) .long
+of-requires : tie.Need-of-head-requires
+of-requires c κs = (head_passed (bytes c) (none c)).long
 
-first-wrong-in-requires : tie.Need-first-wrong-in-requires
-first-wrong-in-requires c κs = omega (arith, c .of .ensures .entries, head-passed (bytes (c .before)) (none (c .before)) .size)
+first-wrong-in-requires : tie.Need-first_wrong_in-requires
+first-wrong-in-requires c κs = omega (arith, c.of-head.ensures.entries, (head_passed (bytes c.before) (none c.before)).size)
 
-check-entries-requires : tie.Need-check-entries-requires
+check-entries-requires : tie.Need-check_entries-requires
 check-entries-requires c κs =
-    let z = c .before .before in
-    omega (arith, first-few (c .first-wrong-in .ensures), c .before .of .ensures .hyper, head-hyper (bytes z) (none z))
+    let z = c.before.before in
+    omega (arith, first_few c.first_wrong_in.ensures, c.before.of-head.ensures.hyper, head_hyper (bytes z) (none z))
 
-returns-2 : tie.Need-returns-2
+returns-2 : tie.Need-returns
 returns-2 c =
-    let o = c .before .before .of .ensures in
-    let F = c .before .first-wrong-in .ensures in
-    file-joined _ _ _ (none (c .before .before .before)) (rw (o .entries, o .hyper) at (c .check-entries .ensures _ F))
+    let o = c.before.before.of-head.ensures in
+    let F = c.before.first_wrong_in.ensures in
+    file_joined _ _ _ (none c.before.before.before) (rw (o.entries, o.hyper) at (c.check_entries.ensures _ F))
 
-pub check-file-spec : {M : Type 1} → statement M
-check-file-spec =
+pub check_file_spec : {M : Type 1} → statement M
+check_file_spec =
     tie.close
     (tie.spec head-fault-requires at-requires returns of-requires first-wrong-in-requires check-entries-requires returns-2)

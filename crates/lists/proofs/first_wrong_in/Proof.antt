@@ -1,56 +1,56 @@
 -- `lists::first_wrong_in` meets its contract.
-use Prim.Native.Nat.{_-_, _≤_}
+use Prim.Native.Nat.{◌-◌, ◌≤◌}
 use native.Mathlib.Omega.{arith}
-use borrow.Author.Needs.{needs}
-use Rattle·rules.specs.ElementList.{fileEntry}
-use Rattle·lists·specs.specs.Entries.{told}
-use Rattle·lists·proofs.proofs.Entries.{Checked, checked-start, read-next, read-stop, checked-end}
-use Rattle·lists·proofs.proofs.first_wrong_in.Statement.{statement}
-use Rattle·lists·proofs.proofs.first_wrong_in.Tie as tie
+use borrow.Author.Rules.{rules}
+use Rattle.rules.specs.ElementList.{file_entry}
+use Rattle.lists.specs.Entries.{told}
+use Rattle.lists.proofs.Entries.{Checked, checked_start, read_next, read_stop, checked_end}
+use Rattle.lists.proofs.first_wrong_in.Statement.{statement}
+use Rattle.lists.proofs.first_wrong_in.Tie as tie
 
-abbrev Inv-loop : tie.InvT-loop
-Inv-loop file hyper entries least₀ k₀ least k = (k ≤ entries) × Checked (told 0 hyper (fileEntry file)) k least
+abbrev invariant-loop : tie.invariant-loop-k
+invariant-loop file hyper entries least₀ k₀ least k = (k ≤ entries) × Checked (told 0 hyper (file_entry file)) k least
 
-abbrev μ-loop : tie.MeasureT-loop
-μ-loop file hyper entries least₀ k₀ least k = entries - k
+abbrev decreases-loop : tie.decreases-loop-k
+decreases-loop file hyper entries least₀ k₀ least k = entries - k
 
-loop-holds : tie.Need-loop-holds Inv-loop μ-loop
-loop-holds c = (omega arith, checked-start _)
+loop-holds : tie.Need-loop-k-init invariant-loop decreases-loop
+loop-holds c = (omega arith, checked_start _)
 
-entry-in-requires : tie.Need-entry-in-requires Inv-loop μ-loop
-entry-in-requires c κs = omega (arith, c .before .before .before .pre)
+entry-in-requires : tie.Need-entry_in-requires invariant-loop decreases-loop
+entry-in-requires c κs = omega (arith, c.before.before.before.requires)
 
-least-after-requires : tie.Need-least-after-requires Inv-loop μ-loop
-least-after-requires c κs = search needs
+least-after-requires : tie.Need-least_after-least-requires invariant-loop decreases-loop
+least-after-requires c κs = search rules
 
-returns : tie.Need-returns Inv-loop μ-loop
+returns : tie.Need-returns-then-least-eq0 invariant-loop decreases-loop
 returns c =
-    let z = c .before .before .before in
-    read-stop (c .before .before .entry-in .ensures) (c .before .least-after .ensures) (z .before .loop .inv .1) _ (z .loop-test .taken)
-    (c .if1 .taken)
+    let z = c.before.before.before in
+    read_stop c.before.before.entry_in.ensures c.before.least_after-least.ensures z.before.loop-k.invariant.1 _ z.loop-k-test.true
+    c.if-least-eq0.true
 
-add-k : tie.Need-add-k Inv-loop μ-loop
-add-k c = search needs
+add-k : tie.Need-overflow_add-k invariant-loop decreases-loop
+add-k c = search rules
 
-loop-less : tie.Need-loop-less Inv-loop μ-loop
-loop-less c = search needs
+loop-less : tie.Need-loop-k-smaller invariant-loop decreases-loop
+loop-less c = search rules
 
-loop-again : tie.Need-loop-again Inv-loop μ-loop
+loop-again : tie.Need-loop-k-preserved invariant-loop decreases-loop
 loop-again c =
-    let z = c .before .before .before in (
+    let z = c.before.before.before in (
       omega arith,
-      read-next (c .before .before .entry-in .ensures) (c .before .least-after .ensures) (z .before .loop .inv .1) (c .if1 .left),
+      read_next c.before.before.entry_in.ensures c.before.least_after-least.ensures z.before.loop-k.invariant.1 c.if-least-eq0.false,
     )
 
-returns-2 : tie.Need-returns-2 Inv-loop μ-loop
-returns-2 c = let u = c .before .loop in checked-end _ (u .inv .1) (omega (arith, u .inv .0))
+returns-2 : tie.Need-returns invariant-loop decreases-loop
+returns-2 c = let u = c.before.loop-k in checked_end _ u.invariant.1 (omega (arith, u.invariant.0))
 
-pub first-wrong-in-spec : {M : Type 1} → statement M
-first-wrong-in-spec =
+pub first_wrong_in_spec : {M : Type 1} → statement M
+first_wrong_in_spec =
     tie.close
     (tie.spec
-    Inv-loop
-    μ-loop
+    invariant-loop
+    decreases-loop
     loop-holds
     entry-in-requires
     least-after-requires

@@ -1,56 +1,56 @@
 -- `lists::first_wrong_of` meets its contract.
-use Prim.Native.Nat.{_-_, _≤_}
+use Prim.Native.Nat.{◌-◌, ◌≤◌}
 use native.Mathlib.Omega.{arith}
-use borrow.Author.Needs.{needs}
-use Rattle·rules.specs.ElementList.{memoryEntry}
-use Rattle·lists·specs.specs.Entries.{told}
-use Rattle·lists·proofs.proofs.Entries.{Checked, checked-start, read-next, read-stop, checked-end}
-use Rattle·lists·proofs.proofs.first_wrong_of.Statement.{statement}
-use Rattle·lists·proofs.proofs.first_wrong_of.Tie as tie
+use borrow.Author.Rules.{rules}
+use Rattle.rules.specs.ElementList.{memory_entry}
+use Rattle.lists.specs.Entries.{told}
+use Rattle.lists.proofs.Entries.{Checked, checked_start, read_next, read_stop, checked_end}
+use Rattle.lists.proofs.first_wrong_of.Statement.{statement}
+use Rattle.lists.proofs.first_wrong_of.Tie as tie
 
-abbrev Inv-loop : tie.InvT-loop
-Inv-loop numbers hyper entries least₀ k₀ least k = (k ≤ entries) × Checked (told 0 hyper (memoryEntry numbers)) k least
+abbrev invariant-loop : tie.invariant-loop-k
+invariant-loop numbers hyper entries least₀ k₀ least k = (k ≤ entries) × Checked (told 0 hyper (memory_entry numbers)) k least
 
-abbrev μ-loop : tie.MeasureT-loop
-μ-loop numbers hyper entries least₀ k₀ least k = entries - k
+abbrev decreases-loop : tie.decreases-loop-k
+decreases-loop numbers hyper entries least₀ k₀ least k = entries - k
 
-loop-holds : tie.Need-loop-holds Inv-loop μ-loop
-loop-holds c = (omega arith, checked-start _)
+loop-holds : tie.Need-loop-k-init invariant-loop decreases-loop
+loop-holds c = (omega arith, checked_start _)
 
-entry-of-requires : tie.Need-entry-of-requires Inv-loop μ-loop
-entry-of-requires c κs = omega (arith, c .before .before .before .pre)
+entry-of-requires : tie.Need-entry_of-requires invariant-loop decreases-loop
+entry-of-requires c κs = omega (arith, c.before.before.before.requires)
 
-least-after-requires : tie.Need-least-after-requires Inv-loop μ-loop
-least-after-requires c κs = search needs
+least-after-requires : tie.Need-least_after-least-requires invariant-loop decreases-loop
+least-after-requires c κs = search rules
 
-returns : tie.Need-returns Inv-loop μ-loop
+returns : tie.Need-returns-then-least-eq0 invariant-loop decreases-loop
 returns c =
-    let z = c .before .before .before in
-    read-stop (c .before .before .entry-of .ensures) (c .before .least-after .ensures) (z .before .loop .inv .1) _ (z .loop-test .taken)
-    (c .if1 .taken)
+    let z = c.before.before.before in
+    read_stop c.before.before.entry_of.ensures c.before.least_after-least.ensures z.before.loop-k.invariant.1 _ z.loop-k-test.true
+    c.if-least-eq0.true
 
-add-k : tie.Need-add-k Inv-loop μ-loop
-add-k c = search needs
+add-k : tie.Need-overflow_add-k invariant-loop decreases-loop
+add-k c = search rules
 
-loop-less : tie.Need-loop-less Inv-loop μ-loop
-loop-less c = search needs
+loop-less : tie.Need-loop-k-smaller invariant-loop decreases-loop
+loop-less c = search rules
 
-loop-again : tie.Need-loop-again Inv-loop μ-loop
+loop-again : tie.Need-loop-k-preserved invariant-loop decreases-loop
 loop-again c =
-    let z = c .before .before .before in (
+    let z = c.before.before.before in (
       omega arith,
-      read-next (c .before .before .entry-of .ensures) (c .before .least-after .ensures) (z .before .loop .inv .1) (c .if1 .left),
+      read_next c.before.before.entry_of.ensures c.before.least_after-least.ensures z.before.loop-k.invariant.1 c.if-least-eq0.false,
     )
 
-returns-2 : tie.Need-returns-2 Inv-loop μ-loop
-returns-2 c = let u = c .before .loop in checked-end _ (u .inv .1) (omega (arith, u .inv .0))
+returns-2 : tie.Need-returns invariant-loop decreases-loop
+returns-2 c = let u = c.before.loop-k in checked_end _ u.invariant.1 (omega (arith, u.invariant.0))
 
-pub first-wrong-of-spec : {M : Type 1} → statement M
-first-wrong-of-spec =
+pub first_wrong_of_spec : {M : Type 1} → statement M
+first_wrong_of_spec =
     tie.close
     (tie.spec
-    Inv-loop
-    μ-loop
+    invariant-loop
+    decreases-loop
     loop-holds
     entry-of-requires
     least-after-requires

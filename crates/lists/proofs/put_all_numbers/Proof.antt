@@ -1,69 +1,69 @@
 -- `lists::put_all_numbers` meets its contract. The loop's invariant: the entries before entry `k` are written.
-use mathlib.Core.Path.{_≡_}
+use mathlib.Core.Path.{◌≡◌}
 use mathlib.Core.List.{[]}
-use Prim.Native.Nat.{_+_, _*_, _-_, _≤_}
+use Prim.Native.Nat.{◌+◌, ◌*◌, ◌-◌, ◌≤◌}
 use native.Mathlib.Omega.{arith}
 use lib.ListN.{length}
-use borrow.Author.Needs.{needs}
-use Rattle·numbers.specs.Lists.{each}
-use Rattle·numbers.proofs.Lists.{Filled, filled-start}
-use Rattle·numbers.proofs.Codec.{filled-rows, filled-row}
-use Rattle·rules.specs.ElementList.{entryNumbers, fileEntry, inMemory}
-use Rattle·rules.proofs.Calls.{filled-lent}
-use Rattle·lists·proofs.proofs.Calls.{memory-entry}
-use Rattle·lists·proofs.proofs.put_all_numbers.Statement.{statement}
-use Rattle·lists·proofs.proofs.put_all_numbers.Tie as tie
+use borrow.Author.Rules.{rules}
+use Rattle.numbers.specs.Lists.{each}
+use Rattle.numbers.proofs.Lists.{Filled, filled_start}
+use Rattle.numbers.proofs.Codec.{filled_rows, filled_row}
+use Rattle.rules.specs.ElementList.{entry_numbers, file_entry, in_memory}
+use Rattle.rules.proofs.Calls.{filled_lent}
+use Rattle.lists.proofs.Calls.{memory_entry_lem}
+use Rattle.lists.proofs.put_all_numbers.Statement.{statement}
+use Rattle.lists.proofs.put_all_numbers.Tie as tie
 
-abbrev Inv-loop : tie.InvT-loop
-Inv-loop file entries out₀ k₀ out k = (k ≤ entries) × Filled out₀ out (entryNumbers * k) (each k (λ j. inMemory (fileEntry file j)))
+abbrev invariant-loop : tie.invariant-loop-k
+invariant-loop file entries out₀ k₀ out k = (k ≤ entries) × Filled out₀ out (entry_numbers * k) (each k (λ j. in_memory (file_entry file j)))
 
-abbrev μ-loop : tie.MeasureT-loop
-μ-loop file entries out₀ k₀ out k = entries - k
+abbrev decreases-loop : tie.decreases-loop-k
+decreases-loop file entries out₀ k₀ out k = entries - k
 
-loop-holds : tie.Need-loop-holds Inv-loop μ-loop
-loop-holds c = (omega arith, filled-rows [] _ (filled-start _))
+loop-holds : tie.Need-loop-k-init invariant-loop decreases-loop
+loop-holds c = (omega arith, filled_rows [] _ (filled_start _))
 
-entry-in-requires : tie.Need-entry-in-requires Inv-loop μ-loop
-entry-in-requires c κs = omega (arith, c .before .before .before .before .pre .0)
+entry-in-requires : tie.Need-entry_in-requires invariant-loop decreases-loop
+entry-in-requires c κs = omega (arith, c.before.before.before.before.requires.0)
 
-mul-put-numbers : tie.Need-mul-put-numbers Inv-loop μ-loop
-mul-put-numbers c = search needs
+mul-put-numbers : tie.Need-overflow_mul-k invariant-loop decreases-loop
+mul-put-numbers c = search rules
 
-put-numbers-requires : tie.Need-put-numbers-requires Inv-loop μ-loop
+put-numbers-requires : tie.Need-put_numbers-requires invariant-loop decreases-loop
 put-numbers-requires c κs =
-    omega (arith, c .before .before .before .before .before .before .pre .1, c .before .before .before .loop .inv .1 .same)
+    omega (arith, c.before.before.before.before.before.before.requires.1, c.before.before.before.loop-k.invariant.1.same)
 
-add-k : tie.Need-add-k Inv-loop μ-loop
-add-k c = search needs
+add-k : tie.Need-overflow_add-k invariant-loop decreases-loop
+add-k c = search rules
 
-loop-less : tie.Need-loop-less Inv-loop μ-loop
-loop-less c = search needs
+loop-less : tie.Need-loop-k-smaller invariant-loop decreases-loop
+loop-less c = search rules
 
-loop-again : tie.Need-loop-again Inv-loop μ-loop
+loop-again : tie.Need-loop-k-preserved invariant-loop decreases-loop
 loop-again c =
-    let z = c .before .before .before .before .before .before .before .before .before in
-    let u = c .before .before .before .before .before .before .loop in
-    let q = memory-entry (c .before .before .before .before .entry-in .ensures) in
-    let room : entryNumbers * (u .k + 1) ≤ length (z .args .out .now) = omega (arith, z .pre .1) in (
+    let z = c.before.before.before.before.before.before.before.before.before in
+    let u = c.before.before.before.before.before.before.loop-k in
+    let q = memory_entry_lem c.before.before.before.before.entry_in.ensures in
+    let room : entry_numbers * (u.k + 1) ≤ length z.args.out.now = omega (arith, z.requires.1) in (
       omega arith,
-      filled-row [] (λ j. inMemory (fileEntry (z .args .file .now) j)) _ _ (u .inv .1)
-          (c .before .before .put-numbers .ensures) q (omega arith) room,
+      filled_row [] (λ j. in_memory (file_entry z.args.file.now j)) _ _ u.invariant.1
+          c.before.before.put_numbers.ensures q (omega arith) room,
     )
 
-same-length : tie.Need-same-length Inv-loop μ-loop
-same-length c = c .before .loop .inv .1 .same
+same_length : tie.Need-shape_of-out invariant-loop decreases-loop
+same_length c = c.before.loop-k.invariant.1.same
 
-returns : tie.Need-returns Inv-loop μ-loop
+returns : tie.Need-returns invariant-loop decreases-loop
 returns c =
-    let e : c .before .loop .k ≡ c .before .before .before .before .args .entries = omega (arith, c .before .loop .inv .0) in
-    rw e at (filled-lent (c .before .loop .inv .1))
+    let e : c.before.loop-k.k ≡ c.before.before.before.before.args.entries = omega (arith, c.before.loop-k.invariant.0) in
+    rw e at (filled_lent c.before.loop-k.invariant.1)
 
-pub put-all-numbers-spec : {M : Type 1} → statement M
-put-all-numbers-spec =
+pub put_all_numbers_spec : {M : Type 1} → statement M
+put_all_numbers_spec =
     tie.close
     (tie.spec
-    Inv-loop
-    μ-loop
+    invariant-loop
+    decreases-loop
     loop-holds
     entry-in-requires
     mul-put-numbers
@@ -71,5 +71,5 @@ put-all-numbers-spec =
     add-k
     loop-less
     loop-again
-    same-length
+    same_length
     returns)

@@ -1,87 +1,87 @@
 -- `lists::write` meets its contract.
-use mathlib.Core.Path.{refl, ap, _∙_}
-use Prim.Native.Nat.{_/_}
+use mathlib.Core.Path.{refl, ap, ◌∙◌}
+use Prim.Native.Nat.{◌/◌}
 use native.Mathlib.Omega.{arith}
 use lib.ListN.{length}
 use lib.Seq.{length-sets}
-use borrow.Author.Needs.{needs}
-use Rattle·numbers.specs.Lists.{each}
-use Rattle·rules.specs.ElementList.{listHeader, entryNumbers, memoryList, memoryEntry, inFile, fileHead, listBytes}
-use Rattle·rules.specs.Refusals.{list-memory-checks}
-use Rattle·rules.proofs.Answers.{None, none-of}
-use Rattle·rules.proofs.Calls.{lent-headed}
-use Rattle·lists·proofs.proofs.Heads.{Right, memory-numbered, memory-right, right-fits}
-use Rattle·lists·proofs.proofs.Calls.{written-refused, written-short, written-done}
-use Rattle·lists·proofs.proofs.write.Statement.{statement}
-use Rattle·lists·proofs.proofs.write.Tie as tie
+use borrow.Author.Rules.{rules}
+use Rattle.numbers.specs.Lists.{each}
+use Rattle.rules.specs.ElementList.{list_header, entry_numbers, memory_list, memory_entry, in_file, file_head, list_bytes}
+use Rattle.rules.specs.Refusals.{list_memory_checks}
+use Rattle.rules.proofs.Answers.{None, none_of}
+use Rattle.rules.proofs.Calls.{lent_headed}
+use Rattle.lists.proofs.Heads.{Right, memory_numbered, memory_right, right_fits}
+use Rattle.lists.proofs.Calls.{written_refused, written_short, written_done}
+use Rattle.lists.proofs.write.Statement.{statement}
+use Rattle.lists.proofs.write.Tie as tie
 
 -- the list has passed
-none : (z : tie.Else1)
-    → let a = z .before .before .before .before .before .args in None (list-memory-checks (a .element) (a .hyper) (a .numbers .now))
+none : (z : tie.Else-answer-ne-DONE)
+    → let a = z.before.before.before.before.before.args in None (list_memory_checks a.element a.hyper a.numbers.now)
 none z =
-    let a = z .before .before .before .before .before .args in
-    none-of (list-memory-checks (a .element) (a .hyper) (a .numbers .now)) _ (memory-numbered (a .element) (a .hyper) (a .numbers .now))
-    (rw (z .if1 .left) at (z .before .before .check-numbers .ensures))
+    let a = z.before.before.before.before.before.args in
+    none_of (list_memory_checks a.element a.hyper a.numbers.now) _ (memory_numbered a.element a.hyper a.numbers.now)
+    (rw z.if-answer-ne-DONE.false at z.before.before.check_numbers-answer.ensures)
 
-right : (z : tie.Else1) → let a = z .before .before .before .before .before .args in Right
-    (memoryList (a .element) (a .hyper) (a .numbers .now))
+right : (z : tie.Else-answer-ne-DONE) → let a = z.before.before.before.before.before.args in Right
+    (memory_list a.element a.hyper a.numbers.now)
 right z =
-    let a = z .before .before .before .before .before .args in
-    memory-right (a .element) (a .hyper) (a .numbers .now) (none z)
+    let a = z.before.before.before.before.before.args in
+    memory_right a.element a.hyper a.numbers.now (none z)
 
-check-numbers-requires : tie.Need-check-numbers-requires
-check-numbers-requires c κs = search needs
+check-numbers-requires : tie.Need-check_numbers-answer-requires
+check-numbers-requires c κs = search rules
 
-returns : tie.Need-returns
-returns c = written-refused _ _ _ _ _ _ (c .before .before .check-numbers .ensures) (c .if1 .taken)
+returns : tie.Need-returns-then-answer-ne-DONE
+returns c = written_refused _ _ _ _ _ _ c.before.before.check_numbers-answer.ensures c.if-answer-ne-DONE.true
 
-mul-if2 : tie.Need-mul-if2
-mul-if2 c = search needs
+mul-if2 : tie.Need-overflow_mul-entries
+mul-if2 c = search rules
 
-add-if2 : tie.Need-add-if2
-add-if2 c = search needs
+add-if2 : tie.Need-overflow_add-entries
+add-if2 c = search rules
 
 at-requires : tie.Need-at-requires
-at-requires c κs = search needs
+at-requires c κs = search rules
 
-returns-2 : tie.Need-returns-2
+returns-2 : tie.Need-returns-then-out-entries
 returns-2 c =
-    let z = c .before .before in
-    let a = z .before .before .before .before .before .args in
-    rw (c .at .ensures .0, c .at .ensures .1)
-    (written-short (a .element) (a .hyper) (a .numbers .now) (a .out .now) (none z) (c .before .if2 .taken))
+    let z = c.before.before in
+    let a = z.before.before.before.before.before.args in
+    rw (c.at.ensures.0, c.at.ensures.1)
+    (written_short a.element a.hyper a.numbers.now a.out.now (none z) c.before.if-out-entries.true)
 
-cast-put-head : tie.Need-cast-put-head
-cast-put-head c = omega (arith, right (c .before) .element-high)
+cast-put-head : tie.Need-overflow_cast-element
+cast-put-head c = omega (arith, (right c.before).element_high)
 
-cast-put-head-2 : tie.Need-cast-put-head-2
-cast-put-head-2 c = omega (arith, right (c .before) .hyper-high)
+cast-put-head-2 : tie.Need-overflow_cast-hyper
+cast-put-head-2 c = omega (arith, (right c.before).hyper_high)
 
-put-head-requires : tie.Need-put-head-requires
-put-head-requires c κs = search needs
+put-head-requires : tie.Need-put_head-requires
+put-head-requires c κs = search rules
 
-put-all-bytes-requires : tie.Need-put-all-bytes-requires
+put-all-bytes-requires : tie.Need-put_all_bytes-requires
 put-all-bytes-requires c κs =
-    let z = c .before .before .before .before .before .before in
-    let a = z .before .before .before .before .before .args in
-    let e = ap length (c .before .before .before .put-head .ensures) ∙ length-sets (a .out .now) 0 (fileHead (a .element) (a .hyper)) in
-    (omega arith, omega (arith, e), right-fits (right z))
+    let z = c.before.before.before.before.before.before in
+    let a = z.before.before.before.before.before.args in
+    let e = ap length c.before.before.before.put_head.ensures ∙ length-sets a.out.now 0 (file_head a.element a.hyper) in
+    (omega arith, omega (arith, e), right_fits (right z))
 
-same-length : tie.Need-same-length
-same-length c = search needs
+same_length : tie.Need-shape_of-out
+same_length c = search rules
 
-returns-3 : tie.Need-returns-3
-unfolding listBytes
+returns-3 : tie.Need-returns
+unfolding list_bytes
 returns-3 c =
-    let z = c .before .before .before .before .before .before .before .before .before in
-    let a = z .before .before .before .before .before .args in
-    let rows = each (length (a .numbers .now) / entryNumbers) (λ k. inFile (memoryEntry (a .numbers .now) k)) in
-    written-done _ _ _ _ _ _ _ (z .before .before .check-numbers .ensures) (z .if1 .left) (λ l. let z : ⊥ = omega arith in z)
-    (lent-headed (a .out .now) _ _ (fileHead (a .element) (a .hyper)) rows listHeader refl (omega arith)
-    (c .before .before .before .before .before .before .put-head .ensures) (c .before .before .put-all-bytes .ensures))
+    let z = c.before.before.before.before.before.before.before.before.before in
+    let a = z.before.before.before.before.before.args in
+    let rows = each (length a.numbers.now / entry_numbers) (λ k. in_file (memory_entry a.numbers.now k)) in
+    written_done _ _ _ _ _ _ _ z.before.before.check_numbers-answer.ensures z.if-answer-ne-DONE.false (λ l. let z : ⊥ = omega arith in z)
+    (lent_headed a.out.now _ _ (file_head a.element a.hyper) rows list_header refl (omega arith)
+    c.before.before.before.before.before.before.put_head.ensures c.before.before.put_all_bytes.ensures)
 
-pub write-spec : {M : Type 1} → statement M
-write-spec =
+pub write_spec : {M : Type 1} → statement M
+write_spec =
     tie.close
     (tie.spec
     check-numbers-requires
@@ -94,5 +94,5 @@ write-spec =
     cast-put-head-2
     put-head-requires
     put-all-bytes-requires
-    same-length
+    same_length
     returns-3)

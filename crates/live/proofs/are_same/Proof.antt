@@ -1,56 +1,56 @@
 -- `live::are_same` meets its contract.
-use mathlib.Core.Path.{_≡_}
-use Prim.Native.Nat.{_-_}
+use mathlib.Core.Path.{◌≡◌}
+use Prim.Native.Nat.{◌-◌}
 use native.Mathlib.Omega.{arith}
-use borrow.Author.Needs.{needs}
-use Rattle·numbers.specs.Lists.{at}
-use Rattle·rules.specs.Bounds.{max-elements}
-use Rattle·live·proofs.proofs.Seated.{Upto, upto-start, upto-next, upto-end, upto-stop}
-use Rattle·live·proofs.proofs.are_same.Statement.{statement}
-use Rattle·live·proofs.proofs.are_same.Tie as tie
+use borrow.Author.Rules.{rules}
+use Rattle.numbers.specs.Lists.{at}
+use Rattle.rules.specs.Bounds.{max_elements}
+use Rattle.live.proofs.Seated.{Upto, upto_start, upto_next, upto_end, upto_stop}
+use Rattle.live.proofs.are_same.Statement.{statement}
+use Rattle.live.proofs.are_same.Tie as tie
 
-abbrev Inv-loop : tie.InvT-loop
-Inv-loop a b s₀ s = Upto max-elements (λ j. at a j ≡ at b j) s
+abbrev invariant-loop : tie.invariant-loop-s
+invariant-loop a b s₀ s = Upto max_elements (λ j. at a j ≡ at b j) s
 
-abbrev μ-loop : tie.MeasureT-loop
-μ-loop a b s₀ s = max-elements - s
+abbrev decreases-loop : tie.decreases-loop-s
+decreases-loop a b s₀ s = max_elements - s
 
-loop-holds : tie.Need-loop-holds Inv-loop μ-loop
-loop-holds c = upto-start
+loop-holds : tie.Need-loop-s-init invariant-loop decreases-loop
+loop-holds c = upto_start
 
-mul-if1 : tie.Need-mul-if1 Inv-loop μ-loop
-mul-if1 c = search needs
+mul-if1 : tie.Need-offset_bounds-a-s invariant-loop decreases-loop
+mul-if1 c = search rules
 
-element-copy-out-if1 : tie.Need-element-copy-out-if1 Inv-loop μ-loop
-element-copy-out-if1 c = search needs
+element-copy-out-if1 : tie.Need-bounds-a-s invariant-loop decreases-loop
+element-copy-out-if1 c = search rules
 
-mul-if1-2 : tie.Need-mul-if1-2 Inv-loop μ-loop
-mul-if1-2 c = search needs
+mul-if1-2 : tie.Need-offset_bounds-b-s invariant-loop decreases-loop
+mul-if1-2 c = search rules
 
-element-copy-out-if1-2 : tie.Need-element-copy-out-if1-2 Inv-loop μ-loop
-element-copy-out-if1-2 c = search needs
+element-copy-out-if1-2 : tie.Need-bounds-b-s invariant-loop decreases-loop
+element-copy-out-if1-2 c = search rules
 
-returns : tie.Need-returns Inv-loop μ-loop
-returns c = upto-stop (c .before .before .before .before .loop .s) (omega arith) (c .if1 .taken)
+returns : tie.Need-returns-then-a-s invariant-loop decreases-loop
+returns c = upto_stop c.loop-s.s (omega arith) c.if-a-s.true
 
-add-s : tie.Need-add-s Inv-loop μ-loop
-add-s c = search needs
+add-s : tie.Need-overflow_add-s invariant-loop decreases-loop
+add-s c = search rules
 
-loop-less : tie.Need-loop-less Inv-loop μ-loop
-loop-less c = search needs
+loop-less : tie.Need-loop-s-smaller invariant-loop decreases-loop
+loop-less c = search rules
 
-loop-again : tie.Need-loop-again Inv-loop μ-loop
-loop-again c = upto-next (c .before .before .before .before .loop .inv) (omega arith) (c .if1 .left)
+loop-again : tie.Need-loop-s-preserved invariant-loop decreases-loop
+loop-again c = upto_next c.loop-s.invariant (omega arith) c.if-a-s.false
 
-returns-2 : tie.Need-returns-2 Inv-loop μ-loop
-returns-2 c = upto-end (c .before .loop .inv) (omega arith)
+returns-2 : tie.Need-returns invariant-loop decreases-loop
+returns-2 c = upto_end c.loop-s.invariant (omega arith)
 
-pub are-same-spec : {M : Type 1} → statement M
-are-same-spec =
+pub are_same_spec : {M : Type 1} → statement M
+are_same_spec =
     tie.close
     (tie.spec
-    Inv-loop
-    μ-loop
+    invariant-loop
+    decreases-loop
     loop-holds
     mul-if1
     element-copy-out-if1

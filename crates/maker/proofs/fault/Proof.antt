@@ -1,58 +1,58 @@
 -- `maker::fault` meets its contract.
 use native.Mathlib.Omega.{arith}
-use borrow.Author.Needs.{needs}
-use Rattle·maker·proofs.proofs.Finding.{no-element, a-bad-word, a-short-plan, no-fault}
-use Rattle·maker·proofs.proofs.fault.Statement.{statement}
-use Rattle·maker·proofs.proofs.fault.Tie as tie
+use borrow.Author.Rules.{rules}
+use Rattle.maker.proofs.Finding.{no_element, a_bad_word, a_short_plan, no_fault}
+use Rattle.maker.proofs.fault.Statement.{statement}
+use Rattle.maker.proofs.fault.Tie as tie
 
 at-requires : tie.Need-at-requires
-at-requires c κs = search needs
+at-requires c κs = search rules
 
-returns : tie.Need-returns
+returns : tie.Need-returns-then-element-eq0
 returns c t plan m w h L =
-    no-element t plan (c .before .before .args .element) _ _ (λ q. omega (arith, c .before .if1 .taken, q .0)) (c .at .ensures)
+    no_element t plan c.args.element _ _ (λ q. omega (arith, c.if-element-eq0.true, q.0)) c.at.ensures
 
-at-requires-2 : tie.Need-at-requires-2
-at-requires-2 c κs = search needs
+at-requires-2 : tie.Need-at-requires-then-element-elements
+at-requires-2 c κs = search rules
 
-returns-2 : tie.Need-returns-2
+returns-2 : tie.Need-returns-then-element-elements
 returns-2 c t plan m w h L =
-    no-element t plan (c .before .before .before .args .element) _ _ (λ q. omega (arith, c .before .if2 .taken, q .1)) (c .at2 .ensures)
+    no_element t plan c.args.element _ _ (λ q. omega (arith, c.if-element-elements.true, q.1)) c.at-then-element-elements.ensures
 
-at-requires-3 : tie.Need-at-requires-3
-at-requires-3 c κs = search needs
+at-requires-3 : tie.Need-at-requires-then-slot-hyper
+at-requires-3 c κs = search rules
 
-returns-3 : tie.Need-returns-3
+returns-3 : tie.Need-returns-then-slot-hyper
 returns-3 c t plan m w h L =
-    let e = c .before .before in
-    let a = e .before .before .args in
-    a-bad-word t plan (a .element) (omega (arith, e .before .if1 .left)) (omega (arith, e .if2 .left)) (a .slot) (rw h at L) _ _
-    (omega (arith, c .before .if3 .taken)) (c .at3 .ensures)
+    let e = c in
+    let a = e.args in
+    a_bad_word t plan a.element (omega (arith, e.if-element-eq0.false)) (omega (arith, e.if-element-elements.false)) a.slot (rw h at L) _ _
+    (omega (arith, c.if-slot-hyper.true)) c.at-then-slot-hyper.ensures
 
-at-requires-4 : tie.Need-at-requires-4
-at-requires-4 c κs = search needs
+at-requires-4 : tie.Need-at-requires-then-words-hyper
+at-requires-4 c κs = search rules
 
-returns-4 : tie.Need-returns-4
+returns-4 : tie.Need-returns-then-words-hyper
 returns-4 c t plan m w h L =
-    let s = c .before .before in
-    let e = s .before in
-    let a = e .before .before .args in
-    a-short-plan t plan (a .element) (omega (arith, e .before .if1 .left)) (omega (arith, e .if2 .left)) (a .slot) (rw h at L)
-    (omega (arith, s .if3 .left)) _ _ (omega (arith, c .before .if4 .taken)) (c .at4 .ensures)
+    let s = c in
+    let e = s in
+    let a = e.args in
+    a_short_plan t plan a.element (omega (arith, e.if-element-eq0.false)) (omega (arith, e.if-element-elements.false)) a.slot (rw h at L)
+    (omega (arith, s.if-slot-hyper.false)) _ _ (omega (arith, c.if-words-hyper.true)) c.at-then-words-hyper.ensures
 
 done-requires : tie.Need-done-requires
-done-requires c κs = search needs
+done-requires c κs = search rules
 
-returns-5 : tie.Need-returns-5
+returns-5 : tie.Need-returns
 returns-5 c t plan m w h L =
-    let s = c .before .before in
-    let e = s .before in
-    let a = e .before .before .args in
-    no-fault t plan (a .element) (omega (arith, e .before .if1 .left)) (omega (arith, e .if2 .left)) (a .slot) (rw h at L)
-    (omega (arith, s .if3 .left)) _ _ (omega (arith, c .before .if4 .left)) (c .done .ensures)
+    let s = c in
+    let e = s in
+    let a = e.args in
+    no_fault t plan a.element (omega (arith, e.if-element-eq0.false)) (omega (arith, e.if-element-elements.false)) a.slot (rw h at L)
+    (omega (arith, s.if-slot-hyper.false)) _ _ (omega (arith, c.if-words-hyper.false)) c.done.ensures
 
-pub fault-spec : {M : Type 1} → statement M
-fault-spec =
+pub fault_spec : {M : Type 1} → statement M
+fault_spec =
     tie.close
     (tie.spec
     at-requires

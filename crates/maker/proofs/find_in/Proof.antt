@@ -1,98 +1,98 @@
 -- `maker::find_in` meets its contract.
 use mathlib.Core.List.{List}
 use Prim.Native.Nat.{ℕ}
-use borrow.Author.Needs.{needs}
-use Rattle·rules.specs.Calls.{oneRingAsk}
-use Rattle·rules.proofs.Answers.{None}
-use Rattle·decoding.proofs.OneRing.{OtherMark}
-use Rattle·maker·proofs.proofs.Finding.{mark-stops, admitted-finds}
-use Rattle·maker·proofs.proofs.Judged.{judged-refused, judged-none, judged-table}
-use Rattle·maker·proofs.proofs.find_in.Statement.{statement}
-use Rattle·maker·proofs.proofs.find_in.Tie as tie
+use borrow.Author.Rules.{rules}
+use Rattle.rules.specs.Calls.{one_ring_ask}
+use Rattle.rules.proofs.Answers.{None}
+use Rattle.decoding.proofs.OneRing.{OtherMark}
+use Rattle.maker.proofs.Finding.{mark_stops, admitted_finds}
+use Rattle.maker.proofs.Judged.{judged_refused, judged_none, judged_table}
+use Rattle.maker.proofs.find_in.Statement.{statement}
+use Rattle.maker.proofs.find_in.Tie as tie
 
-abbrev start : tie.After-judge → tie.Start
-start c = c .before .before .before .before .before
+abbrev start : tie.After-judge-verdict → tie.Start
+start c = c.before.before.before.before.before
 
-abbrev bytes : tie.After-judge → List ℕ
-bytes c = start c .args .file .now
+abbrev bytes : tie.After-judge-verdict → List ℕ
+bytes c = (start c).args.file.now
 
 -- the file has no other mark
-own : (c : tie.After-judge) → OtherMark (bytes c) → ⊥
-own c = c .before .before .has-other-mark .ensures .fails (c .before .if1 .left)
+own : (c : tie.After-judge-verdict) → OtherMark (bytes c) → ⊥
+own c = c.has_other_mark.ensures.fails c.if-has_other_mark.false
 
-has-other-mark-requires : tie.Need-has-other-mark-requires
-has-other-mark-requires c κs = search needs
+has-other-mark-requires : tie.Need-has_other_mark-requires
+has-other-mark-requires c κs = search rules
 
 at-requires : tie.Need-at-requires
-at-requires c κs = search needs
+at-requires c κs = search rules
 
 nothing-requires : tie.Need-nothing-requires
-nothing-requires c κs = search needs
+nothing-requires c κs = search rules
 
-returns : tie.Need-returns
+returns : tie.Need-returns-then-has_other_mark
 returns c =
-    let m = c .before .before in
-    let a = m .before .before .before .before .args in
-    mark-stops (a .file .now) (a .plan .now) (a .element) (c .before .at .result) (c .nothing .result) (c .nothing .ensures .answer)
-    (c .before .at .ensures) (m .before .has-other-mark .ensures .holds (m .if1 .taken))
+    let m = c in
+    let a = m.args in
+    mark_stops a.file.now a.plan.now a.element c.at.result c.nothing.result c.nothing.ensures.answer
+    c.at.ensures (m.has_other_mark.ensures.holds m.if-has_other_mark.true)
 
-judge-requires : tie.Need-judge-requires
-judge-requires c κs = search needs
+judge-requires : tie.Need-judge-verdict-requires
+judge-requires c κs = search rules
 
-enum-known-verdict : tie.Need-enum-known-verdict
-enum-known-verdict c = search needs
+enum-known-verdict : tie.Need-enum_known-verdict
+enum-known-verdict c = search rules
 
-enum-told : tie.Need-enum-told
-enum-told c = search needs
+enum_told : tie.Need-enum_told-1
+enum_told c = search rules
 
 number-requires : tie.Need-number-requires
-number-requires c κs = search needs
+number-requires c κs = search rules
 
 place-requires : tie.Need-place-requires
-place-requires c κs = search needs
+place-requires c κs = search rules
 
-nothing-requires-2 : tie.Need-nothing-requires-2
-nothing-requires-2 c κs = search needs
+nothing-requires-2 : tie.Need-nothing-requires-in_default
+nothing-requires-2 c κs = search rules
 
-returns-2 : tie.Need-returns-2
+returns-2 : tie.Need-returns-in_default
 returns-2 c =
-    let j = c .before .before .before .before .before in
-    let a = start j .args in
-    judged-refused (bytes j) (a .plan .now) (a .element) (j .judge .result) _ (own j) (j .judge .ensures)
-    (c .before .before .before .enum-told .given .1)
-    _ _ (c .before .before .number .ensures) (c .before .place .ensures) (c .nothing2 .result) (c .nothing2 .ensures .answer)
+    let j = c.before.before.before.before in
+    let a = (start j).args in
+    judged_refused (bytes j) a.plan.now a.element j.judge-verdict.result _ (own j) j.judge-verdict.ensures
+    c.in_default.is
+    _ _ c.number.ensures c.place.ensures c.nothing-in_default.result c.nothing-in_default.ensures.answer
 
-decode-requires : tie.Need-decode-requires
-decode-requires c κs = search needs
+decode-requires : tie.Need-decode-found-requires
+decode-requires c κs = search rules
 
 -- the verdict admits
-admitted : (c : tie.After-decode)
-    → let j = c .before .before .before .before in
-    None (oneRingAsk (bytes j) .checks)
+admitted : (c : tie.After-decode-found)
+    → let j = c.before.before in
+    None (one_ring_ask (bytes j)).checks
 admitted c =
-    let j = c .before .before .before .before in
-    judged-none (bytes j) (j .judge .result) _ _ _ _ _ _ (own j) (j .judge .ensures) (c .before .before .verdict .given .1)
+    let j = c.before.before in
+    judged_none (bytes j) j.judge-verdict.result _ _ _ _ _ _ (own j) j.judge-verdict.ensures c.in-Admitted.is
 
-cast-find-on : tie.Need-cast-find-on
-cast-find-on c = search needs
+cast-find-on : tie.Need-overflow_cast-hyper
+cast-find-on c = search rules
 
-find-on-requires : tie.Need-find-on-requires
+find-on-requires : tie.Need-find_on-requires
 find-on-requires c κs =
-    let j = c .before .before .before .before in
-    judged-table (bytes j) (j .judge .result) _ _ _ _ _ _ (own j) (j .judge .ensures)
-    (c .before .before .verdict .given .1) (c .decode .result)
-    (c .decode .ensures)
+    let j = c.before.before.before in
+    judged_table (bytes j) j.judge-verdict.result _ _ _ _ _ _ (own j) j.judge-verdict.ensures
+    c.in-Admitted.is c.decode-found.result
+    c.decode-found.ensures
 
-returns-3 : tie.Need-returns-3
+returns-3 : tie.Need-returns
 returns-3 c =
-    let d = c .before in
-    let j = d .before .before .before .before in
-    let a = start j .args in
-    admitted-finds (bytes j) (a .plan .now) (a .element) (admitted d) (d .decode .result) (d .decode .ensures) (c .find-on .result)
-    (c .find-on .ensures)
+    let d = c.before.before in
+    let j = d.before.before in
+    let a = (start j).args in
+    admitted_finds (bytes j) a.plan.now a.element (admitted d) d.decode-found.result d.decode-found.ensures c.find_on.result
+    c.find_on.ensures
 
-pub find-in-spec : {M : Type 1} → statement M
-find-in-spec =
+pub find_in_spec : {M : Type 1} → statement M
+find_in_spec =
     tie.close
     (tie.spec
     has-other-mark-requires
@@ -101,7 +101,7 @@ find-in-spec =
     returns
     judge-requires
     enum-known-verdict
-    enum-told
+    enum_told
     number-requires
     place-requires
     nothing-requires-2

@@ -1,80 +1,80 @@
 -- `maker::make` meets its contract.
-use mathlib.Core.Path.{_≡_, ap, _∙_}
+use mathlib.Core.Path.{◌≡◌, ap, ◌∙◌}
 use mathlib.Core.List.{List}
-use Prim.Native.Nat.{ℕ, _+_, _*_}
+use Prim.Native.Nat.{ℕ, ◌+◌, ◌*◌}
 use native.Mathlib.Omega.{arith}
 use lib.ListN.{length}
-use borrow.Author.Needs.{needs}
-use Rattle·rules.specs.TableFile.{fileTable}
-use Rattle·rules.specs.ElementList.{entryNumbers, inMemory, listNumbers, movesList}
-use Rattle·rules.specs.Calls.{oneRingAsk, lent}
-use Rattle·lists.proofs.RoundTrip.{numbers-length}
-use Rattle·maker·specs.specs.Words.{flat}
-use Rattle·maker·specs.specs.Finding.{Makeable}
-use Rattle·maker·proofs.proofs.Answered.{numbers-are, made-refused, made-done}
-use Rattle·maker·proofs.proofs.make.Statement.{statement}
-use Rattle·maker·proofs.proofs.make.Tie as tie
+use borrow.Author.Rules.{rules}
+use Rattle.rules.specs.TableFile.{file_table}
+use Rattle.rules.specs.ElementList.{entry_numbers, in_memory, list_numbers, moves_list}
+use Rattle.rules.specs.Calls.{one_ring_ask, lent}
+use Rattle.lists.proofs.RoundTrip.{numbers_length}
+use Rattle.maker.specs.Words.{flat}
+use Rattle.maker.specs.Finding.{Makeable}
+use Rattle.maker.proofs.Answered.{numbers_are, made_refused, made_done}
+use Rattle.maker.proofs.make.Statement.{statement}
+use Rattle.maker.proofs.make.Tie as tie
 
-abbrev start : tie.After-find-for → tie.Start
-start c = c .before .before .before .before
+abbrev start : tie.After-find_for-found → tie.Start
+start c = c.before.before.before.before
 
-abbrev bytes : tie.After-find-for → List ℕ
-bytes c = start c .args .file .now
+abbrev bytes : tie.After-find_for-found → List ℕ
+bytes c = (start c).args.file.now
 
 -- how many numbers are wanted
-wanted : (c : tie.After-find-for)
-    → let l = movesList (fileTable (bytes c)) (start c .args .element) (start c .args .plan .now) in
-    length (listNumbers l) ≡ 0 + entryNumbers * l .entries
+wanted : (c : tie.After-find_for-found)
+    → let l = moves_list (file_table (bytes c)) (start c).args.element (start c).args.plan.now in
+    length (list_numbers l) ≡ 0 + entry_numbers * l.entries
 wanted c =
-    omega (arith, numbers-length (movesList (fileTable (bytes c)) (start c .args .element) (start c .args .plan .now)))
+    omega (arith, numbers_length (moves_list (file_table (bytes c)) (start c).args.element (start c).args.plan.now))
 
-abbrev found : tie.Else1 → tie.After-find-for
-found c = c .before .before .before
+abbrev found : tie.Else-answer-ne-DONE → tie.After-find_for-found
+found c = c.before.before.before
 
-ready : (c : tie.Else1)
+ready : (c : tie.Else-answer-ne-DONE)
     → let f = found c in
-    Makeable (fileTable (bytes f)) (start f .args .plan .now) (start f .args .element) (f .find-for .result)
-ready c = found c .find-for .ensures .ready (c .if1 .left)
+    Makeable (file_table (bytes f)) (start f).args.plan.now (start f).args.element f.find_for-found.result
+ready c = (found c).find_for-found.ensures.ready c.if-answer-ne-DONE.false
 
-find-for-requires : tie.Need-find-for-requires
-find-for-requires c κs = search needs
+find-for-requires : tie.Need-find_for-found-requires
+find-for-requires c κs = search rules
 
-made-of-requires : tie.Need-made-of-requires
-made-of-requires c κs = search needs
+made-of-requires : tie.Need-made_of-requires
+made-of-requires c κs = search rules
 
-returns : tie.Need-returns
+returns : tie.Need-returns-then-answer-ne-DONE
 returns c =
-    let f = c .before .before .before .before in
-    let a = start f .args in
-    made-refused (oneRingAsk (bytes f)) (a .plan .now) (a .element) listNumbers (a .out .now) (wanted f) (f .find-for .ensures)
-    (c .made-of .ensures) (c .before .if1 .taken)
+    let f = c.before.before.before.before in
+    let a = (start f).args in
+    made_refused (one_ring_ask (bytes f)) a.plan.now a.element list_numbers a.out.now (wanted f) f.find_for-found.ensures
+    c.made_of.ensures c.if-answer-ne-DONE.true
 
-put-numbers-requires : tie.Need-put-numbers-requires
+put-numbers-requires : tie.Need-put_numbers-requires
 put-numbers-requires c κs =
-    let z = c .before in
+    let z = c.before in
     let R = ready z in
-    (R .long, R .short, R .clear, omega (arith, found z .find-for .ensures .enough (z .if1 .left), ap length (R .moves)))
+    (R.long, R.short, R.clear, omega (arith, (found z).find_for-found.ensures.enough z.if-answer-ne-DONE.false, ap length R.moves))
 
-made-of-requires-2 : tie.Need-made-of-requires-2
-made-of-requires-2 c κs = search needs
+made-of-requires-2 : tie.Need-made_of-requires-2
+made-of-requires-2 c κs = search rules
 
-same-length : tie.Need-same-length
-same-length c = search needs
+same_length : tie.Need-shape_of-out
+same_length c = search rules
 
-returns-2 : tie.Need-returns-2
+returns-2 : tie.Need-returns
 returns-2 c =
-    let p = c .before .before .before in
-    let z = p .before .before in
+    let p = c in
+    let z = p.before.before.before.before.before in
     let f = found z in
-    let a = start f .args in
-    made-done (oneRingAsk (bytes f)) (a .plan .now) (a .element) listNumbers (a .out .now) (wanted f) (f .find-for .ensures)
-    (c .made-of2 .ensures) (z .if1 .left) _
-    (p .put-numbers .ensures
-    ∙ ap (λ (xs : List ℕ). lent xs (a .out .now))
-    (ap (flat inMemory) (ready z .moves) ∙ numbers-are (fileTable (bytes f)) (a .element) (a .plan .now)))
+    let a = (start f).args in
+    made_done (one_ring_ask (bytes f)) a.plan.now a.element list_numbers a.out.now (wanted f) f.find_for-found.ensures
+    c.made_of-2.ensures z.if-answer-ne-DONE.false _
+    (p.put_numbers.ensures
+    ∙ ap (λ (xs : List ℕ). lent xs a.out.now)
+    (ap (flat in_memory) (ready z).moves ∙ numbers_are (file_table (bytes f)) a.element a.plan.now))
 
-pub make-spec : {M : Type 1} → statement M
-make-spec =
+pub make_spec : {M : Type 1} → statement M
+make_spec =
     tie.close
     (tie.spec
     find-for-requires
@@ -82,5 +82,5 @@ make-spec =
     returns
     put-numbers-requires
     made-of-requires-2
-    same-length
+    same_length
     returns-2)

@@ -1,106 +1,106 @@
 -- `maker::make_file` meets its contract.
-use mathlib.Core.Path.{_≡_, refl, ap, _∙_}
+use mathlib.Core.Path.{◌≡◌, refl, ap, ◌∙◌}
 use mathlib.Core.List.{List}
-use Prim.Native.Nat.{ℕ, _+_, _*_, _≤_}
+use Prim.Native.Nat.{ℕ, ◌+◌, ◌*◌, ◌≤◌}
 use native.Mathlib.Omega.{arith}
 use lib.ListN.{length}
 use lib.Seq.{length-sets}
-use borrow.Author.Needs.{needs}
-use Rattle·rules.specs.TableFile.{fileTable}
-use Rattle·rules.specs.Loads.{hyperperiod}
-use Rattle·rules.specs.ElementList.{listHeader, entrySize, inFile, fileHead, elementMoves, listBytes, movesList}
-use Rattle·rules.specs.Calls.{oneRingAsk, lent}
-use Rattle·rules.proofs.Calls.{lent-headed}
-use Rattle·lists.proofs.RoundTrip.{bytes-length}
-use Rattle·maker·specs.specs.Words.{flat}
-use Rattle·maker·specs.specs.Finding.{Makeable}
-use Rattle·maker·proofs.proofs.Answered.{bytes-are, made-refused, made-done}
-use Rattle·maker·proofs.proofs.make_file.Statement.{statement}
-use Rattle·maker·proofs.proofs.make_file.Tie as tie
+use borrow.Author.Rules.{rules}
+use Rattle.rules.specs.TableFile.{file_table}
+use Rattle.rules.specs.Loads.{hyperperiod}
+use Rattle.rules.specs.ElementList.{list_header, entry_size, in_file, file_head, element_moves, list_bytes, moves_list}
+use Rattle.rules.specs.Calls.{one_ring_ask, lent}
+use Rattle.rules.proofs.Calls.{lent_headed}
+use Rattle.lists.proofs.RoundTrip.{bytes_length}
+use Rattle.maker.specs.Words.{flat}
+use Rattle.maker.specs.Finding.{Makeable}
+use Rattle.maker.proofs.Answered.{bytes_are, made_refused, made_done}
+use Rattle.maker.proofs.make_file.Statement.{statement}
+use Rattle.maker.proofs.make_file.Tie as tie
 
-abbrev start : tie.After-find-for → tie.Start
-start c = c .before .before .before .before
+abbrev start : tie.After-find_for-found → tie.Start
+start c = c.before.before.before.before
 
-abbrev bytes : tie.After-find-for → List ℕ
-bytes c = start c .args .file .now
+abbrev bytes : tie.After-find_for-found → List ℕ
+bytes c = (start c).args.file.now
 
 -- how many bytes are wanted
-wanted : (c : tie.After-find-for)
-    → let l = movesList (fileTable (bytes c)) (start c .args .element) (start c .args .plan .now) in
-    length (listBytes l) ≡ listHeader + entrySize * l .entries
+wanted : (c : tie.After-find_for-found)
+    → let l = moves_list (file_table (bytes c)) (start c).args.element (start c).args.plan.now in
+    length (list_bytes l) ≡ list_header + entry_size * l.entries
 wanted c =
-    omega (arith, bytes-length (movesList (fileTable (bytes c)) (start c .args .element) (start c .args .plan .now)))
+    omega (arith, bytes_length (moves_list (file_table (bytes c)) (start c).args.element (start c).args.plan.now))
 
-abbrev found : tie.Else1 → tie.After-find-for
-found c = c .before .before .before
+abbrev found : tie.Else-answer-ne-DONE → tie.After-find_for-found
+found c = c.before.before.before
 
-ready : (c : tie.Else1)
+ready : (c : tie.Else-answer-ne-DONE)
     → let f = found c in
-    Makeable (fileTable (bytes f)) (start f .args .plan .now) (start f .args .element) (f .find-for .result)
-ready c = found c .find-for .ensures .ready (c .if1 .left)
+    Makeable (file_table (bytes f)) (start f).args.plan.now (start f).args.element f.find_for-found.result
+ready c = (found c).find_for-found.ensures.ready c.if-answer-ne-DONE.false
 
-find-for-requires : tie.Need-find-for-requires
-find-for-requires c κs = search needs
+find-for-requires : tie.Need-find_for-found-requires
+find-for-requires c κs = search rules
 
-made-of-requires : tie.Need-made-of-requires
-made-of-requires c κs = search needs
+made-of-requires : tie.Need-made_of-requires
+made-of-requires c κs = search rules
 
-returns : tie.Need-returns
+returns : tie.Need-returns-then-answer-ne-DONE
 returns c =
-    let f = c .before .before .before .before in
-    let a = start f .args in
-    made-refused (oneRingAsk (bytes f)) (a .plan .now) (a .element) listBytes (a .out .now) (wanted f) (f .find-for .ensures)
-    (c .made-of .ensures) (c .before .if1 .taken)
+    let f = c.before.before.before.before in
+    let a = (start f).args in
+    made_refused (one_ring_ask (bytes f)) a.plan.now a.element list_bytes a.out.now (wanted f) f.find_for-found.ensures
+    c.made_of.ensures c.if-answer-ne-DONE.true
 
-cast-put-head : tie.Need-cast-put-head
-cast-put-head c = omega (arith, ready c .element-small)
+cast-put-head : tie.Need-overflow_cast-element
+cast-put-head c = omega (arith, (ready c).element_small)
 
-cast-put-head-2 : tie.Need-cast-put-head-2
-cast-put-head-2 c = omega (arith, ready (c .before) .short)
+cast-put-head-2 : tie.Need-overflow_cast-found
+cast-put-head-2 c = omega (arith, (ready c.before).short)
 
 -- the head's room, and the entries'
-room : (c : tie.Else1)
+room : (c : tie.Else-answer-ne-DONE)
     → let f = found c in
-    listHeader + entrySize * movesList (fileTable (bytes f)) (start f .args .element) (start f .args .plan .now) .entries
-    ≤ length (start f .args .out .now)
-room c = found c .find-for .ensures .enough (c .if1 .left)
+    list_header + entry_size * (moves_list (file_table (bytes f)) (start f).args.element (start f).args.plan.now).entries
+    ≤ length (start f).args.out.now
+room c = (found c).find_for-found.ensures.enough c.if-answer-ne-DONE.false
 
-put-head-requires : tie.Need-put-head-requires
-put-head-requires c κs = omega (arith, room (c .before .before))
+put-head-requires : tie.Need-put_head-requires
+put-head-requires c κs = omega (arith, room c.before.before)
 
-put-bytes-requires : tie.Need-put-bytes-requires
+put-bytes-requires : tie.Need-put_bytes-requires
 put-bytes-requires c κs =
-    let p = c .before .before .before in
-    let z = p .before .before .before in
+    let p = c in
+    let z = p.before.before.before.before.before.before in
     let f = found z in
     let R = ready z in
-    let h = ap length (p .put-head .ensures)
-    ∙ length-sets (start f .args .out .now) 0 (fileHead (start f .args .element) (f .find-for .result .hyper)) in
-    (R .long, R .short, R .clear, omega (arith, room z, ap length (R .moves), h))
+    let h = ap length p.put_head.ensures
+    ∙ length-sets (start f).args.out.now 0 (file_head (start f).args.element f.find_for-found.result.hyper) in
+    (R.long, R.short, R.clear, omega (arith, room z, ap length R.moves, h))
 
-made-of-requires-2 : tie.Need-made-of-requires-2
-made-of-requires-2 c κs = search needs
+made-of-requires-2 : tie.Need-made_of-requires-2
+made-of-requires-2 c κs = search rules
 
-same-length : tie.Need-same-length
-same-length c = search needs
+same_length : tie.Need-shape_of-out
+same_length c = search rules
 
-returns-2 : tie.Need-returns-2
+returns-2 : tie.Need-returns
 returns-2 c =
-    let b = c .before .before .before in
-    let p = b .before .before .before .before in
-    let z = p .before .before .before in
+    let b = c in
+    let p = b in
+    let z = p.before.before.before.before.before.before.before.before.before.before in
     let f = found z in
-    let a = start f .args in
-    let t = fileTable (bytes f) in
+    let a = (start f).args in
+    let t = file_table (bytes f) in
     let R = ready z in
-    made-done (oneRingAsk (bytes f)) (a .plan .now) (a .element) listBytes (a .out .now) (wanted f) (f .find-for .ensures)
-    (c .made-of2 .ensures) (z .if1 .left) _
-    (lent-headed (a .out .now) _ _ (fileHead (a .element) (hyperperiod t)) (flat inFile (elementMoves t (a .element) (a .plan .now)))
-    listHeader refl (omega (arith, room z)) (rw (R .hyper) at (p .put-head .ensures)) (rw (R .moves) at (b .put-bytes .ensures))
-    ∙ ap (λ (xs : List ℕ). lent xs (a .out .now)) (bytes-are t (a .element) (a .plan .now)))
+    made_done (one_ring_ask (bytes f)) a.plan.now a.element list_bytes a.out.now (wanted f) f.find_for-found.ensures
+    c.made_of-2.ensures z.if-answer-ne-DONE.false _
+    (lent_headed a.out.now _ _ (file_head a.element (hyperperiod t)) (flat in_file (element_moves t a.element a.plan.now))
+    list_header refl (omega (arith, room z)) (rw R.hyper at p.put_head.ensures) (rw R.moves at b.put_bytes.ensures)
+    ∙ ap (λ (xs : List ℕ). lent xs a.out.now) (bytes_are t a.element a.plan.now))
 
-pub make-file-spec : {M : Type 1} → statement M
-make-file-spec =
+pub make_file_spec : {M : Type 1} → statement M
+make_file_spec =
     tie.close
     (tie.spec
     find-for-requires
@@ -111,5 +111,5 @@ make-file-spec =
     put-head-requires
     put-bytes-requires
     made-of-requires-2
-    same-length
+    same_length
     returns-2)

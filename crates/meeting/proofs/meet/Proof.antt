@@ -1,75 +1,75 @@
 -- `meeting::meet` meets its contract: 1 to 9 as they are decoded, 32 for either row, or the segments that both use.
 use mathlib.Core.List.{List}
 use Prim.Native.Nat.{ℕ}
-use borrow.Author.Needs.{needs}
-use Rattle·meeting·proofs.proofs.Asked.{met-refused, met-routes, no-first-row, no-second-row, met-done}
-use Rattle·meeting·proofs.proofs.meet.Statement.{statement}
-use Rattle·meeting·proofs.proofs.meet.Tie as tie
+use borrow.Author.Rules.{rules}
+use Rattle.meeting.proofs.Asked.{met_refused, met_routes, no_first_row, no_second_row, met_done}
+use Rattle.meeting.proofs.meet.Statement.{statement}
+use Rattle.meeting.proofs.meet.Tie as tie
 
-abbrev decoded : tie.Else1 → tie.After-decode
-decoded c = c .before .before .before
+abbrev decoded : tie.Else-answer-ne-DONE → tie.After-decode-found
+decoded c = c.before.before.before
 
-abbrev entry : tie.After-decode → tie.Start
-entry d = d .before .before
+abbrev entry : tie.After-decode-found → tie.Start
+entry d = d.before.before
 
-abbrev bytes : tie.After-decode → List ℕ
-bytes d = entry d .args .file .now
+abbrev bytes : tie.After-decode-found → List ℕ
+bytes d = (entry d).args.file.now
 
-decode-requires : tie.Need-decode-requires
-decode-requires c κs = search needs
+decode-requires : tie.Need-decode-found-requires
+decode-requires c κs = search rules
 
-returns : tie.Need-returns
+returns : tie.Need-returns-then-answer-ne-DONE
 returns c =
-    let d = c .before .before .before in
-    met-refused (bytes d) (entry d .args .i) (entry d .args .j) (d .decode .result) (d .decode .ensures) (c .if1 .taken)
+    let d = c.before.before.before in
+    met_refused (bytes d) (entry d).args.i (entry d).args.j d.decode-found.result d.decode-found.ensures c.if-answer-ne-DONE.true
 
 at-requires : tie.Need-at-requires
-at-requires c κs = search needs
+at-requires c κs = search rules
 
-returns-2 : tie.Need-returns-2
+returns-2 : tie.Need-returns-then-i-rows
 returns-2 c =
-    let e = c .before .before in
+    let e = c.before.before in
     let d = decoded e in
-    no-first-row (bytes d) (entry d .args .i) (entry d .args .j) (d .decode .result) (d .decode .ensures) (e .if1 .left) _ _
-    (c .before .if2 .taken) (c .at .ensures)
+    no_first_row (bytes d) (entry d).args.i (entry d).args.j d.decode-found.result d.decode-found.ensures e.if-answer-ne-DONE.false _ _
+    c.if-i-rows.true c.at.ensures
 
-at-requires-2 : tie.Need-at-requires-2
-at-requires-2 c κs = search needs
+at-requires-2 : tie.Need-at-requires-then-j-rows
+at-requires-2 c κs = search rules
 
-returns-3 : tie.Need-returns-3
+returns-3 : tie.Need-returns-then-j-rows
 returns-3 c =
-    let l = c .before .before in
-    let e = l .before in
+    let l = c in
+    let e = l.before.before.before in
     let d = decoded e in
-    no-second-row (bytes d) (entry d .args .i) (entry d .args .j) (d .decode .result) (d .decode .ensures) (e .if1 .left) (l .if2 .left) _ _
-    (c .before .if3 .taken) (c .at2 .ensures)
+    no_second_row (bytes d) (entry d).args.i (entry d).args.j d.decode-found.result d.decode-found.ensures e.if-answer-ne-DONE.false l.if-i-rows.false _ _
+    c.if-j-rows.true c.at-then-j-rows.ensures
 
 done-requires : tie.Need-done-requires
-done-requires c κs = search needs
+done-requires c κs = search rules
 
 shared-requires : tie.Need-shared-requires
 shared-requires c κs =
-    let k = c .before .before .before .before .before in
-    let e = k .before .before in
+    let k = c in
+    let e = k.before.before.before.before.before.before in
     let d = decoded e in (
-      d .decode .result .columns .rows,
-      met-routes (bytes d) (entry d .args .i) (entry d .args .j) (d .decode .result) (d .decode .ensures) (e .if1 .left),
-      k .before .if2 .left,
-      k .if3 .left,
+      d.decode-found.result.columns.rows,
+      met_routes (bytes d) (entry d).args.i (entry d).args.j d.decode-found.result d.decode-found.ensures e.if-answer-ne-DONE.false,
+      k.if-i-rows.false,
+      k.if-j-rows.false,
     )
 
-returns-4 : tie.Need-returns-4
+returns-4 : tie.Need-returns
 returns-4 c =
-    let n = c .before .before .before .before .before in
-    let k = n .before in
-    let l = k .before in
-    let e = l .before in
+    let n = c in
+    let k = n in
+    let l = k in
+    let e = l.before.before.before.before.before.before.before in
     let d = decoded e in
-    met-done (bytes d) (entry d .args .i) (entry d .args .j) (d .decode .result) (d .decode .ensures) (e .if1 .left) (l .if2 .left) _ _ _
-    (k .if3 .left) (n .done .ensures) (c .shared .ensures _)
+    met_done (bytes d) (entry d).args.i (entry d).args.j d.decode-found.result d.decode-found.ensures e.if-answer-ne-DONE.false l.if-i-rows.false _ _ _
+    k.if-j-rows.false n.done.ensures (c.shared.ensures _)
 
-pub meet-spec : {M : Type 1} → statement M
-meet-spec =
+pub meet_spec : {M : Type 1} → statement M
+meet_spec =
     tie.close
     (tie.spec
     decode-requires

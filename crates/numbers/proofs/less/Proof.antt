@@ -1,35 +1,35 @@
 -- less: both fit an i64, and so does the difference.
-use mathlib.Core.Path.{_≡_, ap₂, _∙_}
-use lib.IntN.{pos, _-ℤ_}
-use Prim.Native.Nat.{ℕ, _<_, _^_}
+use mathlib.Core.Path.{◌≡◌, ap₂, ◌∙◌}
+use lib.IntN.{pos, ◌-ℤ◌}
+use Prim.Native.Nat.{ℕ, ◌<◌, ◌^◌}
 use mir.Syntax.{w64}
-use mir.Val.{SFits, toZ}
-use mir.ValLaws.{toZ-pos, toZ-ofZ}
-use borrow.Author.Needs.{needs}
-use Rattle·numbers·proofs.proofs.Signed.{diff-mag}
-use Rattle·numbers·proofs.proofs.less.Statement.{statement}
-use Rattle·numbers·proofs.proofs.less.Tie as tie
+use mir.Val.{SFits, to_z}
+use mir.ValLaws.{to_z_pos, to_z-of_z}
+use borrow.Author.Rules.{rules}
+use Rattle.numbers.proofs.Signed.{diff_mag}
+use Rattle.numbers.proofs.less.Statement.{statement}
+use Rattle.numbers.proofs.less.Tie as tie
 
-cast-result : tie.Need-cast-result
-cast-result c = search needs
+cast-result : tie.Need-overflow_cast-result
+cast-result c = search rules
 
-cast-result-2 : tie.Need-cast-result-2
-cast-result-2 c = search needs
+cast-result-2 : tie.Need-overflow_cast-result-2
+cast-result-2 c = search rules
 
 -- both fit, so the casts change nothing
-as-pos : (x y : ℕ) → x < 2 ^ 63 → y < 2 ^ 63 → toZ w64 x -ℤ toZ w64 y ≡ pos x -ℤ pos y
-as-pos x y p q = ap₂ _-ℤ_ (toZ-pos w64 x p) (toZ-pos w64 y q)
+as_pos : (x y : ℕ) → x < 2 ^ 63 → y < 2 ^ 63 → to_z w64 x -ℤ to_z w64 y ≡ pos x -ℤ pos y
+as_pos x y p q = ap₂ ◌-ℤ◌ (to_z_pos w64 x p) (to_z_pos w64 y q)
 
-fits : (x y : ℕ) → x < 2 ^ 63 → y < 2 ^ 63 → SFits w64 (toZ w64 x -ℤ toZ w64 y)
-fits x y p q = rw (as-pos x y p q) (record { sfits = diff-mag x y _ p q })
+fits : (x y : ℕ) → x < 2 ^ 63 → y < 2 ^ 63 → SFits w64 (to_z w64 x -ℤ to_z w64 y)
+fits x y p q = rw (as_pos x y p q) (record { sfits = diff_mag x y _ p q })
 
-sub-result : tie.Need-sub-result
-sub-result c = search (needs, fits)
+sub-result : tie.Need-overflow_sub-result
+sub-result c = search (rules, fits)
 
 returns : tie.Need-returns
 returns c =
-    toZ-ofZ w64 (toZ w64 (c .args .a) -ℤ toZ w64 (c .args .b)) (sub-result c)
-    ∙ as-pos (c .args .a) (c .args .b) (c .pre .0) (c .pre .1)
+    to_z-of_z w64 (to_z w64 c.args.a -ℤ to_z w64 c.args.b) (sub-result c)
+    ∙ as_pos c.args.a c.args.b c.requires.0 c.requires.1
 
-pub less-spec : {M : Type 1} → statement M
-less-spec = tie.close (tie.spec cast-result cast-result-2 sub-result returns)
+pub less_spec : {M : Type 1} → statement M
+less_spec = tie.close (tie.spec cast-result cast-result-2 sub-result returns)

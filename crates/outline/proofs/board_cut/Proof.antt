@@ -1,26 +1,26 @@
 -- board_cut: no such ring, an idle one, or one whose cut is mirrored.
-use mathlib.Core.Path.{sym, _∙_}
-use borrow.Author.Needs.{needs}
-use Rattle·outline·proofs.proofs.Cuts.{there, not-there, board-idle, board-busy}
-use Rattle·outline·proofs.proofs.board_cut.Statement.{statement}
-use Rattle·outline·proofs.proofs.board_cut.Tie as tie
+use mathlib.Core.Path.{sym, ◌∙◌}
+use borrow.Author.Rules.{rules}
+use Rattle.outline.proofs.Cuts.{there, not_there, board_idle, board_busy}
+use Rattle.outline.proofs.board_cut.Statement.{statement}
+use Rattle.outline.proofs.board_cut.Tie as tie
 
-returns : tie.Need-returns
-returns c = let z = c .before .args in rw (not-there {d = z .d} {r = z .rings} (c .if1 .taken))
+returns : tie.Need-returns-then-d-rings
+returns c = let z = c.args in rw (not_there {d = z.d} {r = z.rings} c.if-d-rings.true)
 
-is-idle-requires : tie.Need-is-idle-requires
-is-idle-requires c κs = search needs
+is-idle-requires : tie.Need-is_idle-requires
+is-idle-requires c κs = search rules
 
-returns-2 : tie.Need-returns-2
-returns-2 c = board-idle _ _ (there (c .before .before .if1 .left)) (sym (c .before .is-idle .ensures) ∙ c .if2 .taken)
+returns-2 : tie.Need-returns-then-is_idle
+returns-2 c = board_idle _ _ (there c.if-d-rings.false) (sym c.is_idle.ensures ∙ c.if-is_idle.true)
 
 mirrored-requires : tie.Need-mirrored-requires
-mirrored-requires c κs = search needs
+mirrored-requires c κs = search rules
 
-returns-3 : tie.Need-returns-3
+returns-3 : tie.Need-returns
 returns-3 c =
-    let e = c .before in
-    c .mirrored .ensures .0 ∙ board-busy _ _ (there (e .before .before .if1 .left)) (sym (e .before .is-idle .ensures) ∙ e .if2 .left)
+    let e = c in
+    c.mirrored.ensures.0 ∙ board_busy _ _ (there e.if-d-rings.false) (sym e.is_idle.ensures ∙ e.if-is_idle.false)
 
-pub board-cut-spec : {M : Type 1} → statement M
-board-cut-spec = tie.close (tie.spec returns is-idle-requires returns-2 mirrored-requires returns-3)
+pub board_cut_spec : {M : Type 1} → statement M
+board_cut_spec = tie.close (tie.spec returns is-idle-requires returns-2 mirrored-requires returns-3)

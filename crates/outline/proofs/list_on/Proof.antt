@@ -1,58 +1,58 @@
 -- list_on: the outline's list, or why there is none.
 use mathlib.Core.Path.{refl, sym}
 use native.Mathlib.Omega.{arith}
-use borrow.Author.Needs.{needs}
-use Rattle·rules.specs.Bus.{Table}
-use Rattle·outline·specs.specs.Outlined.{Found}
-use Rattle·outline·proofs.proofs.Outlined.{found-few, found-count}
-use Rattle·outline·proofs.proofs.Listed.{on-refused, on-short, on-done}
-use Rattle·outline·proofs.proofs.list_on.Statement.{statement}
-use Rattle·outline·proofs.proofs.list_on.Tie as tie
+use borrow.Author.Rules.{rules}
+use Rattle.rules.specs.Bus.{Table}
+use Rattle.outline.specs.Outlined.{Found}
+use Rattle.outline.proofs.Outlined.{found_few, found_count}
+use Rattle.outline.proofs.Listed.{on_refused, on_short, on_done}
+use Rattle.outline.proofs.list_on.Statement.{statement}
+use Rattle.outline.proofs.list_on.Tie as tie
 
-abbrev entry : tie.Else1 → tie.Start
-entry c = c .before .before .before .before
+abbrev entry : tie.Else-answer-ne-DONE → tie.Start
+entry c = c.before.before.before.before
 
-found : (c : tie.Else1) → (t : Table) × Found t (entry c .args .o)
-found c = entry c .pre (c .if1 .left)
+found : (c : tie.Else-answer-ne-DONE) → (t : Table) × Found t (entry c).args.o
+found c = (entry c).requires c.if-answer-ne-DONE.false
 
-returns : tie.Need-returns
-returns c = let a = c .before .before .before .before .args in on-refused (a .out .now) (c .if1 .taken)
+returns : tie.Need-returns-then-answer-ne-DONE
+returns c = let a = c.args in on_refused a.out.now c.if-answer-ne-DONE.true
 
 at-requires : tie.Need-at-requires
-at-requires c κs = search needs
+at-requires c κs = search rules
 
-returns-2 : tie.Need-returns-2
+returns-2 : tie.Need-returns-then-out-sets
 returns-2 c =
-    let e = c .before .before in
-    on-short (entry e .args .out .now) (e .if1 .left) _ (c .at .ensures) refl (c .before .if2 .taken)
+    let e = c.before.before in
+    on_short (entry e).args.out.now e.if-answer-ne-DONE.false _ c.at.ensures refl c.if-out-sets.true
 
-array-share-prefix-words : tie.Need-array-share-prefix-words
-array-share-prefix-words c = let F = found (c .before .before) .1 in omega (arith, found-few F, F .size)
+array-share-prefix-words : tie.Need-slice_bounds-words-end
+array-share-prefix-words c = let F = (found c.before.before).1 in omega (arith, found_few F, F.size)
 
-slice-aggregate-write-front : tie.Need-slice-aggregate-write-front
-slice-aggregate-write-front c = sym (found-count (found (c .before .before .before) .1))
+slice-aggregate-write-front : tie.Need-slice_bounds-write_front-end
+slice-aggregate-write-front c = sym (found_count (found c.before.before.before).1)
 
-write-front-requires : tie.Need-write-front-requires
-write-front-requires c κs = omega (arith, found-count (found (c .before .before .before .before) .1), c .before .before .before .if2 .left)
+write-front-requires : tie.Need-write_front-requires
+write-front-requires c κs = omega (arith, found_count (found c.before.before.before.before).1, c.if-out-sets.false)
 
 done-requires : tie.Need-done-requires
-done-requires c κs = search needs
+done-requires c κs = search rules
 
-cast-t15 : tie.Need-cast-t15
-cast-t15 c = omega (arith, found-few (found (c .before .before .before .before .before .before .before .before) .1))
+cast-t15 : tie.Need-overflow_cast-result
+cast-t15 c = omega (arith, found_few (found c.before.before.before.before.before.before.before.before).1)
 
-same-length : tie.Need-same-length
-same-length c = search needs
+same_length : tie.Need-shape_of-out
+same_length c = search rules
 
-returns-3 : tie.Need-returns-3
+returns-3 : tie.Need-returns
 returns-3 c =
-    let w = c .before .before .before in
-    let e = w .before .before .before .before in
-    on-done (entry (e .before) .args .out .now) (e .before .if1 .left) _ (w .write-front .last .1 .0) (c .done .ensures) refl
-    (e .if2 .left) (w .write-front .ensures)
+    let w = c in
+    let e = w in
+    on_done (entry e.before.before.before.before.before.before.before.before).args.out.now e.if-answer-ne-DONE.false _ w.write_front.new.out c.done.ensures refl
+    e.if-out-sets.false w.write_front.ensures
 
-pub list-on-spec : {M : Type 1} → statement M
-list-on-spec =
+pub list_on_spec : {M : Type 1} → statement M
+list_on_spec =
     tie.close
     (tie.spec
     returns
@@ -63,5 +63,5 @@ list-on-spec =
     write-front-requires
     done-requires
     cast-t15
-    same-length
+    same_length
     returns-3)

@@ -1,20 +1,20 @@
 -- lowest_uncut: the two rings are tested in turn.
-use Rattle·outline·proofs.proofs.Cuts.{uncut-first, uncut-other, uncut-none}
-use Rattle·outline·proofs.proofs.lowest_uncut.Statement.{statement}
-use Rattle·outline·proofs.proofs.lowest_uncut.Tie as tie
+use Rattle.outline.proofs.Cuts.{uncut_first, uncut_other, uncut_none}
+use Rattle.outline.proofs.lowest_uncut.Statement.{statement}
+use Rattle.outline.proofs.lowest_uncut.Tie as tie
 
-returns : tie.Need-returns
-returns c = let z = c .before .args in uncut-first (z .elements) (z .cut) (z .other) (c .if1 .taken)
+returns : tie.Need-returns-then-cut-elements
+returns c = let z = c.args in uncut_first z.elements z.cut z.other c.if-cut-elements.true
 
-returns-2 : tie.Need-returns-2
+returns-2 : tie.Need-returns-then-other-elements
 returns-2 c =
-    let z = c .before .before .args in
-    uncut-other (z .elements) (z .cut) (z .other) (c .before .if1 .left) (c .if2 .taken)
+    let z = c.args in
+    uncut_other z.elements z.cut z.other c.if-cut-elements.false c.if-other-elements.true
 
-returns-3 : tie.Need-returns-3
+returns-3 : tie.Need-returns
 returns-3 c =
-    let z = c .before .before .args in
-    uncut-none (z .elements) (z .cut) (z .other) (c .before .if1 .left) (c .if2 .left)
+    let z = c.args in
+    uncut_none z.elements z.cut z.other c.if-cut-elements.false c.if-other-elements.false
 
-pub lowest-uncut-spec : {M : Type 1} → statement M
-lowest-uncut-spec = tie.close (tie.spec returns returns-2 returns-3)
+pub lowest_uncut_spec : {M : Type 1} → statement M
+lowest_uncut_spec = tie.close (tie.spec returns returns-2 returns-3)

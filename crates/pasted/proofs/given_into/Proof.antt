@@ -1,84 +1,84 @@
 -- given_into: 18 is looked for where 1 to 9 and 26 pass.
 use mathlib.Core.List.{List}
-use Prim.Native.Nat.{ℕ, _≤_, _<_}
+use Prim.Native.Nat.{ℕ, ◌≤◌, ◌<◌}
 use native.Mathlib.Omega.{arith}
-use borrow.Author.Needs.{needs}
-use Rattle·numbers.specs.Lists.{at}
-use Rattle·rules.specs.Bounds.{max-elements, max-rows}
-use Rattle·table.specs.declared.columns.Columns.{Columns}
-use Rattle·decoding.specs.Decoded.{columnsBy}
-use Rattle·pasted·proofs.proofs.AsGiven.{given-stopped, given-ends, given-pasted, given-whole, into-as, into-refusal}
-use Rattle·pasted·proofs.proofs.given_into.Statement.{statement}
-use Rattle·pasted·proofs.proofs.given_into.Tie as tie
+use borrow.Author.Rules.{rules}
+use Rattle.numbers.specs.Lists.{at}
+use Rattle.rules.specs.Bounds.{max_elements, max_rows}
+use Rattle.table.specs.declared.columns.Columns.{Columns}
+use Rattle.decoding.specs.Decoded.{columns_by}
+use Rattle.pasted.proofs.AsGiven.{given_stopped, given_ends, given_pasted, given_whole, into_as, into_refusal}
+use Rattle.pasted.proofs.given_into.Statement.{statement}
+use Rattle.pasted.proofs.given_into.Tie as tie
 
-abbrev columns : tie.After-decode-into → Columns
+abbrev columns : tie.After-decode_into-head → Columns
 columns d =
-    let xs = d .decode-into .last in
-    columnsBy (d .decode-into .result) (xs .1 .0) (xs .1 .1 .0) (xs .1 .1 .1 .0) (xs .1 .1 .1 .1 .0) (xs .1 .1 .1 .1 .1 .0)
+    let xs = d.decode_into-head.new in
+    columns_by d.decode_into-head.result xs.cost xs.period xs.first xs.second xs.way
 
-abbrev bytes : tie.After-decode-into → List ℕ
-bytes d = d .before .before .before .before .before .before .before .args .file .now
+abbrev bytes : tie.After-decode_into-head → List ℕ
+bytes d = d.args.file.now
 
-abbrev decoded : tie.Else1 → tie.After-decode-into
-decoded e = e .before .before .before
+abbrev decoded : tie.Else-answer-ne-DONE → tie.After-decode_into-head
+decoded e = e.before.before.before
 
 -- the way back from 18 to the other checks
-abbrev passed : tie.After-lowest-pasted → tie.Else1
-passed p = p .before .before .before .before .before
+abbrev passed : tie.After-lowest_pasted-row → tie.Else-answer-ne-DONE
+passed p = p.before
 
-ends : (e : tie.Else1)
+ends : (e : tie.Else-answer-ne-DONE)
     → (let k = columns (decoded e) in
-    (k .rows ≤ max-rows) × ((i : ℕ) → i < k .rows → at (k .first) i ≤ max-elements))
+    (k.rows ≤ max_rows) × ((i : ℕ) → i < k.rows → at k.first i ≤ max_elements))
 ends e =
     let d = decoded e in
-    let D = d .decode-into .ensures in
-    given-ends (bytes d) (d .decode-into .result .answer) (columns d) (D .answers) (D .passed) (e .if1 .left)
+    let D = d.decode_into-head.ensures in
+    given_ends (bytes d) d.decode_into-head.result.answer (columns d) D.answers D.passed e.if-answer-ne-DONE.false
 
-decode-into-requires : tie.Need-decode-into-requires
-decode-into-requires c κs = search needs
+decode-into-requires : tie.Need-decode_into-head-requires
+decode-into-requires c κs = search rules
 
-returns : tie.Need-returns
+returns : tie.Need-returns-then-answer-ne-DONE
 returns c =
-    let d = c .before .before .before in
-    let D = d .decode-into .ensures in
-    into-as D (given-stopped (bytes d) (d .decode-into .result .answer) (columns d) (D .answers) (D .passed) (c .if1 .taken))
+    let d = c.before.before.before in
+    let D = d.decode_into-head.ensures in
+    into_as D (given_stopped (bytes d) d.decode_into-head.result.answer (columns d) D.answers D.passed c.if-answer-ne-DONE.true)
 
-lowest-pasted-requires : tie.Need-lowest-pasted-requires
-lowest-pasted-requires c κs = ends (c .before .before .before .before)
+lowest-pasted-requires : tie.Need-lowest_pasted-row-requires
+lowest-pasted-requires c κs = ends c
 
 at-requires : tie.Need-at-requires
-at-requires c κs = omega (arith, c .if2 .taken, ends (passed (c .before .before)) .0)
+at-requires c κs = omega (arith, c.if-row-head.true, (ends (passed c.before.before)).0)
 
 refused-requires : tie.Need-refused-requires
-refused-requires c κs = search needs
+refused-requires c κs = search rules
 
-returns-2 : tie.Need-returns-2
+returns-2 : tie.Need-returns-then-row-head
 returns-2 c =
-    let t = c .before .before in
-    let p = t .before .before in
+    let t = c in
+    let p = t.before.before.before.before in
     let e = passed p in
     let d = decoded e in
-    let D = d .decode-into .ensures in
+    let D = d.decode_into-head.ensures in
     let k = columns d in
-    let a = c .before .at in
-    rw (c .refused .ensures)
-    (into-refusal (a .result) (λ z. omega (arith, a .ensures .0))
-    (rw (a .ensures .0, a .ensures .1)
-    (given-pasted (bytes d) (d .decode-into .result .answer) k (D .answers) (D .passed) (e .if1 .left) _
-    (p .lowest-pasted .ensures (k .elements) (k .rings) (k .cost)) (t .if2 .taken))))
+    let a = c.at in
+    rw c.refused.ensures
+    (into_refusal a.result (λ z. omega (arith, a.ensures.0))
+    (rw (a.ensures.0, a.ensures.1)
+    (given_pasted (bytes d) d.decode_into-head.result.answer k D.answers D.passed e.if-answer-ne-DONE.false _
+    (p.lowest_pasted-row.ensures k.elements k.rings k.cost) t.if-row-head.true)))
 
-returns-3 : tie.Need-returns-3
+returns-3 : tie.Need-returns
 returns-3 c =
-    let p = c .before .before in
+    let p = c.before.before in
     let e = passed p in
     let d = decoded e in
-    let D = d .decode-into .ensures in
+    let D = d.decode_into-head.ensures in
     let k = columns d in
-    into-as D
-    (given-whole (bytes d) (d .decode-into .result .answer) k (D .answers) (D .passed) (e .if1 .left) _
-    (p .lowest-pasted .ensures (k .elements) (k .rings) (k .cost)) (omega (arith, c .if2 .left)))
+    into_as D
+    (given_whole (bytes d) d.decode_into-head.result.answer k D.answers D.passed e.if-answer-ne-DONE.false _
+    (p.lowest_pasted-row.ensures k.elements k.rings k.cost) (omega (arith, c.if-row-head.false)))
 
-pub given-into-spec : {M : Type 1} → statement M
-given-into-spec =
+pub given_into_spec : {M : Type 1} → statement M
+given_into_spec =
     tie.close
     (tie.spec decode-into-requires returns lowest-pasted-requires at-requires refused-requires returns-2 returns-3)

@@ -1,34 +1,34 @@
 -- given_one_ring: 2 for another mark; else the table as it is given.
-use borrow.Author.Needs.{needs}
-use Rattle·pasted·proofs.proofs.OneRing.{given-other, given-own}
-use Rattle·pasted·proofs.proofs.given_one_ring.Statement.{statement}
-use Rattle·pasted·proofs.proofs.given_one_ring.Tie as tie
+use borrow.Author.Rules.{rules}
+use Rattle.pasted.proofs.OneRing.{given_other, given_own}
+use Rattle.pasted.proofs.given_one_ring.Statement.{statement}
+use Rattle.pasted.proofs.given_one_ring.Tie as tie
 
-has-other-mark-requires : tie.Need-has-other-mark-requires
-has-other-mark-requires c κs = search needs
+has-other-mark-requires : tie.Need-has_other_mark-requires
+has-other-mark-requires c κs = search rules
 
 at-requires : tie.Need-at-requires
-at-requires c κs = search needs
+at-requires c κs = search rules
 
 refused-requires : tie.Need-refused-requires
-refused-requires c κs = search needs
+refused-requires c κs = search rules
 
-returns : tie.Need-returns
+returns : tie.Need-returns-then-has_other_mark
 returns c =
-    let t = c .before .before in
-    rw (c .refused .ensures)
-    (given-other _ (c .before .at .result) (c .before .at .ensures) (t .before .has-other-mark .ensures .holds (t .if1 .taken)))
+    let t = c in
+    rw c.refused.ensures
+    (given_other _ c.at.result c.at.ensures (t.has_other_mark.ensures.holds t.if-has_other_mark.true))
 
 given-requires : tie.Need-given-requires
-given-requires c κs = search needs
+given-requires c κs = search rules
 
-returns-2 : tie.Need-returns-2
+returns-2 : tie.Need-returns
 returns-2 c =
-    let e = c .before in
-    given-own _ (c .given .result) (e .before .has-other-mark .ensures .fails (e .if1 .left)) (c .given .ensures)
+    let e = c in
+    given_own _ c.given.result (e.has_other_mark.ensures.fails e.if-has_other_mark.false) c.given.ensures
 
-pub given-one-ring-spec : {M : Type 1} → statement M
-given-one-ring-spec =
+pub given_one_ring_spec : {M : Type 1} → statement M
+given_one_ring_spec =
     tie.close
     (tie.spec
     has-other-mark-requires

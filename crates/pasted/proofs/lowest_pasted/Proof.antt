@@ -1,106 +1,106 @@
 -- lowest_pasted: row after row has no earlier one with its ends and period.
-use mathlib.Core.Path.{_≡_, sym, ap, _∙_}
+use mathlib.Core.Path.{◌≡◌, sym, ap, ◌∙◌}
 use mathlib.Core.List.{List, []}
-use Prim.Native.Nat.{ℕ, _+_, _-_, _<_}
+use Prim.Native.Nat.{ℕ, ◌+◌, ◌-◌, ◌<◌}
 use native.Mathlib.Omega.{arith}
 use lib.Dec.{eqb}
-use Rattle·numbers.specs.Lists.{at}
-use Rattle·numbers.specs.Word.{word}
-use Rattle·numbers.proofs.Finite.{Sought, sought-start, sought-next, sought-found, sought-end}
-use Rattle·rules.specs.Bounds.{max-elements}
-use Rattle·rules.specs.Bus.{Table, pasted}
-use Rattle·table.specs.Columns.{columnTable}
-use Rattle·sets.proofs.Loops.{Filling, filling-start, filling-next}
-use Rattle·pasted·proofs.proofs.AsGiven.{earlier-pasted}
-use Rattle·pasted·proofs.proofs.lowest_pasted.Statement.{statement}
-use Rattle·pasted·proofs.proofs.lowest_pasted.Tie as tie
+use Rattle.numbers.specs.Lists.{at}
+use Rattle.numbers.specs.Word.{word}
+use Rattle.numbers.proofs.Finite.{Sought, sought_start, sought_next, sought_found, sought_end}
+use Rattle.rules.specs.Bounds.{max_elements}
+use Rattle.rules.specs.Bus.{Table, pasted}
+use Rattle.table.specs.Columns.{column_table}
+use Rattle.sets.proofs.Loops.{Filling, filling_start, filling_next}
+use Rattle.pasted.proofs.AsGiven.{earlier_pasted}
+use Rattle.pasted.proofs.lowest_pasted.Statement.{statement}
+use Rattle.pasted.proofs.lowest_pasted.Tie as tie
 
 -- costs and the ring's size say nothing of it
 abbrev plain : (rows : ℕ) (period first second way : List ℕ) → Table
-plain rows period first second way = columnTable 0 rows 0 [] period first second way
+plain rows period first second way = column_table 0 rows 0 [] period first second way
 
-abbrev Inv-loop : tie.InvT-loop
-Inv-loop rows period first second way starts₀ i₀ starts i =
-    Sought rows (pasted (plain rows period first second way)) i × Filling (max-elements + 1) i (at first) starts
+abbrev invariant-loop : tie.invariant-loop-i
+invariant-loop rows period first second way starts₀ i₀ starts i =
+    Sought rows (pasted (plain rows period first second way)) i × Filling (max_elements + 1) i (at first) starts
 
-abbrev μ-loop : tie.MeasureT-loop
-μ-loop rows period first second way starts₀ i₀ starts i = rows - i
+abbrev decreases-loop : tie.decreases-loop-i
+decreases-loop rows period first second way starts₀ i₀ starts i = rows - i
 
 -- the row's first end is on the ring
-on-ring : (c : tie.After-end-at Inv-loop μ-loop) → c .end-at .result < max-elements + 1
+on-ring : (c : tie.After-end_at-from invariant-loop decreases-loop) → c.end_at-from.result < max_elements + 1
 on-ring c =
-    let u = c .before .before in
-    omega (arith, c .end-at .ensures, u .before .pre .1 (u .loop .i) (omega arith))
+    let u = c in
+    omega (arith, c.end_at-from.ensures, u.requires.1 u.loop-i.i (omega arith))
 
-loop-holds : tie.Need-loop-holds Inv-loop μ-loop
-loop-holds c = (sought-start, filling-start (max-elements + 1) _)
+loop-holds : tie.Need-loop-i-init invariant-loop decreases-loop
+loop-holds c = (sought_start, filling_start (max_elements + 1) _)
 
-end-at-requires : tie.Need-end-at-requires Inv-loop μ-loop
-end-at-requires c κs = omega (arith, c .before .before .pre .0)
+end-at-requires : tie.Need-end_at-from-requires invariant-loop decreases-loop
+end-at-requires c κs = omega (arith, c.requires.0)
 
-mul-earlier : tie.Need-mul-earlier Inv-loop μ-loop
+mul-earlier : tie.Need-offset_bounds-starts-from invariant-loop decreases-loop
 mul-earlier c = omega (arith, on-ring c)
 
-array-read-earlier : tie.Need-array-read-earlier Inv-loop μ-loop
-array-read-earlier c = omega (arith, on-ring c, c .before .before .loop .inv .1 .size)
+array-read-earlier : tie.Need-bounds-starts-from invariant-loop decreases-loop
+array-read-earlier c = omega (arith, on-ring c, c.loop-i.invariant.1.size)
 
-is-repeated-requires : tie.Need-is-repeated-requires Inv-loop μ-loop
-is-repeated-requires c κs = omega (arith, c .before .before .before .pre .0)
+is-repeated-requires : tie.Need-is_repeated-requires invariant-loop decreases-loop
+is-repeated-requires c κs = omega (arith, c.requires.0)
 
 -- what is found of row i
-found : (c : tie.After-is-repeated Inv-loop μ-loop)
-    → (let u = c .before .before .before in
-    let z = u .before .args in
-    pasted (plain (z .rows) (z .period .now) (z .first .now) (z .second .now) (z .way .now)) (u .loop .i) ≡ c .is-repeated .result)
+found : (c : tie.After-is_repeated invariant-loop decreases-loop)
+    → (let u = c in
+    let z = u.args in
+    pasted (plain z.rows z.period.now z.first.now z.second.now z.way.now) u.loop-i.i ≡ c.is_repeated.result)
 found c =
-    let u = c .before .before .before in
-    let z = u .before .args in
-    let d = c .before .end-at in
-    sym (c .is-repeated .ensures
-    ∙ earlier-pasted (plain (z .rows) (z .period .now) (z .first .now) (z .second .now) (z .way .now)) _ (u .loop .i)
-    (omega (arith, u .before .pre .0))
-    (u .loop .inv .1 .held (d .result) (on-ring (c .before))
-    ∙ ap (λ (e : ℕ). word (u .loop .i) (λ j. eqb (at (z .first .now) j) e)) (d .ensures)))
+    let u = c in
+    let z = u.args in
+    let d = c.end_at-from in
+    sym (c.is_repeated.ensures
+    ∙ earlier_pasted (plain z.rows z.period.now z.first.now z.second.now z.way.now) _ u.loop-i.i
+    (omega (arith, u.requires.0))
+    (u.loop-i.invariant.1.held d.result (on-ring c.before)
+    ∙ ap (λ (e : ℕ). word u.loop-i.i (λ j. eqb (at z.first.now j) e)) d.ensures))
 
-returns : tie.Need-returns Inv-loop μ-loop
+returns : tie.Need-returns-then-is_repeated invariant-loop decreases-loop
 unfolding pasted
 returns c elements rings cost =
-    let d = c .before in
-    sought-found (d .before .before .before .loop .inv .0) (omega arith) (found d ∙ c .if1 .taken)
+    let d = c.before in
+    sought_found d.loop-i.invariant.0 (omega arith) (found d ∙ c.if-is_repeated.true)
 
-shl-starts : tie.Need-shl-starts Inv-loop μ-loop
-shl-starts c = omega (arith, c .before .before .before .before .before .pre .0)
+shl-starts : tie.Need-overflow_shl-starts invariant-loop decreases-loop
+shl-starts c = omega (arith, c.requires.0)
 
-mul-starts : tie.Need-mul-starts Inv-loop μ-loop
-mul-starts c = omega (arith, on-ring (c .before .before))
+mul-starts : tie.Need-offset_bounds-starts-from-in-loop-i invariant-loop decreases-loop
+mul-starts c = omega (arith, on-ring c.before.before)
 
-array-write-starts : tie.Need-array-write-starts Inv-loop μ-loop
-array-write-starts c = let d = c .before .before in omega (arith, on-ring d, d .before .before .loop .inv .1 .size)
+array-write-starts : tie.Need-bounds-starts-from-in-loop-i invariant-loop decreases-loop
+array-write-starts c = let d = c.before.before in omega (arith, on-ring d, d.loop-i.invariant.1.size)
 
-add-i : tie.Need-add-i Inv-loop μ-loop
+add-i : tie.Need-overflow_add-i invariant-loop decreases-loop
 add-i c = omega arith
 
-loop-less : tie.Need-loop-less Inv-loop μ-loop
+loop-less : tie.Need-loop-i-smaller invariant-loop decreases-loop
 loop-less c = omega arith
 
-loop-again : tie.Need-loop-again Inv-loop μ-loop
+loop-again : tie.Need-loop-i-preserved invariant-loop decreases-loop
 loop-again c =
-    let d = c .before in
-    let u = d .before .before .before in (
-      sought-next (u .loop .inv .0) (omega arith) (found d ∙ c .if1 .left),
-      filling-next _ (u .loop .inv .1) (omega (arith, u .before .pre .0)) (d .before .end-at .ensures) (on-ring (d .before)),
+    let d = c.before in
+    let u = d in (
+      sought_next u.loop-i.invariant.0 (omega arith) (found d ∙ c.if-is_repeated.false),
+      filling_next _ u.loop-i.invariant.1 (omega (arith, u.requires.0)) d.end_at-from.ensures (on-ring d.before),
     )
 
-returns-2 : tie.Need-returns-2 Inv-loop μ-loop
+returns-2 : tie.Need-returns invariant-loop decreases-loop
 unfolding pasted
-returns-2 c elements rings cost = sought-end (c .before .loop .inv .0) (omega arith)
+returns-2 c elements rings cost = sought_end c.loop-i.invariant.0 (omega arith)
 
-pub lowest-pasted-spec : {M : Type 1} → statement M
-lowest-pasted-spec =
+pub lowest_pasted_spec : {M : Type 1} → statement M
+lowest_pasted_spec =
     tie.close
     (tie.spec
-    Inv-loop
-    μ-loop
+    invariant-loop
+    decreases-loop
     loop-holds
     end-at-requires
     mul-earlier

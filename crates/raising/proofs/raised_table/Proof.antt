@@ -1,86 +1,86 @@
 -- `raising::raised_table` meets its contract: the refusals of a table as it is given and on the line, or its raised costs.
 use mathlib.Core.List.{List}
 use Prim.Native.Nat.{ℕ}
-use borrow.Author.Needs.{needs}
-use Rattle·numbers.specs.Lists.{at}
-use Rattle·table.specs.Columns.{tableOf}
-use Rattle·outline.specs.Layout.{LaidOut}
-use Rattle·raising·proofs.proofs.Asked.{raising-given, raising-sound, raising-times, raising-line, raising-interval, raising-done}
-use Rattle·raising·proofs.proofs.raised_table.Statement.{statement}
-use Rattle·raising·proofs.proofs.raised_table.Tie as tie
+use borrow.Author.Rules.{rules}
+use Rattle.numbers.specs.Lists.{at}
+use Rattle.table.specs.Columns.{table_of}
+use Rattle.outline.specs.Layout.{LaidOut}
+use Rattle.raising.proofs.Asked.{raising_given, raising_sound, raising_times, raising_line, raising_interval, raising_done}
+use Rattle.raising.proofs.raised_table.Statement.{statement}
+use Rattle.raising.proofs.raised_table.Tie as tie
 
-abbrev taken : tie.Else1 → tie.After-given-one-ring
-taken e = e .before .before .before
+abbrev taken : tie.Else-answer-ne-DONE → tie.After-given_one_ring-found
+taken e = e.before.before.before
 
-abbrev bytes : tie.After-given-one-ring → List ℕ
-bytes g = g .before .before .args .file .now
+abbrev bytes : tie.After-given_one_ring-found → List ℕ
+bytes g = g.args.file.now
 
-abbrev passed : tie.After-layout-of → tie.Else1
-passed o = o .before .before .before .before .before .before
+abbrev passed : tie.After-layout_of-laid → tie.Else-answer-ne-DONE
+passed o = o.before.before.before.before.before
 
-abbrev placed : tie.Else2 → tie.After-layout-of
-placed l = l .before .before .before
+abbrev placed : tie.Else-placed-ne-DONE → tie.After-layout_of-laid
+placed l = l.before.before.before
 
-laid : (o : tie.After-layout-of) → LaidOut (tableOf (taken (passed o) .given-one-ring .result .columns)) (o .layout-of .result)
+laid : (o : tie.After-layout_of-laid) → LaidOut (table_of (taken (passed o)).given_one_ring-found.result.columns) o.layout_of-laid.result
 laid o =
     let e = passed o in
     let g = taken e in
-    o .layout-of .ensures (at (g .given-one-ring .result .columns .cost))
-    (raising-sound (bytes g) (g .given-one-ring .result) (g .given-one-ring .ensures) (e .if1 .left))
+    o.layout_of-laid.ensures (at g.given_one_ring-found.result.columns.cost)
+    (raising_sound (bytes g) g.given_one_ring-found.result g.given_one_ring-found.ensures e.if-answer-ne-DONE.false)
 
-given-one-ring-requires : tie.Need-given-one-ring-requires
-given-one-ring-requires c κs = search needs
+given-one-ring-requires : tie.Need-given_one_ring-found-requires
+given-one-ring-requires c κs = search rules
 
 refused-requires : tie.Need-refused-requires
-refused-requires c κs = search needs
+refused-requires c κs = search rules
 
-returns : tie.Need-returns
+returns : tie.Need-returns-then-answer-ne-DONE
 returns c =
-    let g = c .before .before .before .before in
-    rw (c .refused .ensures) (raising-given (bytes g) (g .given-one-ring .result) (g .given-one-ring .ensures) (c .before .if1 .taken))
+    let g = c.before.before.before.before in
+    rw c.refused.ensures (raising_given (bytes g) g.given_one_ring-found.result g.given_one_ring-found.ensures c.if-answer-ne-DONE.true)
 
-layout-of-requires : tie.Need-layout-of-requires
+layout-of-requires : tie.Need-layout_of-laid-requires
 layout-of-requires c κs =
-    let e = c .before .before .before .before .before in
+    let e = c.before.before.before.before in
     let g = taken e in (
-      at (g .given-one-ring .result .columns .cost),
-      raising-sound (bytes g) (g .given-one-ring .result) (g .given-one-ring .ensures) (e .if1 .left),
+      at g.given_one_ring-found.result.columns.cost,
+      raising_sound (bytes g) g.given_one_ring-found.result g.given_one_ring-found.ensures e.if-answer-ne-DONE.false,
     )
 
-refused-requires-2 : tie.Need-refused-requires-2
-refused-requires-2 c κs = search needs
+refused-requires-2 : tie.Need-refused-requires-then-placed-ne-DONE
+refused-requires-2 c κs = search rules
 
-returns-2 : tie.Need-returns-2
+returns-2 : tie.Need-returns-then-placed-ne-DONE
 returns-2 c =
-    let o = c .before .before .before .before in
+    let o = c.before.before.before.before in
     let e = passed o in
     let g = taken e in
-    rw (c .refused2 .ensures)
-    (raising-line (bytes g) (g .given-one-ring .result) (g .given-one-ring .ensures) (e .if1 .left)
-    (o .layout-of .result) (laid o) (c .before .if2 .taken))
+    rw c.refused-then-placed-ne-DONE.ensures
+    (raising_line (bytes g) g.given_one_ring-found.result g.given_one_ring-found.ensures e.if-answer-ne-DONE.false
+    o.layout_of-laid.result (laid o) c.if-placed-ne-DONE.true)
 
-raised-costs-requires : tie.Need-raised-costs-requires
+raised-costs-requires : tie.Need-raised_costs-cost-requires
 raised-costs-requires c κs =
-    let l = c .before .before .before in
+    let l = c.before.before in
     let o = placed l in
     let e = passed o in
     let g = taken e in
-    let I = raising-interval (bytes g) (g .given-one-ring .result) (g .given-one-ring .ensures) (e .if1 .left)
-    (o .layout-of .result) (laid o) (l .if2 .left) in
-    (raising-times (bytes g) (g .given-one-ring .result) (g .given-one-ring .ensures) (e .if1 .left), I .0, I .1)
+    let I = raising_interval (bytes g) g.given_one_ring-found.result g.given_one_ring-found.ensures e.if-answer-ne-DONE.false
+    o.layout_of-laid.result (laid o) l.if-placed-ne-DONE.false in
+    (raising_times (bytes g) g.given_one_ring-found.result g.given_one_ring-found.ensures e.if-answer-ne-DONE.false, I.0, I.1)
 
-returns-3 : tie.Need-returns-3
+returns-3 : tie.Need-returns
 returns-3 c =
-    let l = c .before .before .before .before in
+    let l = c.before.before.before in
     let o = placed l in
     let e = passed o in
     let g = taken e in
-    raising-done (bytes g) (g .given-one-ring .result) (g .given-one-ring .ensures) (e .if1 .left)
-    (o .layout-of .result) (laid o) (l .if2 .left) _
-    (c .raised-costs .ensures)
+    raising_done (bytes g) g.given_one_ring-found.result g.given_one_ring-found.ensures e.if-answer-ne-DONE.false
+    o.layout_of-laid.result (laid o) l.if-placed-ne-DONE.false _
+    c.raised_costs-cost.ensures
 
-pub raised-table-spec : {M : Type 1} → statement M
-raised-table-spec =
+pub raised_table_spec : {M : Type 1} → statement M
+raised_table_spec =
     tie.close
     (tie.spec given-one-ring-requires refused-requires returns layout-of-requires refused-requires-2 returns-2
     raised-costs-requires returns-3)

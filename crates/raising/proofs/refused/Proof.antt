@@ -1,18 +1,17 @@
 -- `raising::refused` meets its contract.
 use mathlib.Core.Path.{ap}
-use borrow.Author.Needs.{needs}
+use borrow.Author.Rules.{rules}
 use lib.ListN.{replicate}
-use Rattle·rules.specs.Bounds.{max-rows}
-use Rattle·decoding.specs.declared.Decoded.{Decoded}
-use Rattle·raising·specs.specs.declared.Raising.{Raising}
-use Rattle·raising·proofs.proofs.refused.Statement.{statement}
-use Rattle·raising·proofs.proofs.refused.Tie as tie
+use Rattle.rules.specs.Bounds.{max_rows}
+use Rattle.decoding.specs.declared.Decoded.{Decoded}
+use Rattle.raising.proofs.refused.Statement.{statement}
+use Rattle.raising.proofs.refused.Tie as tie
 
 refused-requires : tie.Need-refused-requires
-refused-requires c κs = search needs
+refused-requires c κs = search rules
 
 returns : tie.Need-returns
-returns c = ap (λ (d : Decoded). record { given = d; cost = replicate max-rows 0 }) (c .refused .ensures)
+returns c = ap (λ (d : Decoded). record { given = d; cost = replicate max_rows 0 }) c.refused.ensures
 
-pub refused-spec : {M : Type 1} → statement M
-refused-spec = tie.close (tie.spec refused-requires returns)
+pub refused_spec : {M : Type 1} → statement M
+refused_spec = tie.close (tie.spec refused-requires returns)

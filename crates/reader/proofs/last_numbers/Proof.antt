@@ -1,62 +1,62 @@
 -- `reader::last_numbers` meets its contract. The loop's invariant: the numbers of the rows before row `i` are there.
-use mathlib.Core.Path.{_≡_, _∙_}
-use Prim.Native.Nat.{_-_, _≤_}
+use mathlib.Core.Path.{◌≡◌}
+use Prim.Native.Nat.{◌-◌, ◌≤◌}
 use native.Mathlib.Omega.{arith}
-use Rattle·numbers.specs.Lists.{at}
-use Rattle·rules.specs.TableFile.{lastOf}
-use Rattle·table.specs.Columns.{ByRow}
-use Rattle·table.proofs.ByRow.{by-row-start, by-row-put}
-use borrow.Author.Needs.{needs}
-use Rattle·reader·proofs.proofs.last_numbers.Statement.{statement}
-use Rattle·reader·proofs.proofs.last_numbers.Tie as tie
+use Rattle.numbers.specs.Lists.{at}
+use Rattle.rules.specs.TableFile.{last_of}
+use Rattle.table.specs.Columns.{ByRow}
+use Rattle.table.proofs.ByRow.{by_row_start, by_row_put}
+use borrow.Author.Rules.{rules}
+use Rattle.reader.proofs.last_numbers.Statement.{statement}
+use Rattle.reader.proofs.last_numbers.Tie as tie
 
-abbrev Inv-loop : tie.InvT-loop
-Inv-loop rings rows way labels last₀ i₀ last i = (i ≤ rows) × ByRow i (λ k. lastOf rings (at way k) (at labels k)) last
+abbrev invariant-loop : tie.invariant-loop-i
+invariant-loop rings rows way labels last₀ i₀ last i = (i ≤ rows) × ByRow i (λ k. last_of rings (at way k) (at labels k)) last
 
-abbrev μ-loop : tie.MeasureT-loop
-μ-loop rings rows way labels last₀ i₀ last i = rows - i
+abbrev decreases-loop : tie.decreases-loop-i
+decreases-loop rings rows way labels last₀ i₀ last i = rows - i
 
-loop-holds : tie.Need-loop-holds Inv-loop μ-loop
-loop-holds c = (omega arith, by-row-start _)
+loop-holds : tie.Need-loop-i-init invariant-loop decreases-loop
+loop-holds c = (omega arith, by_row_start _)
 
-element-copy-out-last-number : tie.Need-element-copy-out-last-number Inv-loop μ-loop
+element-copy-out-last-number : tie.Need-bounds-way-i invariant-loop decreases-loop
 element-copy-out-last-number c = omega arith
 
-mul-last-number : tie.Need-mul-last-number Inv-loop μ-loop
-mul-last-number c = search needs
+mul-last-number : tie.Need-offset_bounds-labels-i invariant-loop decreases-loop
+mul-last-number c = search rules
 
-element-copy-out-last-number-2 : tie.Need-element-copy-out-last-number-2 Inv-loop μ-loop
+element-copy-out-last-number-2 : tie.Need-bounds-labels-i invariant-loop decreases-loop
 element-copy-out-last-number-2 c = omega arith
 
-last-number-requires : tie.Need-last-number-requires Inv-loop μ-loop
-last-number-requires c κs = search needs
+last-number-requires : tie.Need-last_number-requires invariant-loop decreases-loop
+last-number-requires c κs = search rules
 
-mul-last : tie.Need-mul-last Inv-loop μ-loop
-mul-last c = search needs
+mul-last : tie.Need-offset_bounds-last-i invariant-loop decreases-loop
+mul-last c = search rules
 
-array-write-last : tie.Need-array-write-last Inv-loop μ-loop
+array-write-last : tie.Need-bounds-last-i invariant-loop decreases-loop
 array-write-last c = omega arith
 
-add-i : tie.Need-add-i Inv-loop μ-loop
+add-i : tie.Need-overflow_add-i invariant-loop decreases-loop
 add-i c = omega arith
 
-loop-less : tie.Need-loop-less Inv-loop μ-loop
+loop-less : tie.Need-loop-i-smaller invariant-loop decreases-loop
 loop-less c = omega arith
 
-loop-again : tie.Need-loop-again Inv-loop μ-loop
-loop-again c = (omega arith, by-row-put _ (c .before .before .before .before .loop .inv .1) (omega arith) (c .last-number .ensures))
+loop-again : tie.Need-loop-i-preserved invariant-loop decreases-loop
+loop-again c = (omega arith, by_row_put _ c.loop-i.invariant.1 (omega arith) c.last_number.ensures)
 
-returns : tie.Need-returns Inv-loop μ-loop
+returns : tie.Need-returns invariant-loop decreases-loop
 returns c =
-    let all : c .before .loop .i ≡ c .before .before .args .rows = omega arith in
-    rw all at (c .before .loop .inv .1)
+    let all : c.loop-i.i ≡ c.args.rows = omega arith in
+    rw all at c.loop-i.invariant.1
 
-pub last-numbers-spec : {M : Type 1} → statement M
-last-numbers-spec =
+pub last_numbers_spec : {M : Type 1} → statement M
+last_numbers_spec =
     tie.close
     (tie.spec
-    Inv-loop
-    μ-loop
+    invariant-loop
+    decreases-loop
     loop-holds
     element-copy-out-last-number
     mul-last-number

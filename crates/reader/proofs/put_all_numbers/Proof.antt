@@ -1,78 +1,78 @@
 -- `reader::put_all_numbers` meets its contract. The loop's invariant: the rows before row `i` are written.
-use mathlib.Core.Path.{_≡_, refl, sym}
+use mathlib.Core.Path.{◌≡◌, refl, sym}
 use mathlib.Core.List.{[]}
-use Prim.Native.Nat.{_+_, _*_, _-_, _≤_}
+use Prim.Native.Nat.{◌+◌, ◌*◌, ◌-◌, ◌≤◌}
 use native.Mathlib.Omega.{arith}
 use lib.ListN.{length}
-use borrow.Author.Needs.{needs}
-use Rattle·numbers.specs.Lists.{each}
-use Rattle·numbers.proofs.Lists.{Filled, filled-start}
-use Rattle·rules.specs.TableFile.{rowNumbers, memoryRow, numbers}
-use Rattle·rules.proofs.Calls.{filled-lent}
-use Rattle·numbers.proofs.Lists.{zeros-at}
-use Rattle·rules.specs.Bounds.{max-rows}
-use Rattle·table.specs.Columns.{columnLabelled, noLabels}
-use Rattle·table.proofs.ByRow.{has-row}
-use Rattle·numbers.proofs.Codec.{filled-rows, filled-row}
-use Rattle·reader·proofs.proofs.Calls.{memory-row}
-use Rattle·reader·proofs.proofs.put_all_numbers.Statement.{statement}
-use Rattle·reader·proofs.proofs.put_all_numbers.Tie as tie
+use borrow.Author.Rules.{rules}
+use Rattle.numbers.specs.Lists.{each}
+use Rattle.numbers.proofs.Lists.{Filled, filled_start}
+use Rattle.rules.specs.TableFile.{row_numbers, memory_row, numbers}
+use Rattle.rules.proofs.Calls.{filled_lent}
+use Rattle.numbers.proofs.Lists.{zeros_at}
+use Rattle.rules.specs.Bounds.{max_rows}
+use Rattle.table.specs.Columns.{column_labelled, no_labels}
+use Rattle.table.proofs.ByRow.{has_row}
+use Rattle.numbers.proofs.Codec.{filled_rows, filled_row}
+use Rattle.reader.proofs.Calls.{memory_row_lem}
+use Rattle.reader.proofs.put_all_numbers.Statement.{statement}
+use Rattle.reader.proofs.put_all_numbers.Tie as tie
 
-abbrev Inv-loop : tie.InvT-loop
-Inv-loop rows cost period first second last out₀ i₀ out i =
-    (i ≤ rows) × Filled out₀ out (rowNumbers * i) (each i (memoryRow (columnLabelled 0 rows 1 cost period first second noLabels last)))
+abbrev invariant-loop : tie.invariant-loop-i
+invariant-loop rows cost period first second last out₀ i₀ out i =
+    (i ≤ rows) × Filled out₀ out (row_numbers * i) (each i (memory_row (column_labelled 0 rows 1 cost period first second no_labels last)))
 
-abbrev μ-loop : tie.MeasureT-loop
-μ-loop rows cost period first second last out₀ i₀ out i = rows - i
+abbrev decreases-loop : tie.decreases-loop-i
+decreases-loop rows cost period first second last out₀ i₀ out i = rows - i
 
-loop-holds : tie.Need-loop-holds Inv-loop μ-loop
-loop-holds c = (omega arith, filled-rows [] _ (filled-start _))
+loop-holds : tie.Need-loop-i-init invariant-loop decreases-loop
+loop-holds c = (omega arith, filled_rows [] _ (filled_start _))
 
-mul-row-at : tie.Need-mul-row-at Inv-loop μ-loop
-mul-row-at c = search needs
+mul-row-at : tie.Need-offset_bounds-last-i invariant-loop decreases-loop
+mul-row-at c = search rules
 
-element-copy-out-row-at : tie.Need-element-copy-out-row-at Inv-loop μ-loop
-element-copy-out-row-at c = omega (arith, c .before .before .before .pre .0)
+element-copy-out-row-at : tie.Need-bounds-last-i invariant-loop decreases-loop
+element-copy-out-row-at c = omega (arith, c.requires.0)
 
-row-at-requires : tie.Need-row-at-requires Inv-loop μ-loop
-row-at-requires c κs = omega (arith, c .before .before .before .before .pre .0)
+row-at-requires : tie.Need-row_at-requires invariant-loop decreases-loop
+row-at-requires c κs = omega (arith, c.requires.0)
 
-mul-put-numbers : tie.Need-mul-put-numbers Inv-loop μ-loop
-mul-put-numbers c = search needs
+mul-put-numbers : tie.Need-overflow_mul-i invariant-loop decreases-loop
+mul-put-numbers c = search rules
 
-put-numbers-requires : tie.Need-put-numbers-requires Inv-loop μ-loop
-put-numbers-requires c κs = omega (arith, c .before .before .before .before .before .before .pre .1)
+put-numbers-requires : tie.Need-put_numbers-requires invariant-loop decreases-loop
+put-numbers-requires c κs = omega (arith, c.requires.1)
 
-add-i : tie.Need-add-i Inv-loop μ-loop
-add-i c = search needs
+add-i : tie.Need-overflow_add-i invariant-loop decreases-loop
+add-i c = search rules
 
-loop-less : tie.Need-loop-less Inv-loop μ-loop
-loop-less c = search needs
+loop-less : tie.Need-loop-i-smaller invariant-loop decreases-loop
+loop-less c = search rules
 
-loop-again : tie.Need-loop-again Inv-loop μ-loop
+loop-again : tie.Need-loop-i-preserved invariant-loop decreases-loop
 loop-again c =
-    let z = c .before .before .before .before .before .before .before .before .before in
-    let u = c .before .before .before .before .before .before .before .loop in
-    let r = c .before .before .before .before .row-at .ensures in
-    let q = memory-row (has-row 0 (z .args .rows) 1 noLabels (z .args .last .now) r (sym (zeros-at max-rows (u .i))) refl) in
-    let room : rowNumbers * (u .i + 1) ≤ length (z .args .out .now) = omega (arith, z .pre .1) in
-    (omega arith, filled-row [] _ _ _ (u .inv .1) (c .before .before .put-numbers .ensures) q (omega arith) room)
+    let z = c in
+    let u = c.loop-i in
+    let r = c.row_at.ensures in
+    let q = memory_row_lem (has_row 0 z.args.rows 1 no_labels z.args.last.now r (sym (zeros_at max_rows u.i)) refl) in
+    let room : row_numbers * (u.i + 1) ≤ length z.args.out.now = omega (arith, z.requires.1) in
+    (omega arith, filled_row [] _ _ _ u.invariant.1 c.put_numbers.ensures q (omega arith) room)
 
-same-length : tie.Need-same-length Inv-loop μ-loop
-same-length c = c .before .loop .inv .1 .same
+same_length : tie.Need-shape_of-out invariant-loop decreases-loop
+same_length c = c.loop-i.invariant.1.same
 
-returns : tie.Need-returns Inv-loop μ-loop
+returns : tie.Need-returns invariant-loop decreases-loop
 unfolding numbers
 returns c =
-    let e : c .before .loop .i ≡ c .before .before .before .args .rows = omega arith in
-    rw e at (filled-lent (c .before .loop .inv .1))
+    let e : c.loop-i.i ≡ c.args.rows = omega arith in
+    rw e at (filled_lent c.loop-i.invariant.1)
 
-pub put-all-numbers-spec : {M : Type 1} → statement M
-put-all-numbers-spec =
+pub put_all_numbers_spec : {M : Type 1} → statement M
+put_all_numbers_spec =
     tie.close
     (tie.spec
-    Inv-loop
-    μ-loop
+    invariant-loop
+    decreases-loop
     loop-holds
     mul-row-at
     element-copy-out-row-at
@@ -82,5 +82,5 @@ put-all-numbers-spec =
     add-i
     loop-less
     loop-again
-    same-length
+    same_length
     returns)

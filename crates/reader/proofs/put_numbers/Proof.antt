@@ -1,63 +1,63 @@
 -- `reader::put_numbers` meets its contract.
 use native.Mathlib.Omega.{arith}
-use native.Mathlib.Numerals.{towards-suc}
+use native.Mathlib.Numerals.{towards_suc}
 use lib.ListN.{length-set}
-use Rattle·rules.specs.TableFile.{lastOf}
-use borrow.Author.Needs.{needs}
-use Rattle·reader·proofs.proofs.put_numbers.Statement.{statement}
-use Rattle·reader·proofs.proofs.put_numbers.Tie as tie
+use Rattle.rules.specs.TableFile.{last_of}
+use borrow.Author.Rules.{rules}
+use Rattle.reader.proofs.put_numbers.Statement.{statement}
+use Rattle.reader.proofs.put_numbers.Tie as tie
 
-mul-out : tie.Need-mul-out
-mul-out c = search needs
+mul-out : tie.Need-offset_bounds-out-at
+mul-out c = search rules
 
-slice-write-out : tie.Need-slice-write-out
-slice-write-out c = search needs
+slice-write-out : tie.Need-bounds-out-at
+slice-write-out c = search rules
 
-add-out : tie.Need-add-out
-add-out c = search needs
+add-out : tie.Need-overflow_add-out
+add-out c = search rules
 
-mul-out-2 : tie.Need-mul-out-2
-mul-out-2 c = search needs
+mul-out-2 : tie.Need-offset_bounds-out-at-2
+mul-out-2 c = search rules
 
-slice-write-out-2 : tie.Need-slice-write-out-2
+slice-write-out-2 : tie.Need-bounds-out-at-2
 slice-write-out-2 c = simp length-set (omega arith)
 
-add-out-2 : tie.Need-add-out-2
-add-out-2 c = search needs
+add-out-2 : tie.Need-overflow_add-out-2
+add-out-2 c = search rules
 
-mul-out-3 : tie.Need-mul-out-3
-mul-out-3 c = search needs
+mul-out-3 : tie.Need-offset_bounds-out-at-3
+mul-out-3 c = search rules
 
-slice-write-out-3 : tie.Need-slice-write-out-3
+slice-write-out-3 : tie.Need-bounds-out-at-3
 slice-write-out-3 c = simp length-set (omega arith)
 
-add-out-3 : tie.Need-add-out-3
-add-out-3 c = search needs
+add-out-3 : tie.Need-overflow_add-out-3
+add-out-3 c = search rules
 
-mul-out-4 : tie.Need-mul-out-4
-mul-out-4 c = search needs
+mul-out-4 : tie.Need-offset_bounds-out-at-4
+mul-out-4 c = search rules
 
-slice-write-out-4 : tie.Need-slice-write-out-4
+slice-write-out-4 : tie.Need-bounds-out-at-4
 slice-write-out-4 c = simp length-set (omega arith)
 
-add-out-4 : tie.Need-add-out-4
-add-out-4 c = search needs
+add-out-4 : tie.Need-overflow_add-out-4
+add-out-4 c = search rules
 
-mul-out-5 : tie.Need-mul-out-5
-mul-out-5 c = search needs
+mul-out-5 : tie.Need-offset_bounds-out-at-5
+mul-out-5 c = search rules
 
-slice-write-out-5 : tie.Need-slice-write-out-5
+slice-write-out-5 : tie.Need-bounds-out-at-5
 slice-write-out-5 c = simp length-set (omega arith)
 
-same-length : tie.Need-same-length
-same-length c = search needs
+same_length : tie.Need-shape_of-out
+same_length c = search rules
 
 returns : tie.Need-returns
-unfolding lastOf
-returns c = simp towards-suc
+unfolding last_of
+returns c = simp towards_suc
 
-pub put-numbers-spec : {M : Type 1} → statement M
-put-numbers-spec =
+pub put_numbers_spec : {M : Type 1} → statement M
+put_numbers_spec =
     tie.close
     (tie.spec
     mul-out
@@ -74,5 +74,5 @@ put-numbers-spec =
     add-out-4
     mul-out-5
     slice-write-out-5
-    same-length
+    same_length
     returns)

@@ -1,13 +1,13 @@
 -- `relay::parts` meets its contract.
 use native.Mathlib.Omega.{arith}
-use Rattle·relay·proofs.proofs.parts.Statement.{statement}
-use Rattle·relay·proofs.proofs.parts.Tie as tie
+use Rattle.relay.proofs.parts.Statement.{statement}
+use Rattle.relay.proofs.parts.Tie as tie
 
-returns : tie.Need-returns
-returns c = (λ relay row. rw (c .if1 .taken), omega arith)
+returns : tie.Need-returns-then-goes
+returns c = (λ relay row. rw c.if-goes.true, omega arith)
 
-returns-2 : tie.Need-returns-2
-returns-2 c = (λ relay row. rw (c .if1 .left), omega arith)
+returns-2 : tie.Need-returns-else-goes
+returns-2 c = (λ relay row. rw c.if-goes.false, omega arith)
 
-pub parts-spec : {M : Type 1} → statement M
-parts-spec = tie.close (tie.spec returns returns-2)
+pub parts_spec : {M : Type 1} → statement M
+parts_spec = tie.close (tie.spec returns returns-2)

@@ -1,20 +1,20 @@
 -- `relay::row_of` meets its contract.
-use borrow.Author.Needs.{needs}
-use Rattle·relay·proofs.proofs.Columns.{row-numbers}
-use Rattle·relay·proofs.proofs.row_of.Statement.{statement}
-use Rattle·relay·proofs.proofs.row_of.Tie as tie
+use borrow.Author.Rules.{rules}
+use Rattle.relay.proofs.Columns.{row_numbers_lem}
+use Rattle.relay.proofs.row_of.Statement.{statement}
+use Rattle.relay.proofs.row_of.Tie as tie
 
-end-at-requires : tie.Need-end-at-requires
-end-at-requires c κs = search needs
+end-at-requires : tie.Need-end_at-way-requires
+end-at-requires c κs = search rules
 
-row-at-requires : tie.Need-row-at-requires
-row-at-requires c κs = search needs
+row-at-requires : tie.Need-row_at-requires
+row-at-requires c κs = search rules
 
 returns : tie.Need-returns
 returns c =
-    let e = c .before .before .before .before .before .before in
-    let a = e .before .before .before .args .t1 in
-    row-numbers a (c .row-at .ensures) (e .end-at .ensures)
+    let e = c in
+    let a = e.args.columns in
+    row_numbers_lem a c.row_at.ensures e.end_at-way.ensures
 
-pub row-of-spec : {M : Type 1} → statement M
-row-of-spec = tie.close (tie.spec end-at-requires row-at-requires returns)
+pub row_of_spec : {M : Type 1} → statement M
+row_of_spec = tie.close (tie.spec end-at-requires row-at-requires returns)

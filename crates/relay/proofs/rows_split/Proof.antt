@@ -1,64 +1,64 @@
 -- `relay::rows_split` meets its contract. The loop's invariant: `rows` is how many rows those before row `i` become.
-use mathlib.Core.Path.{_≡_, sym, _∙_}
-use Prim.Native.Nat.{_*_, _-_, _≤_}
+use mathlib.Core.Path.{◌≡◌, sym, ◌∙◌}
+use Prim.Native.Nat.{◌*◌, ◌-◌, ◌≤◌}
 use native.Mathlib.Omega.{arith}
-use borrow.Author.Needs.{needs}
+use borrow.Author.Rules.{rules}
 use lib.ListN.{length}
 use mathlib.Core.Path.{ap}
-use Rattle·table.specs.Columns.{tableOf}
-use Rattle·rules.specs.Relay.{rowOf, standsAt}
-use Rattle·relay·proofs.proofs.Rows.{rows-none, stands-more}
-use Rattle·relay·proofs.proofs.rows_split.Statement.{statement}
-use Rattle·relay·proofs.proofs.rows_split.Tie as tie
+use Rattle.table.specs.Columns.{table_of}
+use Rattle.rules.specs.Relay.{row_of, stands_at}
+use Rattle.relay.proofs.Rows.{rows_none, stands_more}
+use Rattle.relay.proofs.rows_split.Statement.{statement}
+use Rattle.relay.proofs.rows_split.Tie as tie
 
-abbrev Inv-loop : tie.InvT-loop
-Inv-loop given relay rows₀ i₀ rows i = (i ≤ given .rows) × (rows ≡ standsAt (tableOf given) relay i) × (rows ≤ 2 * i)
+abbrev invariant-loop : tie.invariant-loop-i
+invariant-loop given relay rows₀ i₀ rows i = (i ≤ given.rows) × (rows ≡ stands_at (table_of given) relay i) × (rows ≤ 2 * i)
 
-abbrev μ-loop : tie.MeasureT-loop
-μ-loop given relay rows₀ i₀ rows i = given .rows - i
+abbrev decreases-loop : tie.decreases-loop-i
+decreases-loop given relay rows₀ i₀ rows i = given.rows - i
 
-loop-holds : tie.Need-loop-holds Inv-loop μ-loop
-loop-holds c = (omega arith, sym (ap length (rows-none (tableOf (c .args .given)) (c .args .relay))), omega arith)
+loop-holds : tie.Need-loop-i-init invariant-loop decreases-loop
+loop-holds c = (omega arith, sym (ap length (rows_none (table_of c.args.given) c.args.relay)), omega arith)
 
-goes-requires : tie.Need-goes-requires Inv-loop μ-loop
-goes-requires c κs = let S = c .before .before .before .pre in (S .0, S .1, omega arith)
+goes-requires : tie.Need-goes-requires invariant-loop decreases-loop
+goes-requires c κs = let S = c.requires in (S.0, S.1, omega arith)
 
-parts-requires : tie.Need-parts-requires Inv-loop μ-loop
-parts-requires c κs = search needs
+parts-requires : tie.Need-parts-rows-requires invariant-loop decreases-loop
+parts-requires c κs = search rules
 
-add-rows : tie.Need-add-rows Inv-loop μ-loop
-add-rows c = let S = c .before .before .before .before .before .pre in omega (arith, c .parts .ensures .1, S .0 .rows-high)
+add-rows : tie.Need-overflow_add-rows invariant-loop decreases-loop
+add-rows c = let S = c.requires in omega (arith, c.parts-rows.ensures.1, S.0.rows_high)
 
-add-i : tie.Need-add-i Inv-loop μ-loop
+add-i : tie.Need-overflow_add-i invariant-loop decreases-loop
 add-i c = omega arith
 
-loop-less : tie.Need-loop-less Inv-loop μ-loop
+loop-less : tie.Need-loop-i-smaller invariant-loop decreases-loop
 loop-less c = omega arith
 
-loop-again : tie.Need-loop-again Inv-loop μ-loop
+loop-again : tie.Need-loop-i-preserved invariant-loop decreases-loop
 loop-again c =
-    let L = c .before .before .before .before in
-    let z = L .before .args in
-    let t = tableOf (z .given) in
-    let i = L .loop .i in
-    let inv = L .loop .inv in
-    let more = stands-more t (z .relay) i (rowOf t i) (c .before .goes .ensures) in
-    let new = c .parts .ensures in
-    (omega arith, omega (arith, more, inv .1, new .0 (z .relay) (rowOf t i)), omega (arith, inv .2, new .1))
+    let L = c in
+    let z = L.args in
+    let t = table_of z.given in
+    let i = L.loop-i.i in
+    let inv = L.loop-i.invariant in
+    let more = stands_more t z.relay i (row_of t i) c.goes.ensures in
+    let new = c.parts-rows.ensures in
+    (omega arith, omega (arith, more, inv.1, new.0 z.relay (row_of t i)), omega (arith, inv.2, new.1))
 
-returns : tie.Need-returns Inv-loop μ-loop
+returns : tie.Need-returns invariant-loop decreases-loop
 returns c =
-    let L = c .before .before in
-    let all : L .loop .i ≡ L .before .args .given .rows = omega arith in
-    let t = tableOf (L .before .args .given) in
-    L .loop .inv .1 ∙ ap (standsAt t (L .before .args .relay)) all
+    let L = c in
+    let all : L.loop-i.i ≡ L.args.given.rows = omega arith in
+    let t = table_of L.args.given in
+    L.loop-i.invariant.1 ∙ ap (stands_at t L.args.relay) all
 
-pub rows-split-spec : {M : Type 1} → statement M
-rows-split-spec =
+pub rows_split_spec : {M : Type 1} → statement M
+rows_split_spec =
     tie.close
     (tie.spec
-    Inv-loop
-    μ-loop
+    invariant-loop
+    decreases-loop
     loop-holds
     goes-requires
     parts-requires

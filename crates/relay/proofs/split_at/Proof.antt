@@ -1,93 +1,93 @@
 -- `relay::split_at` meets its contract. The loop's invariant: the columns hold what the rows before row `i` become.
-use mathlib.Core.Path.{_≡_, sym, subst}
+use mathlib.Core.Path.{◌≡◌, sym, subst}
 use mathlib.Core.List.{List}
-use Prim.Native.Nat.{_-_, _≤_}
+use Prim.Native.Nat.{◌-◌, ◌≤◌}
 use native.Mathlib.Omega.{arith}
-use borrow.Author.Needs.{needs}
-use Rattle·table.specs.Columns.{tableOf, Holds}
-use Rattle·rules.specs.Relay.{Row, ofRows, splitRows}
-use Rattle·relay·specs.specs.Splitting.{numbersOf}
-use Rattle·relay·proofs.proofs.Rows.{rows-none, rows-next}
-use Rattle·relay·proofs.proofs.Columns.{fits-row, room-for}
-use Rattle·relay·proofs.proofs.split_at.Statement.{statement}
-use Rattle·relay·proofs.proofs.split_at.Tie as tie
+use borrow.Author.Rules.{rules}
+use Rattle.table.specs.Columns.{table_of, Holds}
+use Rattle.rules.specs.Relay.{Row, of_rows, split_rows}
+use Rattle.relay.specs.Splitting.{numbers_of}
+use Rattle.relay.proofs.Rows.{rows_none, rows_next}
+use Rattle.relay.proofs.Columns.{fits_row, room_for}
+use Rattle.relay.proofs.split_at.Statement.{statement}
+use Rattle.relay.proofs.split_at.Tie as tie
 
-abbrev Inv-loop : tie.InvT-loop
-Inv-loop given relay split₀ i₀ split i =
-    (i ≤ given .rows) × Holds (ofRows (given .elements) (given .rings) (splitRows (tableOf given) relay i)) split
+abbrev invariant-loop : tie.invariant-loop-i
+invariant-loop given relay split₀ i₀ split i =
+    (i ≤ given.rows) × Holds (of_rows given.elements given.rings (split_rows (table_of given) relay i)) split
 
-abbrev μ-loop : tie.MeasureT-loop
-μ-loop given relay split₀ i₀ split i = given .rows - i
+abbrev decreases-loop : tie.decreases-loop-i
+decreases-loop given relay split₀ i₀ split i = given.rows - i
 
-no-rows-requires : tie.Need-no-rows-requires Inv-loop μ-loop
-no-rows-requires c κs = search needs
+no-rows-requires : tie.Need-no_rows-split-requires invariant-loop decreases-loop
+no-rows-requires c κs = search rules
 
-loop-holds : tie.Need-loop-holds Inv-loop μ-loop
+loop-holds : tie.Need-loop-i-init invariant-loop decreases-loop
 loop-holds c =
-    let a = c .before .args in
-    let g = a .given in (
+    let a = c.args in
+    let g = a.given in (
       omega arith,
-      subst (λ (xs : List Row). Holds (ofRows (g .elements) (g .rings) xs) (c .no-rows .result)) (sym (rows-none (tableOf g) (a .relay)))
-          (c .no-rows .ensures),
+      subst (λ (xs : List Row). Holds (of_rows g.elements g.rings xs) c.no_rows-split.result) (sym (rows_none (table_of g) a.relay))
+          c.no_rows-split.ensures,
     )
 
-row-of-requires : tie.Need-row-of-requires Inv-loop μ-loop
-row-of-requires c κs = let S = c .before .before .before .before .pre in omega (arith, S .0 .rows-high)
+row-of-requires : tie.Need-row_of-row-requires invariant-loop decreases-loop
+row-of-requires c κs = let S = c.requires in omega (arith, S.0.rows_high)
 
-goes-requires : tie.Need-goes-requires Inv-loop μ-loop
-goes-requires c κs = let S = c .before .before .before .before .before .pre in (S .0, S .1, omega arith)
+goes-requires : tie.Need-goes-through-requires invariant-loop decreases-loop
+goes-requires c κs = let S = c.requires in (S.0, S.1, omega arith)
 
-cast-with-parts : tie.Need-cast-with-parts Inv-loop μ-loop
+cast-with-parts : tie.Need-overflow_cast-relay invariant-loop decreases-loop
 cast-with-parts c =
-    let S = c .before .before .before .before .before .before .pre in
-    omega (arith, S .0 .elements-high, S .1 .high)
+    let S = c.requires in
+    omega (arith, S.0.elements_high, S.1.high)
 
-with-parts-requires : tie.Need-with-parts-requires Inv-loop μ-loop
+with-parts-requires : tie.Need-with_parts-split-requires invariant-loop decreases-loop
 with-parts-requires c κs =
-    let R = c .before in
-    let L = R .before .before .before in
-    let S = L .before .before in
-    let t = tableOf (S .args .given) in
-    let row = numbersOf (R .row-of .result) in (
-      room-for t (S .args .relay) (L .loop .i) row (omega arith) (S .pre .2) (c .goes .ensures) (L .loop .inv .1),
-      fits-row t (S .pre .0) {i = L .loop .i} (omega arith) (R .row-of .ensures),
-      omega (arith, S .pre .0 .elements-high, S .pre .1 .high),
+    let R = c in
+    let L = R in
+    let S = L in
+    let t = table_of S.args.given in
+    let row = numbers_of R.row_of-row.result in (
+      room_for t S.args.relay L.loop-i.i row (omega arith) S.requires.2 c.goes-through.ensures L.loop-i.invariant.1,
+      fits_row t S.requires.0 {i = L.loop-i.i} (omega arith) R.row_of-row.ensures,
+      omega (arith, S.requires.0.elements_high, S.requires.1.high),
     )
 
-add-i : tie.Need-add-i Inv-loop μ-loop
+add-i : tie.Need-overflow_add-i invariant-loop decreases-loop
 add-i c = omega arith
 
-loop-less : tie.Need-loop-less Inv-loop μ-loop
+loop-less : tie.Need-loop-i-smaller invariant-loop decreases-loop
 loop-less c = omega arith
 
-loop-again : tie.Need-loop-again Inv-loop μ-loop
+loop-again : tie.Need-loop-i-preserved invariant-loop decreases-loop
 loop-again c =
-    let G = c .before in
-    let R = G .before in
-    let L = R .before .before .before in
-    let S = L .before .before in
-    let g = S .args .given in
-    let t = tableOf g in
-    let r = S .args .relay in
-    let i = L .loop .i in
-    let e = rows-next t r i (G .goes .ensures) (R .row-of .ensures) in (
+    let G = c in
+    let R = G in
+    let L = R in
+    let S = L in
+    let g = S.args.given in
+    let t = table_of g in
+    let r = S.args.relay in
+    let i = L.loop-i.i in
+    let e = rows_next t r i G.goes-through.ensures R.row_of-row.ensures in (
       omega arith,
-      subst (λ (xs : List Row). Holds (ofRows (g .elements) (g .rings) xs) (c .with-parts .result)) (sym e)
-          (c .with-parts .ensures (g .elements) (g .rings) (splitRows t r i) (L .loop .inv .1)),
+      subst (λ (xs : List Row). Holds (of_rows g.elements g.rings xs) c.with_parts-split.result) (sym e)
+          (c.with_parts-split.ensures g.elements g.rings (split_rows t r i) L.loop-i.invariant.1),
     )
 
-returns : tie.Need-returns Inv-loop μ-loop
+returns : tie.Need-returns invariant-loop decreases-loop
 returns c =
-    let L = c .before .before in
-    let all : L .loop .i ≡ L .before .before .args .given .rows = omega arith in
-    rw all at (L .loop .inv .1)
+    let L = c in
+    let all : L.loop-i.i ≡ L.args.given.rows = omega arith in
+    rw all at L.loop-i.invariant.1
 
-pub split-at-spec : {M : Type 1} → statement M
-split-at-spec =
+pub split_at_spec : {M : Type 1} → statement M
+split_at_spec =
     tie.close
     (tie.spec
-    Inv-loop
-    μ-loop
+    invariant-loop
+    decreases-loop
     no-rows-requires
     loop-holds
     row-of-requires

@@ -1,64 +1,64 @@
 -- `relay::with_parts` meets its contract: one row more, or two.
 use mathlib.Core.Path.{ap}
-use Prim.Native.Nat.{_+_, _≤_}
+use Prim.Native.Nat.{◌+◌, ◌≤◌}
 use mathlib.Core.Bool.{Bool}
-use mathlib.Core.List.{[], _∷_, _++_}
+use mathlib.Core.List.{[], ◌∷◌, ◌++◌}
 use native.Mathlib.Omega.{arith}
-use borrow.Author.Needs.{needs}
+use borrow.Author.Rules.{rules}
 use lib.ListN.{length}
-use Rattle·rules.specs.Bounds.{max-rows}
-use Rattle·rules.specs.Relay.{becomes}
-use Rattle·relay·specs.specs.Splitting.{numbersOf}
-use Rattle·relay·proofs.proofs.Columns.{fits-first, fits-second, holds-one, holds-two}
-use Rattle·relay·proofs.proofs.with_parts.Statement.{statement}
-use Rattle·relay·proofs.proofs.with_parts.Tie as tie
+use Rattle.rules.specs.Bounds.{max_rows}
+use Rattle.rules.specs.Relay.{becomes}
+use Rattle.relay.specs.Splitting.{numbers_of}
+use Rattle.relay.proofs.Columns.{fits_first, fits_second, holds_one, holds_two}
+use Rattle.relay.proofs.with_parts.Statement.{statement}
+use Rattle.relay.proofs.with_parts.Tie as tie
 
 -- there is room for both halves, and for one row
-two : (z : tie.Then1) → z .before .args .columns .rows + 2 ≤ max-rows
+two : (z : tie.Then-goes) → z.args.columns.rows + 2 ≤ max_rows
 two z =
-    let a = z .before .args in
-    omega (arith, z .before .pre .0, ap (λ (b : Bool). length (becomes (a .relay) b (numbersOf (a .row)))) (z .if1 .taken))
+    let a = z.args in
+    omega (arith, z.requires.0, ap (λ (b : Bool). length (becomes a.relay b (numbers_of a.row))) z.if-goes.true)
 
-one : (z : tie.Else1) → z .before .args .columns .rows + 1 ≤ max-rows
+one : (z : tie.Else-goes) → z.args.columns.rows + 1 ≤ max_rows
 one z =
-    let a = z .before .args in
-    omega (arith, z .before .pre .0, ap (λ (b : Bool). length (becomes (a .relay) b (numbersOf (a .row)))) (z .if1 .left))
+    let a = z.args in
+    omega (arith, z.requires.0, ap (λ (b : Bool). length (becomes a.relay b (numbers_of a.row))) z.if-goes.false)
 
-to-relay-requires : tie.Need-to-relay-requires
-to-relay-requires c κs = search needs
+to-relay-requires : tie.Need-to_relay-requires
+to-relay-requires c κs = search rules
 
-with-row-requires : tie.Need-with-row-requires
+with-row-requires : tie.Need-with_row-half-requires
 with-row-requires c κs =
-    let z = c .before in
-    (omega (arith, two z), fits-first (z .before .pre .1) (z .before .pre .2) (c .to-relay .ensures))
+    let z = c.before in
+    (omega (arith, two z), fits_first z.requires.1 z.requires.2 c.to_relay.ensures)
 
-from-relay-requires : tie.Need-from-relay-requires
-from-relay-requires c κs = search needs
+from-relay-requires : tie.Need-from_relay-requires
+from-relay-requires c κs = search rules
 
-with-row-requires-2 : tie.Need-with-row-requires-2
+with-row-requires-2 : tie.Need-with_row-requires
 with-row-requires-2 c κs =
-    let z = c .before .before .before in
-    (omega (arith, two z, c .before .with-row .ensures .0), fits-second (z .before .pre .1) (z .before .pre .2) (c .from-relay .ensures))
+    let z = c.before.before.before in
+    (omega (arith, two z, c.with_row-half.ensures.0), fits_second z.requires.1 z.requires.2 c.from_relay.ensures)
 
-returns : tie.Need-returns
+returns : tie.Need-returns-then-goes
 returns c M d xs H =
-    let z = c .before .before .before .before in
-    let a = z .before .args in
-    let half = numbersOf (c .before .before .before .to-relay .result) in
-    holds-two M d xs (a .relay) (a .goes) (numbersOf (a .row)) _ _ (z .if1 .taken) (c .before .before .before .to-relay .ensures)
-    (c .before .from-relay .ensures) (c .with-row2 .ensures .1 M d (xs ++ (half ∷ [])) (c .before .before .with-row .ensures .1 M d xs H))
+    let z = c in
+    let a = z.args in
+    let half = numbers_of c.to_relay.result in
+    holds_two M d xs a.relay a.goes (numbers_of a.row) _ _ z.if-goes.true c.to_relay.ensures
+    c.from_relay.ensures (c.with_row.ensures.1 M d (xs ++ (half ∷ [])) (c.with_row-half.ensures.1 M d xs H))
 
-with-row-requires-3 : tie.Need-with-row-requires-3
-with-row-requires-3 c κs = (omega (arith, one c), c .before .pre .1)
+with-row-requires-3 : tie.Need-with_row-requires-2
+with-row-requires-3 c κs = (omega (arith, one c), c.requires.1)
 
-returns-2 : tie.Need-returns-2
+returns-2 : tie.Need-returns
 returns-2 c M d xs H =
-    let z = c .before in
-    let a = z .before .args in
-    holds-one M d xs (a .relay) (a .goes) (numbersOf (a .row)) (z .if1 .left) (c .with-row3 .ensures .1 M d xs H)
+    let z = c in
+    let a = z.args in
+    holds_one M d xs a.relay a.goes (numbers_of a.row) z.if-goes.false (c.with_row-2.ensures.1 M d xs H)
 
-pub with-parts-spec : {M : Type 1} → statement M
-with-parts-spec =
+pub with_parts_spec : {M : Type 1} → statement M
+with_parts_spec =
     tie.close
     (tie.spec
     to-relay-requires

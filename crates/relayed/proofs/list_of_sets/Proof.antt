@@ -1,29 +1,29 @@
 -- `relayed::list_of_sets` meets its contract: the outline answers the file's checks with a relay up to 11.
-use borrow.Author.Needs.{needs}
-use Rattle·rules.specs.Calls.{relayedLineAsk}
-use Rattle·outline.proofs.Listed.{traced, list-asked}
-use Rattle·relayed·proofs.proofs.Checked.{line-numbered}
-use Rattle·relayed·proofs.proofs.list_of_sets.Statement.{statement}
-use Rattle·relayed·proofs.proofs.list_of_sets.Tie as tie
+use borrow.Author.Rules.{rules}
+use Rattle.rules.specs.Calls.{relayed_line_ask}
+use Rattle.outline.proofs.Listed.{traced, list_asked}
+use Rattle.relayed.proofs.Checked.{line_numbered}
+use Rattle.relayed.proofs.list_of_sets.Statement.{statement}
+use Rattle.relayed.proofs.list_of_sets.Tie as tie
 
-outline-file-requires : tie.Need-outline-file-requires
-outline-file-requires c κs = search needs
+outline-file-requires : tie.Need-outline_file-requires
+outline-file-requires c κs = search rules
 
-list-on-requires : tie.Need-list-on-requires
-list-on-requires c κs = traced (relayedLineAsk _ _) (c .before .outline-file .ensures)
+list-on-requires : tie.Need-list_on-requires
+list-on-requires c κs = traced (relayed_line_ask _ _) c.outline_file.ensures
 
-same-length : tie.Need-same-length
-same-length c = search needs
+same_length : tie.Need-shape_of-out
+same_length c = search rules
 
 returns : tie.Need-returns
 returns c =
-    let L = c .before .before in
-    let O = L .before .before in
-    let a = O .before .before .before .args in
-    let f = a .file .now in
-    let r = a .relay in
-    list-asked (relayedLineAsk f r) (line-numbered f r) (O .outline-file .ensures) (L .list-on .result) (a .out .now) _
-    (L .list-on .ensures)
+    let L = c in
+    let O = L in
+    let a = O.args in
+    let f = a.file.now in
+    let r = a.relay in
+    list_asked (relayed_line_ask f r) (line_numbered f r) O.outline_file.ensures L.list_on.result a.out.now _
+    L.list_on.ensures
 
-pub list-of-sets-spec : {M : Type 1} → statement M
-list-of-sets-spec = tie.close (tie.spec outline-file-requires list-on-requires same-length returns)
+pub list_of_sets_spec : {M : Type 1} → statement M
+list_of_sets_spec = tie.close (tie.spec outline-file-requires list-on-requires same_length returns)

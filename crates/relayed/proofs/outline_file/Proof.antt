@@ -1,59 +1,59 @@
 -- `relayed::outline_file` meets its contract: past the checks of a table that is to be split the columns hold the split table.
-use mathlib.Core.Path.{_≡_}
+use mathlib.Core.Path.{◌≡◌}
 use mathlib.Core.List.{List}
 use Prim.Native.Nat.{ℕ}
-use borrow.Author.Needs.{needs}
-use Rattle·numbers.specs.Lists.{at}
-use Rattle·rules.specs.TableFile.{fileTable}
-use Rattle·rules.proofs.Answers.{None}
-use Rattle·table.specs.Sound.{Sound}
-use Rattle·table.specs.Columns.{tableOf}
-use Rattle·rules.specs.Relay.{split}
-use Rattle·rules.specs.Refusals.{split-checks}
-use Rattle·relayed·proofs.proofs.Checked.{line-stopped, split-zero, line-past, columns-sound}
-use Rattle·relayed·proofs.proofs.outline_file.Statement.{statement}
-use Rattle·relayed·proofs.proofs.outline_file.Tie as tie
+use borrow.Author.Rules.{rules}
+use Rattle.numbers.specs.Lists.{at}
+use Rattle.rules.specs.TableFile.{file_table}
+use Rattle.rules.proofs.Answers.{None}
+use Rattle.table.specs.Sound.{Sound}
+use Rattle.table.specs.Columns.{table_of}
+use Rattle.rules.specs.Relay.{split}
+use Rattle.rules.specs.Refusals.{split_checks}
+use Rattle.relayed.proofs.Checked.{line_stopped, split_zero, line_past, columns_sound}
+use Rattle.relayed.proofs.outline_file.Statement.{statement}
+use Rattle.relayed.proofs.outline_file.Tie as tie
 
-abbrev taken : tie.Else1 → tie.After-split-file
-taken z = z .before .before .before
+abbrev taken : tie.Else-answer-ne-DONE → tie.After-split_file-found
+taken z = z.before.before.before
 
-abbrev bytes : tie.Else1 → List ℕ
-bytes z = taken z .before .before .args .file .now
+abbrev bytes : tie.Else-answer-ne-DONE → List ℕ
+bytes z = (taken z).args.file.now
 
-abbrev relay : tie.Else1 → ℕ
-relay z = taken z .before .before .args .relay
+abbrev relay : tie.Else-answer-ne-DONE → ℕ
+relay z = (taken z).args.relay
 
-none : (z : tie.Else1) → None (split-checks (bytes z) (relay z))
-none z = split-zero (bytes z) (relay z) (taken z .split-file .result .answer) (z .if1 .left) (taken z .split-file .ensures .answers)
+none : (z : tie.Else-answer-ne-DONE) → None (split_checks (bytes z) (relay z))
+none z = split_zero (bytes z) (relay z) (taken z).split_file-found.result.answer z.if-answer-ne-DONE.false (taken z).split_file-found.ensures.answers
 
-held : (z : tie.Else1) → tableOf (taken z .split-file .result .columns) ≡ split (fileTable (bytes z)) (relay z)
-held z = taken z .split-file .ensures .passed (z .if1 .left) .table
+held : (z : tie.Else-answer-ne-DONE) → table_of (taken z).split_file-found.result.columns ≡ split (file_table (bytes z)) (relay z)
+held z = ((taken z).split_file-found.ensures.passed z.if-answer-ne-DONE.false).table
 
-sound : (z : tie.Else1) → Sound (tableOf (taken z .split-file .result .columns))
-sound z = columns-sound (bytes z) (relay z) (none z) _ (held z)
+sound : (z : tie.Else-answer-ne-DONE) → Sound (table_of (taken z).split_file-found.result.columns)
+sound z = columns_sound (bytes z) (relay z) (none z) _ (held z)
 
-split-file-requires : tie.Need-split-file-requires
-split-file-requires c κs = search needs
+split-file-requires : tie.Need-split_file-found-requires
+split-file-requires c κs = search rules
 
 refused-requires : tie.Need-refused-requires
-refused-requires c κs = search needs
+refused-requires c κs = search rules
 
-returns : tie.Need-returns
+returns : tie.Need-returns-then-answer-ne-DONE
 returns c =
-    let s = c .before .before .before .before in
-    let a = s .before .before .args in
-    rw (c .refused .ensures)
-    (line-stopped (a .file .now) (a .relay) (s .split-file .result .answer) (c .before .if1 .taken) (s .split-file .ensures .answers))
+    let s = c in
+    let a = s.args in
+    rw c.refused.ensures
+    (line_stopped a.file.now a.relay s.split_file-found.result.answer c.if-answer-ne-DONE.true s.split_file-found.ensures.answers)
 
-outline-of-requires : tie.Need-outline-of-requires
+outline-of-requires : tie.Need-outline_of-requires
 outline-of-requires c κs =
-    let z = c .before .before .before .before .before in
-    (at (taken z .split-file .result .columns .cost), sound z)
+    let z = c.before.before.before.before in
+    (at (taken z).split_file-found.result.columns.cost, sound z)
 
-returns-2 : tie.Need-returns-2
+returns-2 : tie.Need-returns
 returns-2 c =
-    let z = c .before .before .before .before .before .before in
-    line-past (bytes z) (relay z) (none z) _ (held z) (c .outline-of .ensures (at (taken z .split-file .result .columns .cost)) (sound z))
+    let z = c.before.before.before.before.before in
+    line_past (bytes z) (relay z) (none z) _ (held z) (c.outline_of.ensures (at (taken z).split_file-found.result.columns.cost) (sound z))
 
-pub outline-file-spec : {M : Type 1} → statement M
-outline-file-spec = tie.close (tie.spec split-file-requires refused-requires returns outline-of-requires returns-2)
+pub outline_file_spec : {M : Type 1} → statement M
+outline_file_spec = tie.close (tie.spec split-file-requires refused-requires returns outline-of-requires returns-2)

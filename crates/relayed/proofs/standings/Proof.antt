@@ -1,23 +1,23 @@
 -- `relayed::standings` meets its contract: the analysis answers the file's checks with a relay.
-use borrow.Author.Needs.{needs}
-use Rattle·rules.specs.Calls.{relayedAsk}
-use Rattle·planner.proofs.Asks.{usable, standings-asked}
-use Rattle·relayed·proofs.proofs.Checked.{relayed-numbered}
-use Rattle·relayed·proofs.proofs.standings.Statement.{statement}
-use Rattle·relayed·proofs.proofs.standings.Tie as tie
+use borrow.Author.Rules.{rules}
+use Rattle.rules.specs.Calls.{relayed_ask}
+use Rattle.planner.proofs.Asks.{usable, standings_asked}
+use Rattle.relayed.proofs.Checked.{relayed_numbered}
+use Rattle.relayed.proofs.standings.Statement.{statement}
+use Rattle.relayed.proofs.standings.Tie as tie
 
 analyse-requires : tie.Need-analyse-requires
-analyse-requires c κs = search needs
+analyse-requires c κs = search rules
 
-standings-on-requires : tie.Need-standings-on-requires
-standings-on-requires c κs = usable (relayedAsk _ _) (c .analyse .ensures)
+standings-on-requires : tie.Need-standings_on-requires
+standings-on-requires c κs = usable (relayed_ask _ _) c.analyse.ensures
 
 returns : tie.Need-returns
 returns c =
-    let A = c .before .analyse in
-    let a = c .before .before .before .args in
-    standings-asked (relayedAsk (a .file .now) (a .relay)) (relayed-numbered (a .file .now) (a .relay)) (A .ensures) (a .p)
-    (c .standings-on .result) (c .standings-on .ensures)
+    let A = c.analyse in
+    let a = c.args in
+    standings_asked (relayed_ask a.file.now a.relay) (relayed_numbered a.file.now a.relay) A.ensures a.p
+    c.standings_on.result c.standings_on.ensures
 
-pub standings-spec : {M : Type 1} → statement M
-standings-spec = tie.close (tie.spec analyse-requires standings-on-requires returns)
+pub standings_spec : {M : Type 1} → statement M
+standings_spec = tie.close (tie.spec analyse-requires standings-on-requires returns)

@@ -1,35 +1,35 @@
 -- `relayed::step` meets its contract: the analysis answers the file's checks with a relay.
-use mathlib.Core.Path.{_≡_}
-use borrow.Author.Needs.{needs}
+use mathlib.Core.Path.{◌≡◌}
+use borrow.Author.Rules.{rules}
 use lib.ListN.{length}
-use Rattle·rules.specs.Bounds.{max-rows}
-use Rattle·rules.specs.Calls.{relayedAsk}
-use Rattle·planner.proofs.Asks.{usable, step-asked}
-use Rattle·relayed·proofs.proofs.Checked.{relayed-numbered}
-use Rattle·relayed·proofs.proofs.step.Statement.{statement}
-use Rattle·relayed·proofs.proofs.step.Tie as tie
+use Rattle.rules.specs.Bounds.{max_rows}
+use Rattle.rules.specs.Calls.{relayed_ask}
+use Rattle.planner.proofs.Asks.{usable, step_asked}
+use Rattle.relayed.proofs.Checked.{relayed_numbered}
+use Rattle.relayed.proofs.step.Statement.{statement}
+use Rattle.relayed.proofs.step.Tie as tie
 
-size : (c : tie.Start) → length (c .args .p .totals) ≡ max-rows
-size c = search needs
+size : (c : tie.Start) → length c.args.p.totals ≡ max_rows
+size c = search rules
 
 analyse-requires : tie.Need-analyse-requires
-analyse-requires c κs = search needs
+analyse-requires c κs = search rules
 
-step-on-requires : tie.Need-step-on-requires
-step-on-requires c κs = usable (relayedAsk _ _) (c .before .analyse .ensures)
+step-on-requires : tie.Need-step_on-requires
+step-on-requires c κs = usable (relayed_ask _ _) c.analyse.ensures
 
-same-length : tie.Need-same-length
-same-length c = search needs
+same_length : tie.Need-shape_of-out
+same_length c = search rules
 
 returns : tie.Need-returns
 returns c =
-    let O = c .before .before in
-    let A = O .before .before in
-    let S = A .before .before .before in
-    let f = S .args .file .now in
-    let r = S .args .relay in
-    step-asked (relayedAsk f r) (relayed-numbered f r) (A .analyse .ensures) (S .args .p) (O .step-on .result)
-    (S .args .out .now) _ (size S) (O .step-on .ensures)
+    let O = c in
+    let A = O in
+    let S = A.before.before.before.before.before.before.before in
+    let f = S.args.file.now in
+    let r = S.args.relay in
+    step_asked (relayed_ask f r) (relayed_numbered f r) A.analyse.ensures S.args.p O.step_on.result
+    S.args.out.now _ (size S) O.step_on.ensures
 
-pub step-spec : {M : Type 1} → statement M
-step-spec = tie.close (tie.spec analyse-requires step-on-requires same-length returns)
+pub step_spec : {M : Type 1} → statement M
+step_spec = tie.close (tie.spec analyse-requires step-on-requires same_length returns)

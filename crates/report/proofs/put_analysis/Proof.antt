@@ -1,119 +1,75 @@
 -- put_analysis: the verdict's line, and where it admits the table the lines of its values, sets and slots.
-use borrow.Author.Needs.{needs}
+use borrow.Author.Rules.{rules}
 use native.Mathlib.Omega.{arith}
-use mathlib.Core.Path.{_≡_}
-use Rattle·planner.specs.Analysed.{Usable}
-use Rattle·report·proofs.proofs.Printed.{is-admitted, on-refused, on-admitted}
-use Rattle·report·proofs.proofs.put_analysis.Statement.{statement}
-use Rattle·report·proofs.proofs.put_analysis.Tie as tie
+use Rattle.report.proofs.Printed.{is_admitted, on_refused, on_admitted}
+use Rattle.report.proofs.put_analysis.Statement.{statement}
+use Rattle.report.proofs.put_analysis.Tie as tie
 
-abbrev entry : tie.After-verdict-of → tie.Start
-entry z = z .before .before
-
-usable : (z : tie.After-verdict-of) → Usable (entry z .args .table)
-usable z = entry z .pre
-
--- where the verdict is taken apart
-abbrev written : tie.After-answer → tie.After-put-verdict
-written d = d .before .before .before .before
-
-abbrev judged : tie.After-put-verdict → tie.After-verdict-of
-judged v = v .before .before .before .before
-
-admitted : (d : tie.After-answer) → entry (judged (written d)) .args .table .outline .answer .number ≡ 0
-admitted d = let z = judged (written d) in is-admitted (usable z) (z .verdict-of .ensures) _ _ _ _ _ _ (d .answer .given .1)
-
-verdict-of-requires : tie.Need-verdict-of-requires
-verdict-of-requires c κs = c .before .pre
+verdict-of-requires : tie.Need-verdict_of-answer-requires
+verdict-of-requires c κs = c.requires
 
 number-requires : tie.Need-number-requires
-number-requires c κs = search needs
+number-requires c κs = search rules
 
 place-requires : tie.Need-place-requires
-place-requires c κs = search needs
+place-requires c κs = search rules
 
-put-verdict-requires : tie.Need-put-verdict-requires
-put-verdict-requires c κs = search needs
+put-verdict-requires : tie.Need-put_verdict-first-requires
+put-verdict-requires c κs = search rules
 
-enum-known-answer : tie.Need-enum-known-answer
-enum-known-answer c = search needs
+enum-known-answer : tie.Need-enum_known-answer
+enum-known-answer c = search rules
 
-enum-told : tie.Need-enum-told
-enum-told c = search needs
+enum_told : tie.Need-enum_told-1
+enum_told c = search rules
 
-same-length : tie.Need-same-length
-same-length c = search needs
+same_length : tie.Need-shape_of-out-in_default
+same_length c = search rules
 
-returns : tie.Need-returns
+returns : tie.Need-returns-in_default
 returns c =
-    let v = c .before .before .before .before in
-    let p = v .before .before in
-    let n = p .before in
-    let z = n .before in
-    on-refused (usable z) (z .verdict-of .ensures) (n .number .result) (p .place .result) (n .number .ensures) (p .place .ensures)
-    (v .put-verdict .ensures) _ (c .enum-told .given .1)
+    on_refused c.requires c.verdict_of-answer.ensures c.number.result c.place.result c.number.ensures c.place.ensures
+    c.put_verdict-first.ensures _ c.in_default.is
 
-put-cuts-requires : tie.Need-put-cuts-requires
-put-cuts-requires c κs = search needs
+put-cuts-requires : tie.Need-put_cuts-parted-requires
+put-cuts-requires c κs = search rules
 
-put-values-requires : tie.Need-put-values-requires
-put-values-requires c κs = search needs
+put-values-requires : tie.Need-put_values-valued-requires
+put-values-requires c κs = search rules
 
--- where the cuts are written
-abbrev told : tie.After-put-cuts → tie.After-answer
-told q = q .before .before .before
+put-list-requires : tie.Need-put_list-listed-requires
+put-list-requires c κs = (
+  c.requires,
+  is_admitted c.requires c.verdict_of-answer.ensures _ _ _ _ _ _ c.in-Admitted.is,
+  omega (arith, c.put_values-valued.ensures.1, c.put_cuts-parted.ensures.1, c.put_verdict-first.ensures.1),
+)
 
-put-list-requires : tie.Need-put-list-requires
-put-list-requires c κs =
-    let w = c .before .before .before in
-    let q = w .before .before .before .before in
-    let d = told q in
-    let v = written d in (
-      usable (judged v),
-      admitted d,
-      omega (arith, w .put-values .ensures .1, q .put-cuts .ensures .1, v .put-verdict .ensures .1),
-    )
-
-put-plan-requires : tie.Need-put-plan-requires
+put-plan-requires : tie.Need-put_plan-requires
 put-plan-requires c κs =
-    let l = c .before .before .before in
-    let w = l .before .before .before .before in
-    let q = w .before .before .before .before in
-    let d = told q in
-    let v = written d in
-    let S = entry (judged v) in
-    let listed = l .put-list .ensures in
-    let u = S .pre (admitted d) in (
-      usable (judged v),
-      admitted d,
+    let z = is_admitted c.requires c.verdict_of-answer.ensures _ _ _ _ _ _ c.in-Admitted.is in
+    let u = c.requires z in (
+      c.requires,
+      z,
       omega (
         arith,
-        listed (u .0) (u .1) .2 .1,
-        w .put-values .ensures .1,
-        q .put-cuts .ensures .1,
-        v .put-verdict .ensures .1,
+        (c.put_list-listed.ensures u.0 u.1).2.1,
+        c.put_values-valued.ensures.1,
+        c.put_cuts-parted.ensures.1,
+        c.put_verdict-first.ensures.1,
       ),
     )
 
-same-length-2 : tie.Need-same-length-2
-same-length-2 c = search needs
+same-length-2 : tie.Need-shape_of-out
+same-length-2 c = search rules
 
-returns-2 : tie.Need-returns-2
+returns-2 : tie.Need-returns
 returns-2 c =
-    let l = c .before .before .before .before .before .before in
-    let w = l .before .before .before .before in
-    let q = w .before .before .before .before in
-    let d = told q in
-    let v = written d in
-    let p = v .before .before in
-    let n = p .before in
-    let z = n .before in
-    on-admitted (usable z) (z .verdict-of .ensures) (n .number .result) (p .place .result) (n .number .ensures) (p .place .ensures)
-    (v .put-verdict .ensures) _ _ _ _ _ _ (d .answer .given .1) (q .put-cuts .ensures) (w .put-values .ensures) (l .put-list .ensures)
-    (c .before .before .put-plan .ensures)
+    on_admitted c.requires c.verdict_of-answer.ensures c.number.result c.place.result c.number.ensures c.place.ensures
+    c.put_verdict-first.ensures _ _ _ _ _ _ c.in-Admitted.is c.put_cuts-parted.ensures c.put_values-valued.ensures
+    c.put_list-listed.ensures c.put_plan.ensures
 
-pub put-analysis-spec : {M : Type 1} → statement M
-put-analysis-spec =
+pub put_analysis_spec : {M : Type 1} → statement M
+put_analysis_spec =
     tie.close
     (tie.spec
     verdict-of-requires
@@ -121,8 +77,8 @@ put-analysis-spec =
     place-requires
     put-verdict-requires
     enum-known-answer
-    enum-told
-    same-length
+    enum_told
+    same_length
     returns
     put-cuts-requires
     put-values-requires

@@ -1,45 +1,35 @@
 -- put_cuts: a line for the one ring, or two.
-use borrow.Author.Needs.{needs}
-use native.Mathlib.Omega.{arith}
-use Rattle·report·proofs.proofs.Cuts.{cuts-one, cuts-two}
-use Rattle·report·proofs.proofs.put_cuts.Statement.{statement}
-use Rattle·report·proofs.proofs.put_cuts.Tie as tie
+use borrow.Author.Rules.{rules}
+use Rattle.report.proofs.Cuts.{cuts_one, cuts_two}
+use Rattle.report.proofs.put_cuts.Statement.{statement}
+use Rattle.report.proofs.put_cuts.Tie as tie
 
-slice-aggregate-put-value : tie.Need-slice-aggregate-put-value
-slice-aggregate-put-value c = search needs
+put-value-requires : tie.Need-put_value-next-requires
+put-value-requires c κs = search rules
 
-put-value-requires : tie.Need-put-value-requires
-put-value-requires c κs = search needs
+same_length : tie.Need-shape_of-out-then-other-eq0
+same_length c = search rules
 
-same-length : tie.Need-same-length
-same-length c = search needs
+returns : tie.Need-returns-then-other-eq0
+returns c = cuts_one _ _ c.if-other-eq0.true c.put_value-next.ensures
 
-returns : tie.Need-returns
-returns c = cuts-one _ _ (c .if1 .taken) (c .before .before .before .put-value .ensures)
+put-value-requires-2 : tie.Need-put_value-requires
+put-value-requires-2 c κs = search rules
 
-slice-aggregate-put-value-2 : tie.Need-slice-aggregate-put-value-2
-slice-aggregate-put-value-2 c = search needs
+same-length-2 : tie.Need-shape_of-out
+same-length-2 c = search rules
 
-put-value-requires-2 : tie.Need-put-value-requires-2
-put-value-requires-2 c κs = search needs
-
-same-length-2 : tie.Need-same-length-2
-same-length-2 c = search needs
-
-returns-2 : tie.Need-returns-2
+returns-2 : tie.Need-returns
 returns-2 c =
-    let e = c .before .before .before .before .before in
-    cuts-two _ _ (e .if1 .left) (e .before .before .before .put-value .ensures) (c .before .before .put-value2 .ensures)
+    cuts_two _ _ c.if-other-eq0.false c.put_value-next.ensures c.put_value.ensures
 
-pub put-cuts-spec : {M : Type 1} → statement M
-put-cuts-spec =
+pub put_cuts_spec : {M : Type 1} → statement M
+put_cuts_spec =
     tie.close
     (tie.spec
-    slice-aggregate-put-value
     put-value-requires
-    same-length
+    same_length
     returns
-    slice-aggregate-put-value-2
     put-value-requires-2
     same-length-2
     returns-2)

@@ -1,51 +1,38 @@
 -- put_values: the three lines, one after the other.
-use borrow.Author.Needs.{needs}
+use borrow.Author.Rules.{rules}
 use native.Mathlib.Omega.{arith}
-use Rattle·rules.specs.Text.{text}
-use Rattle·decimal.proofs.Puts.{puts-none, puts-more}
-use Rattle·report·proofs.proofs.put_values.Statement.{statement}
-use Rattle·report·proofs.proofs.put_values.Tie as tie
+use Rattle.rules.specs.Text.{text}
+use Rattle.decimal.proofs.Puts.{puts_none, puts_more}
+use Rattle.report.proofs.put_values.Statement.{statement}
+use Rattle.report.proofs.put_values.Tie as tie
 
-slice-aggregate-put-value : tie.Need-slice-aggregate-put-value
-slice-aggregate-put-value c = search needs
+put-value-requires : tie.Need-put_value-next-requires
+put-value-requires c κs = search rules
 
-put-value-requires : tie.Need-put-value-requires
-put-value-requires c κs = search needs
+put-value-requires-2 : tie.Need-put_value-last-requires
+put-value-requires-2 c κs = search rules
 
-slice-aggregate-put-value-2 : tie.Need-slice-aggregate-put-value-2
-slice-aggregate-put-value-2 c = search needs
+put-value-requires-3 : tie.Need-put_value-requires
+put-value-requires-3 c κs = search rules
 
-put-value-requires-2 : tie.Need-put-value-requires-2
-put-value-requires-2 c κs = search needs
-
-slice-aggregate-put-value-3 : tie.Need-slice-aggregate-put-value-3
-slice-aggregate-put-value-3 c = search needs
-
-put-value-requires-3 : tie.Need-put-value-requires-3
-put-value-requires-3 c κs = search needs
-
-same-length : tie.Need-same-length
-same-length c = search needs
+same_length : tie.Need-shape_of-out
+same_length c = search rules
 
 returns : tie.Need-returns
 unfolding text
 returns c =
-    let D = c .before .before .put-value3 .ensures in
-    let b = c .before .before .before .before .before .before .before in
-    let A = b .before .before .before .before .before .put-value .ensures in (
-      puts-more (A .0) (puts-more (b .put-value2 .ensures .0) (puts-more (D .0) (puts-none _ _))),
-      omega (arith, A .1, b .put-value2 .ensures .1, D .1),
+    let D = c.put_value.ensures in
+    let A = c.put_value-next.ensures in (
+      puts_more A.0 (puts_more c.put_value-last.ensures.0 (puts_more D.0 (puts_none _ _))),
+      omega (arith, A.1, c.put_value-last.ensures.1, D.1),
     )
 
-pub put-values-spec : {M : Type 1} → statement M
-put-values-spec =
+pub put_values_spec : {M : Type 1} → statement M
+put_values_spec =
     tie.close
     (tie.spec
-    slice-aggregate-put-value
     put-value-requires
-    slice-aggregate-put-value-2
     put-value-requires-2
-    slice-aggregate-put-value-3
     put-value-requires-3
-    same-length
+    same_length
     returns)

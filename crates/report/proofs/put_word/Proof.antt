@@ -1,48 +1,40 @@
 -- put_word: a slot's line or a set's, by the test.
-use borrow.Author.Needs.{needs}
+use borrow.Author.Rules.{rules}
 use native.Mathlib.Omega.{arith}
-use Rattle·report·proofs.proofs.put_word.Statement.{statement}
-use Rattle·report·proofs.proofs.put_word.Tie as tie
+use Rattle.report.proofs.put_word.Statement.{statement}
+use Rattle.report.proofs.put_word.Tie as tie
 
-slice-aggregate-put-line : tie.Need-slice-aggregate-put-line
-slice-aggregate-put-line c = search needs
+slice-aggregate-put-line : tie.Need-slice_bounds-put_line-end-then-slots
+slice-aggregate-put-line c = search rules
 
-slice-aggregate-put-line-2 : tie.Need-slice-aggregate-put-line-2
-slice-aggregate-put-line-2 c = search needs
+put-line-requires : tie.Need-put_line-requires
+put-line-requires c κs = search rules
 
-put-line-requires : tie.Need-put-line-requires
-put-line-requires c κs = search needs
+same_length : tie.Need-shape_of-out-then-slots
+same_length c = search rules
 
-same-length : tie.Need-same-length
-same-length c = search needs
-
-returns : tie.Need-returns
+returns : tie.Need-returns-then-slots
 returns c =
-    let p = c .before .before .put-line .ensures in
-    rw (c .before .before .before .before .before .before .if1 .taken) (p .0, omega (arith, p .1))
+    let p = c.put_line.ensures in
+    rw c.if-slots.true (p.0, omega (arith, p.1))
 
-slice-aggregate-put-value : tie.Need-slice-aggregate-put-value
-slice-aggregate-put-value c = search needs
+put-value-requires : tie.Need-put_value-requires
+put-value-requires c κs = search rules
 
-put-value-requires : tie.Need-put-value-requires
-put-value-requires c κs = search needs
+same-length-2 : tie.Need-shape_of-out
+same-length-2 c = search rules
 
-same-length-2 : tie.Need-same-length-2
-same-length-2 c = search needs
+returns-2 : tie.Need-returns
+returns-2 c = rw c.if-slots.false c.put_value.ensures
 
-returns-2 : tie.Need-returns-2
-returns-2 c = rw (c .before .before .before .before .before .if1 .left) (c .before .before .put-value .ensures)
-
-pub put-word-spec : {M : Type 1} → statement M
-put-word-spec =
+pub put_word_spec : {M : Type 1} → statement M
+put_word_spec =
     tie.close
     (tie.spec
     slice-aggregate-put-line
-    slice-aggregate-put-line-2
     put-line-requires
-    same-length
+    same_length
     returns
-    slice-aggregate-put-value
     put-value-requires
     same-length-2
     returns-2)

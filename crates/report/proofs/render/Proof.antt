@@ -1,51 +1,49 @@
 -- render: what is printed of the analysis of what is read.
-use borrow.Author.Needs.{needs}
+use borrow.Author.Rules.{rules}
 use native.Mathlib.Omega.{arith}
 use mathlib.Core.Path.{sym, subst}
 use mathlib.Core.List.{List}
 use Prim.Native.Nat.{ℕ}
 use lib.ListN.{take}
 use lib.Seq.{length-take-le}
-use Rattle·rules.specs.Calls.{fileAsk}
-use Rattle·verdict.proofs.Bound.{verdict-numbered}
-use Rattle·planner.proofs.Asks.{usable}
-use Rattle·report·specs.specs.Rendered.{RenderedFor}
-use Rattle·report·proofs.proofs.Printed.{read-input, rendered-asked}
-use Rattle·report·proofs.proofs.render.Statement.{statement}
-use Rattle·report·proofs.proofs.render.Tie as tie
+use Rattle.rules.specs.Calls.{file_ask}
+use Rattle.verdict.proofs.Bound.{verdict_numbered}
+use Rattle.planner.proofs.Asks.{usable}
+use Rattle.report.specs.Rendered.{RenderedFor}
+use Rattle.report.proofs.Printed.{read_input, rendered_asked}
+use Rattle.report.proofs.render.Statement.{statement}
+use Rattle.report.proofs.render.Tie as tie
 
-abbrev entry : tie.After-least → tie.Start
-entry z = z .before .before .before
+abbrev entry : tie.After-least-read → tie.Start
+entry z = z.before.before.before
 
-abbrev file : tie.After-least → List ℕ
-file z = take (z .least .result) (entry z .args .input .now)
+abbrev file : tie.After-least-read → List ℕ
+file z = take z.least-read.result (entry z).args.input.now
 
-least-requires : tie.Need-least-requires
-least-requires c κs = search needs
+least-requires : tie.Need-least-read-requires
+least-requires c κs = search rules
 
-slice-aggregate-analyse : tie.Need-slice-aggregate-analyse
+slice-aggregate-analyse : tie.Need-slice_bounds-analyse-end
 slice-aggregate-analyse c = sym (length-take-le _ _ (omega arith))
 
 analyse-requires : tie.Need-analyse-requires
-analyse-requires c κs = search needs
+analyse-requires c κs = search rules
 
-put-analysis-requires : tie.Need-put-analysis-requires
-put-analysis-requires c κs = usable (fileAsk _) (c .before .analyse .ensures)
+put-analysis-requires : tie.Need-put_analysis-requires
+put-analysis-requires c κs = usable (file_ask _) c.analyse.ensures
 
-same-length : tie.Need-same-length
-same-length c = search needs
+same_length : tie.Need-shape_of-out
+same_length c = search rules
 
 returns : tie.Need-returns
 returns c =
-    let P = c .before .before in
-    let A = P .before .before in
-    let z = A .before .before in
-    let a = entry z .args in
-    let w = P .put-analysis in
-    subst (λ (f : List ℕ). RenderedFor (fileAsk f) (a .out .now) (w .last .1 .0) (w .result))
-    (read-input (a .input .now) _ (z .least .ensures))
-    (rendered-asked (fileAsk (file z)) (verdict-numbered (file z)) (A .analyse .ensures) (a .out .now) _ _ (w .ensures))
+    let z = c.before.before.before.before.before in
+    let a = (entry z).args in
+    let w = c.put_analysis in
+    subst (λ (f : List ℕ). RenderedFor (file_ask f) a.out.now w.new.out w.result)
+    (read_input a.input.now _ z.least-read.ensures)
+    (rendered_asked (file_ask (file z)) (verdict_numbered (file z)) c.analyse.ensures a.out.now _ _ w.ensures)
 
-pub render-spec : {M : Type 1} → statement M
-render-spec =
-    tie.close (tie.spec least-requires slice-aggregate-analyse analyse-requires put-analysis-requires same-length returns)
+pub render_spec : {M : Type 1} → statement M
+render_spec =
+    tie.close (tie.spec least-requires slice-aggregate-analyse analyse-requires put-analysis-requires same_length returns)

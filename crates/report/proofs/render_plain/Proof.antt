@@ -1,113 +1,79 @@
 -- render_plain: the verdict's line where it refuses, else the slot lines of both planners.
-use borrow.Author.Needs.{needs}
+use borrow.Author.Rules.{rules}
 use native.Mathlib.Omega.{arith}
-use mathlib.Core.Path.{_≡_}
-use mathlib.Core.List.{List}
-use Prim.Native.Nat.{ℕ}
-use Rattle·rules.specs.TableFile.{fileTable}
-use Rattle·rules.specs.Calls.{fileAsk}
-use Rattle·verdict.specs.Analysed.{Accepted}
-use Rattle·verdict.specs.Verdict.{IsVerdict}
-use Rattle·verdict.proofs.Bound.{verdict-numbered}
-use Rattle·verdict.proofs.Judging.{judged-on}
-use Rattle·planner.specs.Analysed.{Usable}
-use Rattle·planner.proofs.Asks as asks
-use Rattle·report·proofs.proofs.Printed.{is-admitted}
-use Rattle·report·proofs.proofs.Plain.{rendered-refused, rendered-admitted}
-use Rattle·report·proofs.proofs.render_plain.Statement.{statement}
-use Rattle·report·proofs.proofs.render_plain.Tie as tie
+use Rattle.rules.specs.Calls.{file_ask}
+use Rattle.verdict.proofs.Bound.{verdict_numbered}
+use Rattle.verdict.proofs.Judging.{judged_on}
+use Rattle.planner.proofs.Asks.{usable}
+use Rattle.report.proofs.Printed.{is_admitted}
+use Rattle.report.proofs.Plain.{rendered_refused, rendered_admitted}
+use Rattle.report.proofs.render_plain.Statement.{statement}
+use Rattle.report.proofs.render_plain.Tie as tie
 
-abbrev file : tie.After-analyse → List ℕ
-file a = a .before .before .before .args .file .now
+analyse-requires : tie.Need-analyse-table-requires
+analyse-requires c κs = search rules
 
-usable : (a : tie.After-analyse) → Usable (a .analyse .result)
-usable a = asks.usable (fileAsk (file a)) (a .analyse .ensures)
+verdict-of-requires : tie.Need-verdict_of-answer-requires
+verdict-of-requires c κs = usable (file_ask c.args.file.now) c.analyse-table.ensures
 
-judged : (z : tie.After-verdict-of) → IsVerdict (file (z .before)) (z .verdict-of .result)
-judged z = judged-on (verdict-numbered (file (z .before))) (z .before .analyse .ensures) (z .verdict-of .ensures)
+enum_told : tie.Need-enum_told-1
+enum_told c = search rules
 
--- where the verdict is taken apart
-abbrev opened : tie.After-enum-told → tie.After-verdict-of
-opened d = d .before .before
-
-zero-is : (d : tie.After-enum-told) → opened d .before .analyse .result .outline .answer .number ≡ 0
-zero-is d =
-    let z = opened d in
-    is-admitted (usable (z .before)) (z .verdict-of .ensures) _ _ _ _ _ _ (d .enum-told .given .1)
-
-accepted : (d : tie.After-enum-told) → Accepted (fileTable (file (opened d .before))) (opened d .before .analyse .result)
-accepted d = opened d .before .analyse .ensures .found (zero-is d)
-
--- where the plain plan's lines are put
-abbrev told : tie.After-put-plan → tie.After-enum-told
-told l = l .before .before
-
-analyse-requires : tie.Need-analyse-requires
-analyse-requires c κs = search needs
-
-verdict-of-requires : tie.Need-verdict-of-requires
-verdict-of-requires c κs = usable c
-
-enum-told : tie.Need-enum-told
-enum-told c = search needs
-
-enum-told-2 : tie.Need-enum-told-2
-enum-told-2 c = search needs
+enum-told-2 : tie.Need-enum_told-in_default
+enum-told-2 c = search rules
 
 number-requires : tie.Need-number-requires
-number-requires c κs = search needs
+number-requires c κs = search rules
 
 place-requires : tie.Need-place-requires
-place-requires c κs = search needs
+place-requires c κs = search rules
 
-put-verdict-requires : tie.Need-put-verdict-requires
-put-verdict-requires c κs = search needs
+put-verdict-requires : tie.Need-put_verdict-requires
+put-verdict-requires c κs = search rules
 
-same-length : tie.Need-same-length
-same-length c = search needs
+same_length : tie.Need-shape_of-out-in_default
+same_length c = search rules
 
-returns : tie.Need-returns
+returns : tie.Need-returns-in_default
 returns c =
-    let v = c .before .before in
-    let p = v .before .before in
-    let n = p .before in
-    let z = n .before .before .before in
-    rendered-refused (file (z .before)) (z .verdict-of .result) (judged z) (n .number .result) (p .place .result)
-    (n .number .ensures) (p .place .ensures) _ (n .before .enum-told2 .given .1) (v .put-verdict .ensures)
+    let f = c.args.file.now in
+    rendered_refused f c.verdict_of-answer.result (judged_on (verdict_numbered f) c.analyse-table.ensures c.verdict_of-answer.ensures)
+    c.number.result c.place.result c.number.ensures c.place.ensures _ c.in_default.is c.put_verdict.ensures
 
-put-plan-requires : tie.Need-put-plan-requires
-put-plan-requires c κs = let d = c .before in (usable (opened d .before), zero-is d, omega arith)
+put-plan-requires : tie.Need-put_plan-next-requires
+put-plan-requires c κs =
+    let u = usable (file_ask c.args.file.now) c.analyse-table.ensures in
+    (u, is_admitted u c.verdict_of-answer.ensures _ _ _ _ _ _ c.in-Admitted.is, omega arith)
 
-put-plan-requires-2 : tie.Need-put-plan-requires-2
+put-plan-requires-2 : tie.Need-put_plan-requires
 put-plan-requires-2 c κs =
-    let l = c .before .before .before in
-    let d = told l in
-    (usable (opened d .before), zero-is d, omega (arith, l .put-plan .ensures _ (accepted d) .2 .1))
+    let u = usable (file_ask c.args.file.now) c.analyse-table.ensures in
+    let z = is_admitted u c.verdict_of-answer.ensures _ _ _ _ _ _ c.in-Admitted.is in
+    (u, z, omega (arith, (c.put_plan-next.ensures _ (c.analyse-table.ensures.found z)).2.1))
 
-same-length-2 : tie.Need-same-length-2
-same-length-2 c = search needs
+same-length-2 : tie.Need-shape_of-out
+same-length-2 c = search rules
 
-returns-2 : tie.Need-returns-2
+returns-2 : tie.Need-returns
 returns-2 c =
-    let m = c .before .before in
-    let l = m .before .before .before .before in
-    let d = told l in
-    let z = opened d in
-    rendered-admitted (file (z .before)) (z .verdict-of .result) (judged z) _ _ _ _ _ _ (d .enum-told .given .1)
-    (l .put-plan .ensures _ (accepted d)) (m .put-plan2 .ensures _ (accepted d))
+    let f = c.args.file.now in
+    let u = usable (file_ask f) c.analyse-table.ensures in
+    let a = c.analyse-table.ensures.found (is_admitted u c.verdict_of-answer.ensures _ _ _ _ _ _ c.in-Admitted.is) in
+    rendered_admitted f c.verdict_of-answer.result (judged_on (verdict_numbered f) c.analyse-table.ensures c.verdict_of-answer.ensures)
+    _ _ _ _ _ _ c.in-Admitted.is (c.put_plan-next.ensures _ a) (c.put_plan.ensures _ a)
 
-pub render-plain-spec : {M : Type 1} → statement M
-render-plain-spec =
+pub render_plain_spec : {M : Type 1} → statement M
+render_plain_spec =
     tie.close
     (tie.spec
     analyse-requires
     verdict-of-requires
-    enum-told
+    enum_told
     enum-told-2
     number-requires
     place-requires
     put-verdict-requires
-    same-length
+    same_length
     returns
     put-plan-requires
     put-plan-requires-2

@@ -1,52 +1,50 @@
 -- render_relayed: what is printed of the analysis with a relay of what is read.
-use borrow.Author.Needs.{needs}
+use borrow.Author.Rules.{rules}
 use native.Mathlib.Omega.{arith}
 use mathlib.Core.Path.{sym, subst}
 use mathlib.Core.List.{List}
 use Prim.Native.Nat.{ℕ}
 use lib.ListN.{take}
 use lib.Seq.{length-take-le}
-use Rattle·rules.specs.Calls.{relayedAsk}
-use Rattle·relayed.proofs.Checked.{relayed-numbered}
-use Rattle·planner.proofs.Asks.{usable}
-use Rattle·report·specs.specs.Rendered.{RenderedFor}
-use Rattle·report·proofs.proofs.Printed.{read-input, rendered-asked}
-use Rattle·report·proofs.proofs.render_relayed.Statement.{statement}
-use Rattle·report·proofs.proofs.render_relayed.Tie as tie
+use Rattle.rules.specs.Calls.{relayed_ask}
+use Rattle.relayed.proofs.Checked.{relayed_numbered}
+use Rattle.planner.proofs.Asks.{usable}
+use Rattle.report.specs.Rendered.{RenderedFor}
+use Rattle.report.proofs.Printed.{read_input, rendered_asked}
+use Rattle.report.proofs.render_relayed.Statement.{statement}
+use Rattle.report.proofs.render_relayed.Tie as tie
 
-abbrev entry : tie.After-least → tie.Start
-entry z = z .before .before .before
+abbrev entry : tie.After-least-read → tie.Start
+entry z = z.before.before.before
 
-abbrev file : tie.After-least → List ℕ
-file z = take (z .least .result) (entry z .args .input .now)
+abbrev file : tie.After-least-read → List ℕ
+file z = take z.least-read.result (entry z).args.input.now
 
-least-requires : tie.Need-least-requires
-least-requires c κs = search needs
+least-requires : tie.Need-least-read-requires
+least-requires c κs = search rules
 
-slice-aggregate-analyse : tie.Need-slice-aggregate-analyse
+slice-aggregate-analyse : tie.Need-slice_bounds-analyse-end
 slice-aggregate-analyse c = sym (length-take-le _ _ (omega arith))
 
 analyse-requires : tie.Need-analyse-requires
-analyse-requires c κs = search needs
+analyse-requires c κs = search rules
 
-put-analysis-requires : tie.Need-put-analysis-requires
-put-analysis-requires c κs = usable (relayedAsk _ _) (c .before .analyse .ensures)
+put-analysis-requires : tie.Need-put_analysis-requires
+put-analysis-requires c κs = usable (relayed_ask _ _) c.analyse.ensures
 
-same-length : tie.Need-same-length
-same-length c = search needs
+same_length : tie.Need-shape_of-out
+same_length c = search rules
 
 returns : tie.Need-returns
 returns c =
-    let P = c .before .before in
-    let A = P .before .before in
-    let z = A .before .before in
-    let a = entry z .args in
-    let w = P .put-analysis in
-    subst (λ (f : List ℕ). RenderedFor (relayedAsk f (a .relay)) (a .out .now) (w .last .1 .0) (w .result))
-    (read-input (a .input .now) _ (z .least .ensures))
-    (rendered-asked (relayedAsk (file z) (a .relay)) (relayed-numbered (file z) (a .relay)) (A .analyse .ensures) (a .out .now) _ _
-    (w .ensures))
+    let z = c.before.before.before.before.before in
+    let a = (entry z).args in
+    let w = c.put_analysis in
+    subst (λ (f : List ℕ). RenderedFor (relayed_ask f a.relay) a.out.now w.new.out w.result)
+    (read_input a.input.now _ z.least-read.ensures)
+    (rendered_asked (relayed_ask (file z) a.relay) (relayed_numbered (file z) a.relay) c.analyse.ensures a.out.now _ _
+    w.ensures)
 
-pub render-relayed-spec : {M : Type 1} → statement M
-render-relayed-spec =
-    tie.close (tie.spec least-requires slice-aggregate-analyse analyse-requires put-analysis-requires same-length returns)
+pub render_relayed_spec : {M : Type 1} → statement M
+render_relayed_spec =
+    tie.close (tie.spec least-requires slice-aggregate-analyse analyse-requires put-analysis-requires same_length returns)

@@ -1,19 +1,19 @@
 -- `ring::line_element` meets its contract.
 use native.Mathlib.Omega.{arith}
-use borrow.Author.Needs.{needs}
-use Rattle·ring·specs.specs.Route.{lineElement}
-use Rattle·ring·proofs.proofs.line_element.Statement.{statement}
-use Rattle·ring·proofs.proofs.line_element.Tie as tie
+use borrow.Author.Rules.{rules}
+use Rattle.ring.specs.Route.{line_element}
+use Rattle.ring.proofs.line_element.Statement.{statement}
+use Rattle.ring.proofs.line_element.Tie as tie
 
 steps-requires : tie.Need-steps-requires
-steps-requires c κs = search needs
+steps-requires c κs = search rules
 
-add-result : tie.Need-add-result
-add-result c = search needs
+add-result : tie.Need-overflow_add-result
+add-result c = search rules
 
 returns : tie.Need-returns
-unfolding lineElement
+unfolding line_element
 returns c = omega arith
 
-pub line-element-spec : {M : Type 1} → statement M
-line-element-spec = tie.close (tie.spec steps-requires add-result returns)
+pub line_element_spec : {M : Type 1} → statement M
+line_element_spec = tie.close (tie.spec steps-requires add-result returns)

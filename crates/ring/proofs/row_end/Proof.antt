@@ -1,30 +1,30 @@
 -- `ring::row_end` meets its contract.
-use mathlib.Core.Path.{_≡_, ap, _∙_}
-use Prim.Native.Nat.{ℕ, _+_, _*_}
-use borrow.Author.Needs.{needs}
-use Rattle·ring·specs.specs.Route.{lineEnd, rowEnd}
-use Rattle·ring·proofs.proofs.row_end.Statement.{statement}
-use Rattle·ring·proofs.proofs.row_end.Tie as tie
+use mathlib.Core.Path.{ap, ◌∙◌}
+use Prim.Native.Nat.{ℕ, ◌+◌, ◌*◌}
+use borrow.Author.Rules.{rules}
+use Rattle.ring.specs.Route.{line_end, row_end}
+use Rattle.ring.proofs.row_end.Statement.{statement}
+use Rattle.ring.proofs.row_end.Tie as tie
 
 mirrored-requires : tie.Need-mirrored-requires
-mirrored-requires c κs = search needs
+mirrored-requires c κs = search rules
 
-line-end-requires : tie.Need-line-end-requires
-line-end-requires c κs = search needs
+line-end-requires : tie.Need-line_end-requires
+line-end-requires c κs = search rules
 
-on-both-requires : tie.Need-on-both-requires
-on-both-requires c κs = search needs
+on-both-requires : tie.Need-on_both-requires
+on-both-requires c κs = search rules
 
 returns : tie.Need-returns
-unfolding rowEnd
+unfolding row_end
 returns c =
-    let z = c .before .before in
-    let a = z .before .args in (
-      c .on-both .ensures .0
-          ∙ ap (λ (k : ℕ). a .d * (a .m + 1) + k)
-          (c .before .line-end .ensures .0 ∙ ap (lineEnd (a .m) (a .cut)) (z .mirrored .ensures .0)),
-      c .on-both .ensures .1,
+    let z = c.before.before in
+    let a = z.before.args in (
+      c.on_both.ensures.0
+          ∙ ap (λ (k : ℕ). a.d * (a.m + 1) + k)
+          (c.before.line_end.ensures.0 ∙ ap (line_end a.m a.cut) z.mirrored.ensures.0),
+      c.on_both.ensures.1,
     )
 
-pub row-end-spec : {M : Type 1} → statement M
-row-end-spec = tie.close (tie.spec mirrored-requires line-end-requires on-both-requires returns)
+pub row_end_spec : {M : Type 1} → statement M
+row_end_spec = tie.close (tie.spec mirrored-requires line-end-requires on-both-requires returns)

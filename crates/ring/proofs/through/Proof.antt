@@ -1,26 +1,26 @@
 -- `ring::through` meets its contract.
 use native.Mathlib.Omega.{arith}
-use borrow.Author.Needs.{needs}
-use Rattle·ring·proofs.proofs.Cut.{stretch-shows}
-use Rattle·ring·proofs.proofs.through.Statement.{statement}
-use Rattle·ring·proofs.proofs.through.Tie as tie
+use borrow.Author.Rules.{rules}
+use Rattle.ring.proofs.Cut.{stretch_shows}
+use Rattle.ring.proofs.through.Statement.{statement}
+use Rattle.ring.proofs.through.Tie as tie
 
-add-stretch : tie.Need-add-stretch
-add-stretch c = search needs
+add-stretch : tie.Need-overflow_add-from
+add-stretch c = search rules
 
 steps-requires : tie.Need-steps-requires
-steps-requires c κs = search needs
+steps-requires c κs = search rules
 
-add-stretch-2 : tie.Need-add-stretch-2
-add-stretch-2 c = search needs
+add-stretch-2 : tie.Need-overflow_add-from-2
+add-stretch-2 c = search rules
 
 stretch-requires : tie.Need-stretch-requires
 stretch-requires c κs = omega arith
 
 returns : tie.Need-returns
 returns c =
-    let p = c .before .before .pre in
-    stretch-shows 1 (p .1) (p .2) (rw (c .before .steps .ensures .0) at (c .stretch .ensures))
+    let p = c.before.before.requires in
+    stretch_shows 1 p.1 p.2 (rw c.before.steps.ensures.0 at c.stretch.ensures)
 
-pub through-spec : {M : Type 1} → statement M
-through-spec = tie.close (tie.spec add-stretch steps-requires add-stretch-2 stretch-requires returns)
+pub through_spec : {M : Type 1} → statement M
+through_spec = tie.close (tie.spec add-stretch steps-requires add-stretch-2 stretch-requires returns)

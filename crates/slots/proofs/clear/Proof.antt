@@ -1,21 +1,21 @@
 -- `clear` meets its contract: only slot 0 is written, where there is one.
-use borrow.Author.Needs.{needs}
+use borrow.Author.Rules.{rules}
 use mathlib.Core.Path.{refl}
 use native.Mathlib.Omega.{arith}
-use Rattle·slots·proofs.proofs.clear.Statement.{statement}
-use Rattle·slots·proofs.proofs.clear.Tie as tie
+use Rattle.slots.proofs.clear.Statement.{statement}
+use Rattle.slots.proofs.clear.Tie as tie
 
-slice-write-words : tie.Need-slice-write-words
-slice-write-words c = search needs
+slice-write-words : tie.Need-bounds-words-0
+slice-write-words c = search rules
 
-same-length : tie.Need-same-length
-same-length c = search needs
+same_length : tie.Need-shape_of-words
+same_length c = search rules
 
-returns : tie.Need-returns
+returns : tie.Need-returns-then-slots-gt0
 returns c = ((λ h. refl), (λ h. absurd (omega arith)))
 
-returns-2 : tie.Need-returns-2
+returns-2 : tie.Need-returns-else-slots-gt0
 returns-2 c = ((λ h. absurd (omega arith)), (λ h. refl))
 
-pub clear-spec : {M : Type 1} → statement M
-clear-spec = tie.close (tie.spec slice-write-words same-length returns returns-2)
+pub clear_spec : {M : Type 1} → statement M
+clear_spec = tie.close (tie.spec slice-write-words same_length returns returns-2)

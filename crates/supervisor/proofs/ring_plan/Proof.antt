@@ -1,20 +1,20 @@
 -- `supervisor::ring_plan` meets its contract: number and place are the whole plan's, and so small that they fit one number.
-use borrow.Author.Needs.{needs}
-use Rattle·rules.proofs.Small.{verdict-small, plan-small}
-use Rattle·supervisor·proofs.proofs.ring_plan.Statement.{statement}
-use Rattle·supervisor·proofs.proofs.ring_plan.Tie as tie
+use borrow.Author.Rules.{rules}
+use Rattle.rules.proofs.Small.{verdict_small, plan_small}
+use Rattle.supervisor.proofs.ring_plan.Statement.{statement}
+use Rattle.supervisor.proofs.ring_plan.Tie as tie
 
-whole-plan-requires : tie.Need-whole-plan-requires
-whole-plan-requires c κs = search needs
+whole-plan-requires : tie.Need-whole_plan-answer-requires
+whole-plan-requires c κs = search rules
 
 joined-requires : tie.Need-joined-requires
-joined-requires c κs = plan-small _ _ _ _ _ (verdict-small _ _ _) (c .before .before .whole-plan .ensures .planned .answers)
+joined-requires c κs = plan_small _ _ _ _ _ (verdict_small _ _ _) c.whole_plan-answer.ensures.planned.answers
 
-same-length : tie.Need-same-length
-same-length c = search needs
+same_length : tie.Need-shape_of-plan
+same_length c = search rules
 
 returns : tie.Need-returns
-returns c = search needs
+returns c = search rules
 
-pub ring-plan-spec : {M : Type 1} → statement M
-ring-plan-spec = tie.close (tie.spec whole-plan-requires joined-requires same-length returns)
+pub ring_plan_spec : {M : Type 1} → statement M
+ring_plan_spec = tie.close (tie.spec whole-plan-requires joined-requires same_length returns)

@@ -1,34 +1,34 @@
 -- `supervisor::ring_verdict_relayed` meets its contract: number and place are those of the verdict with a relay, and so small that they fit
 -- one number.
-use borrow.Author.Needs.{needs}
+use borrow.Author.Rules.{rules}
 use native.Mathlib.Omega.{arith}
-use mathlib.Core.Path.{ap₂, _∙_}
-use Rattle·rules.specs.Calls.{c-answer}
-use Rattle·rules.proofs.Small.{relayed-small}
-use Rattle·supervisor·proofs.proofs.ring_verdict_relayed.Statement.{statement}
-use Rattle·supervisor·proofs.proofs.ring_verdict_relayed.Tie as tie
+use mathlib.Core.Path.{ap₂, ◌∙◌}
+use Rattle.rules.specs.Calls.{c_answer}
+use Rattle.rules.proofs.Small.{relayed_small}
+use Rattle.supervisor.proofs.ring_verdict_relayed.Statement.{statement}
+use Rattle.supervisor.proofs.ring_verdict_relayed.Tie as tie
 
-judge-requires : tie.Need-judge-requires
-judge-requires c κs = search needs
+judge-requires : tie.Need-judge-split-requires
+judge-requires c κs = search rules
 
 number-requires : tie.Need-number-requires
-number-requires c κs = search needs
+number-requires c κs = search rules
 
 place-requires : tie.Need-place-requires
-place-requires c κs = search needs
+place-requires c κs = search rules
 
 joined-requires : tie.Need-joined-requires
 joined-requires c κs =
-    let s = relayed-small _ _ _ _ (c .before .before .judge .ensures .answers) in
-    (omega (arith, s .0, c .before .number .ensures), omega (arith, s .1, c .place .ensures))
+    let s = relayed_small _ _ _ _ c.judge-split.ensures.answers in
+    (omega (arith, s.0, c.number.ensures), omega (arith, s.1, c.place.ensures))
 
 returns : tie.Need-returns
 returns c = record {
   number = _;
   place = _;
-  answers = c .before .before .before .judge .ensures .answers;
-  as-one = c .joined .ensures ∙ ap₂ c-answer (c .before .before .number .ensures) (c .before .place .ensures);
+  answers = c.judge-split.ensures.answers;
+  as_one = c.joined.ensures ∙ ap₂ c_answer c.number.ensures c.place.ensures;
 }
 
-pub ring-verdict-relayed-spec : {M : Type 1} → statement M
-ring-verdict-relayed-spec = tie.close (tie.spec judge-requires number-requires place-requires joined-requires returns)
+pub ring_verdict_relayed_spec : {M : Type 1} → statement M
+ring_verdict_relayed_spec = tie.close (tie.spec judge-requires number-requires place-requires joined-requires returns)

@@ -1,33 +1,33 @@
 -- `table::put16` meets its contract.
 use native.Mathlib.Omega.{arith}
-use native.Mathlib.Numerals.{towards-suc}
+use native.Mathlib.Numerals.{towards_suc}
 use lib.ListN.{length-set}
-use borrow.Author.Needs.{needs}
-use Rattle·table·proofs.proofs.put16.Statement.{statement}
-use Rattle·table·proofs.proofs.put16.Tie as tie
+use borrow.Author.Rules.{rules}
+use Rattle.table.proofs.put16.Statement.{statement}
+use Rattle.table.proofs.put16.Tie as tie
 
-cast-out : tie.Need-cast-out
-cast-out c = search needs
+cast-out : tie.Need-overflow_cast-out
+cast-out c = search rules
 
-slice-write-out : tie.Need-slice-write-out
-slice-write-out c = search needs
+slice-write-out : tie.Need-bounds-out-at
+slice-write-out c = search rules
 
-cast-out-2 : tie.Need-cast-out-2
-cast-out-2 c = search needs
+cast-out-2 : tie.Need-overflow_cast-out-2
+cast-out-2 c = search rules
 
-add-out : tie.Need-add-out
-add-out c = search needs
+add-out : tie.Need-overflow_add-out
+add-out c = search rules
 
-slice-write-out-2 : tie.Need-slice-write-out-2
+slice-write-out-2 : tie.Need-bounds-out-at-2
 slice-write-out-2 c = simp length-set (omega arith)
 
-same-length : tie.Need-same-length
-same-length c = search needs
+same_length : tie.Need-shape_of-out
+same_length c = search rules
 
 returns : tie.Need-returns
-returns c = simp towards-suc
+returns c = simp towards_suc
 
-pub put16-spec : {M : Type 1} → statement M
-put16-spec =
+pub put16_spec : {M : Type 1} → statement M
+put16_spec =
     tie.close
-    (tie.spec cast-out slice-write-out cast-out-2 add-out slice-write-out-2 same-length returns)
+    (tie.spec cast-out slice-write-out cast-out-2 add-out slice-write-out-2 same_length returns)

@@ -1,54 +1,48 @@
 -- `text_reader::blamed` meets its contract.
 use native.Mathlib.Omega.{arith}
-use borrow.Author.Tests.{ne-eqb, le-leb, lt-leb}
-use Rattle·text_reader·proofs.proofs.blamed.Statement.{statement}
-use Rattle·text_reader·proofs.proofs.blamed.Tie as tie
+use borrow.Author.Tests.{ne_eqb, le-leb, lt-leb}
+use Rattle.text_reader.proofs.blamed.Statement.{statement}
+use Rattle.text_reader.proofs.blamed.Tie as tie
 
-returns : tie.Need-returns
-returns c = rw (c .if1 .taken)
+returns : tie.Need-returns-then-number-eq-WRONG_PERIOD
+returns c = rw c.if-number-eq-WRONG_PERIOD.true
 
-returns-2 : tie.Need-returns-2
-returns-2 c = rw (c .if2 .taken)
+returns-2 : tie.Need-returns-then-number-eq-WRONG_COST
+returns-2 c = rw c.if-number-eq-WRONG_COST.true
 
-returns-3 : tie.Need-returns-3
-returns-3 c = rw (c .if3 .taken)
+returns-3 : tie.Need-returns-then-number-eq-WRONG_WAY
+returns-3 c = rw c.if-number-eq-WRONG_WAY.true
 
-returns-4 : tie.Need-returns-4
+returns-4 : tie.Need-returns-then-first-lt1
 returns-4 c =
-    let y = c .before .before in
-    let z = y .before in
     rw (
-      ne-eqb _ _ (z .if1 .left),
-      ne-eqb _ _ (y .if2 .left),
-      ne-eqb _ _ (c .before .if3 .left),
-      lt-leb 1 (z .before .args .first) (omega arith),
+      ne_eqb _ _ c.if-number-eq-WRONG_PERIOD.false,
+      ne_eqb _ _ c.if-number-eq-WRONG_COST.false,
+      ne_eqb _ _ c.if-number-eq-WRONG_WAY.false,
+      lt-leb 1 c.args.first (omega arith),
     )
 
-returns-5 : tie.Need-returns-5
+returns-5 : tie.Need-returns-then-first-elements
 returns-5 c =
-    let y = c .before .before .before in
-    let z = y .before in
-    let a = z .before .args in
+    let a = c.args in
     rw (
-      ne-eqb _ _ (z .if1 .left),
-      ne-eqb _ _ (y .if2 .left),
-      ne-eqb _ _ (c .before .before .if3 .left),
-      le-leb 1 (a .first) (omega arith),
-      lt-leb (a .first) (a .elements) (omega arith),
+      ne_eqb _ _ c.if-number-eq-WRONG_PERIOD.false,
+      ne_eqb _ _ c.if-number-eq-WRONG_COST.false,
+      ne_eqb _ _ c.if-number-eq-WRONG_WAY.false,
+      le-leb 1 a.first (omega arith),
+      lt-leb a.first a.elements (omega arith),
     )
 
-returns-6 : tie.Need-returns-6
+returns-6 : tie.Need-returns
 returns-6 c =
-    let y = c .before .before .before in
-    let z = y .before in
-    let a = z .before .args in
+    let a = c.args in
     rw (
-      ne-eqb _ _ (z .if1 .left),
-      ne-eqb _ _ (y .if2 .left),
-      ne-eqb _ _ (c .before .before .if3 .left),
-      le-leb 1 (a .first) (omega arith),
-      le-leb (a .first) (a .elements) (omega arith),
+      ne_eqb _ _ c.if-number-eq-WRONG_PERIOD.false,
+      ne_eqb _ _ c.if-number-eq-WRONG_COST.false,
+      ne_eqb _ _ c.if-number-eq-WRONG_WAY.false,
+      le-leb 1 a.first (omega arith),
+      le-leb a.first a.elements (omega arith),
     )
 
-pub blamed-spec : {M : Type 1} → statement M
-blamed-spec = tie.close (tie.spec returns returns-2 returns-3 returns-4 returns-5 returns-6)
+pub blamed_spec : {M : Type 1} → statement M
+blamed_spec = tie.close (tie.spec returns returns-2 returns-3 returns-4 returns-5 returns-6)

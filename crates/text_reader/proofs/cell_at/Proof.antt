@@ -1,41 +1,41 @@
 -- `text_reader::cell_at` meets its contract.
 use native.Mathlib.Omega.{arith}
-use borrow.Author.Needs.{needs}
-use Rattle·text_reader·proofs.proofs.Lines.{field-cell}
-use Rattle·text_reader·proofs.proofs.cell_at.Statement.{statement}
-use Rattle·text_reader·proofs.proofs.cell_at.Tie as tie
+use borrow.Author.Rules.{rules}
+use Rattle.text_reader.proofs.Lines.{field_cell}
+use Rattle.text_reader.proofs.cell_at.Statement.{statement}
+use Rattle.text_reader.proofs.cell_at.Tie as tie
 
-field-requires : tie.Need-field-requires
-field-requires c κs = search needs
+field-requires : tie.Need-field-found-requires
+field-requires c κs = search rules
 
-sub-number : tie.Need-sub-number
-sub-number c = omega (arith, c .field .ensures 0 .ordered)
+sub_number : tie.Need-slice_bounds-number-count
+sub_number c = omega (arith, (c.field-found.ensures 0).ordered)
 
-part-number-start : tie.Need-part-number-start
-part-number-start c = omega (arith, c .field .ensures 0 .ordered)
+part-number-start : tie.Need-slice_bounds-number-start
+part-number-start c = omega (arith, (c.field-found.ensures 0).ordered)
 
-part-number-end : tie.Need-part-number-end
-part-number-end c = omega (arith, c .field .ensures 0 .high)
+part-number-end : tie.Need-slice_bounds-number-end
+part-number-end c = omega (arith, (c.field-found.ensures 0).high)
 
-add-number : tie.Need-add-number
+add-number : tie.Need-overflow_add-from
 add-number c =
-    let f = c .before .field .ensures 0 in
-    omega (arith, f .ordered, f .high, c .before .before .before .pre)
+    let f = c.field-found.ensures 0 in
+    omega (arith, f.ordered, f.high, c.requires)
 
 number-requires : tie.Need-number-requires
-number-requires c κs = search needs
+number-requires c κs = search rules
 
 returns : tie.Need-returns
 returns c =
-    let z = c .before .before in
-    field-cell (z .field .ensures (z .before .before .args .from)) (c .number .ensures)
+    let z = c in
+    field_cell (z.field-found.ensures z.args.from) c.number.ensures
 
-pub cell-at-spec : {M : Type 1} → statement M
-cell-at-spec =
+pub cell_at_spec : {M : Type 1} → statement M
+cell_at_spec =
     tie.close
     (tie.spec
     field-requires
-    sub-number
+    sub_number
     part-number-start
     part-number-end
     add-number

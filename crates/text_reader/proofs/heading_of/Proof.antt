@@ -1,132 +1,127 @@
 -- `text_reader::heading_of` meets its contract.
-use mathlib.Core.Path.{sym, _∙_}
-use mathlib.Core.List.{[], _∷_}
+use mathlib.Core.Path.{sym, ◌∙◌}
+use mathlib.Core.List.{[], ◌∷◌}
 use native.Mathlib.Omega.{arith}
-use borrow.Author.Needs.{needs}
-use Rattle·rules.proofs.Answers.{None, none-of}
-use Rattle·grammar.specs.TableText.{part, field, no-heading, missing-field, spare-field, number-checks}
-use Rattle·text_reader·proofs.proofs.Lines.{numbers-numbered, shape-numbered, heading-none, heading-cell, heading-shape, heading-wrong}
-use Rattle·text_reader·proofs.proofs.Lines.{heading-right}
-use Rattle·text_reader·proofs.proofs.heading_of.Statement.{statement}
-use Rattle·text_reader·proofs.proofs.heading_of.Tie as tie
+use borrow.Author.Rules.{rules}
+use Rattle.rules.proofs.Answers.{None, none_of}
+use Rattle.grammar.specs.TableText.{part, field, no_heading, missing_field, spare_field, number_checks}
+use Rattle.text_reader.proofs.Lines.{numbers_numbered, shape_numbered, heading_none, heading_cell, heading_shape, heading_wrong}
+use Rattle.text_reader.proofs.Lines.{heading_right}
+use Rattle.text_reader.proofs.heading_of.Statement.{statement}
+use Rattle.text_reader.proofs.heading_of.Tie as tie
 
 -- it begins with `elements` or `board`
-worded : (z : tie.Else1) → let a = z .before .before .before .args in no-heading (part (a .from) (a .line .now)) .applies → ⊥
-worded z = z .before .is-no-heading .ensures (z .before .before .before .args .from) .fails (z .if1 .left)
+worded : (z : tie.Else-is_no_heading) → let a = z.args in (no_heading (part a.from a.line.now)).applies → ⊥
+worded z = (z.is_no_heading.ensures z.args.from).fails z.if-is_no_heading.false
 
 -- then comes a number
-cell : (z : tie.Else2)
-    → let a = z .before .before .before .before .before .before .args in
-    None (number-checks (field (part (a .from) (a .line .now)) 1))
-cell z = none-of _ _ (numbers-numbered _) (rw (z .if2 .left) at (z .before .before .cell-at .ensures .answers))
+cell : (z : tie.Else-cell-ne0)
+    → let a = z.args in
+    None (number_checks (field (part a.from a.line.now) 1))
+cell z = none_of _ _ (numbers_numbered _) (rw z.if-cell-ne0.false at z.cell_at-cell.ensures.answers)
 
 -- and nothing else
-shape : (z : tie.Else3)
-    → let a = z .before .before .before .before .before .before .before .before .before .args in
-    None (missing-field (field (part (a .from) (a .line .now)) 1) ∷ spare-field (field (part (a .from) (a .line .now)) 2) ∷ [])
-shape z = none-of _ _ (shape-numbered _ _) (rw (z .if3 .left) at (z .before .before .shape-fault .ensures))
+shape : (z : tie.Else-shape-ne0)
+    → let a = z.args in
+    None (missing_field (field (part a.from a.line.now) 1) ∷ spare_field (field (part a.from a.line.now) 2) ∷ [])
+shape z = none_of _ _ (shape_numbered _ _) (rw z.if-shape-ne0.false at z.shape_fault-shape.ensures)
 
-is-no-heading-requires : tie.Need-is-no-heading-requires
-is-no-heading-requires c κs = search needs
+is-no-heading-requires : tie.Need-is_no_heading-requires
+is-no-heading-requires c κs = search rules
 
-place-of-requires : tie.Need-place-of-requires
-place-of-requires c κs = search needs
+place-of-requires : tie.Need-place_of-requires
+place-of-requires c κs = search rules
 
-refuse-heading-requires : tie.Need-refuse-heading-requires
-refuse-heading-requires c κs = search needs
+refuse-heading-requires : tie.Need-refuse_heading-requires
+refuse-heading-requires c κs = search rules
 
-returns : tie.Need-returns
+returns : tie.Need-returns-then-is_no_heading
 returns c =
-    let e = c .refuse-heading .ensures in
-    let p = c .before in
-    let w = p .before .before in
+    let e = c.refuse_heading.ensures in
+    let w = c in
     record {
       answers =
-          heading-none _ _ _ (e .0) (e .1 ∙ p .place-of .ensures)
-          (w .is-no-heading .ensures (w .before .before .args .from) .holds (p .before .if1 .taken));
-      elements = λ z. absurd (let y : ⊥ = omega (arith, e .0, z) in y);
-      rings = λ z. absurd (let y : ⊥ = omega (arith, e .0, z) in y);
+          heading_none _ _ _ e.0 (e.1 ∙ c.place_of.ensures)
+          ((w.is_no_heading.ensures w.args.from).holds c.if-is_no_heading.true);
+      elements = λ z. absurd (let y : ⊥ = omega (arith, e.0, z) in y);
+      rings = λ z. absurd (let y : ⊥ = omega (arith, e.0, z) in y);
     }
 
-cell-at-requires : tie.Need-cell-at-requires
-cell-at-requires c κs = search needs
+cell-at-requires : tie.Need-cell_at-cell-requires
+cell-at-requires c κs = search rules
 
-refuse-heading-requires-2 : tie.Need-refuse-heading-requires-2
-refuse-heading-requires-2 c κs = search needs
+refuse-heading-requires-2 : tie.Need-refuse_heading-requires-then-cell-ne0
+refuse-heading-requires-2 c κs = search rules
 
-returns-2 : tie.Need-returns-2
+returns-2 : tie.Need-returns-then-cell-ne0
 returns-2 c =
-    let e = c .refuse-heading2 .ensures in
-    let h = c .before .if2 .taken in
-    let a = c .before .before .before in
+    let e = c.refuse_heading-then-cell-ne0.ensures in
+    let h = c.if-cell-ne0.true in
     record {
-      answers = rw (e .0, e .1) (heading-cell _ (worded (a .before)) _ _ h (a .cell-at .ensures .answers));
-      elements = λ z. absurd (h (sym (e .0) ∙ z));
-      rings = λ z. absurd (h (sym (e .0) ∙ z));
+      answers = rw (e.0, e.1) (heading_cell _ (worded c.before.before.before.before) _ _ h c.cell_at-cell.ensures.answers);
+      elements = λ z. absurd (h (sym e.0 ∙ z));
+      rings = λ z. absurd (h (sym e.0 ∙ z));
     }
 
-shape-fault-requires : tie.Need-shape-fault-requires
-shape-fault-requires c κs = search needs
+shape-fault-requires : tie.Need-shape_fault-shape-requires
+shape-fault-requires c κs = search rules
 
-refuse-heading-requires-3 : tie.Need-refuse-heading-requires-3
-refuse-heading-requires-3 c κs = search needs
+refuse-heading-requires-3 : tie.Need-refuse_heading-requires-then-shape-ne0
+refuse-heading-requires-3 c κs = search rules
 
-returns-3 : tie.Need-returns-3
+returns-3 : tie.Need-returns-then-shape-ne0
 returns-3 c =
-    let e = c .refuse-heading3 .ensures in
-    let h = c .before .if3 .taken in
-    let s = c .before .before .before in
-    let a = s .before .before .before in
+    let e = c.refuse_heading-then-shape-ne0.ensures in
+    let h = c.if-shape-ne0.true in
     record {
-      answers = rw (e .0, e .1) (heading-shape _ (worded (a .before)) (cell (s .before)) _ _ h (s .shape-fault .ensures));
-      elements = λ z. absurd (h (sym (e .0) ∙ z));
-      rings = λ z. absurd (h (sym (e .0) ∙ z));
+      answers = rw (e.0, e.1) (heading_shape _ (worded c.before.before.before.before.before.before.before) (cell c.before.before.before.before) _ _ h c.shape_fault-shape.ensures);
+      elements = λ z. absurd (h (sym e.0 ∙ z));
+      rings = λ z. absurd (h (sym e.0 ∙ z));
     }
 
-is-wrong-size-requires : tie.Need-is-wrong-size-requires
-is-wrong-size-requires c κs = search needs
+is-wrong-size-requires : tie.Need-is_wrong_size-requires
+is-wrong-size-requires c κs = search rules
 
-place-of-requires-2 : tie.Need-place-of-requires-2
-place-of-requires-2 c κs = search needs
+place-of-requires-2 : tie.Need-place_of-requires-then-is_wrong_size
+place-of-requires-2 c κs = search rules
 
-refuse-heading-requires-4 : tie.Need-refuse-heading-requires-4
-refuse-heading-requires-4 c κs = search needs
+refuse-heading-requires-4 : tie.Need-refuse_heading-requires-then-is_wrong_size
+refuse-heading-requires-4 c κs = search rules
 
-returns-4 : tie.Need-returns-4
+returns-4 : tie.Need-returns-then-is_wrong_size
 returns-4 c =
-    let e = c .refuse-heading4 .ensures in
-    let p = c .before in
-    let w = p .before .before in
-    let s = w .before .before .before in
-    let a = s .before .before .before in
+    let e = c.refuse_heading-then-is_wrong_size.ensures in
+    let w = c in
+    let s = w in
+    let a = s in
     record {
       answers =
-          heading-wrong _ (worded (a .before)) (cell (s .before)) (shape (w .before)) _
-          (a .cell-at .ensures .value (s .before .if2 .left)) _ _ (e .0) (e .1 ∙ p .place-of2 .ensures)
-          (w .is-wrong-size .ensures .holds (p .before .if4 .taken));
-      elements = λ z. absurd (let y : ⊥ = omega (arith, e .0, z) in y);
-      rings = λ z. absurd (let y : ⊥ = omega (arith, e .0, z) in y);
+          heading_wrong _ (worded a.before.before.before.before.before.before.before.before.before.before) (cell s.before.before.before.before.before.before.before) (shape w.before.before.before.before) _
+          (a.cell_at-cell.ensures.value s.if-cell-ne0.false) _ _ e.0 (e.1 ∙ c.place_of-then-is_wrong_size.ensures)
+          (w.is_wrong_size.ensures.holds c.if-is_wrong_size.true);
+      elements = λ z. absurd (let y : ⊥ = omega (arith, e.0, z) in y);
+      rings = λ z. absurd (let y : ⊥ = omega (arith, e.0, z) in y);
     }
 
-rings-in-requires : tie.Need-rings-in-requires
-rings-in-requires c κs = search needs
+rings-in-requires : tie.Need-rings_in-requires
+rings-in-requires c κs = search rules
 
-returns-5 : tie.Need-returns-5
+returns-5 : tie.Need-returns
 returns-5 c =
-    let w = c .before .before in
-    let s = w .before .before .before in
-    let a = s .before .before .before in
-    let v = a .cell-at .ensures .value (s .before .if2 .left) in
+    let w = c in
+    let s = w in
+    let a = s in
+    let v = a.cell_at-cell.ensures.value s.if-cell-ne0.false in
     record {
       answers =
-          heading-right _ (worded (a .before)) (cell (s .before)) (shape (w .before)) _ v
-          (w .is-wrong-size .ensures .fails (c .before .if4 .left));
+          heading_right _ (worded a.before.before.before.before.before.before.before.before.before) (cell s.before.before.before.before.before.before) (shape w.before.before.before) _ v
+          (w.is_wrong_size.ensures.fails c.if-is_wrong_size.false);
       elements = λ z. v;
-      rings = λ z. c .rings-in .ensures _;
+      rings = λ z. c.rings_in.ensures _;
     }
 
-pub heading-of-spec : {M : Type 1} → statement M
-heading-of-spec =
+pub heading_of_spec : {M : Type 1} → statement M
+heading_of_spec =
     tie.close
     (tie.spec
     is-no-heading-requires

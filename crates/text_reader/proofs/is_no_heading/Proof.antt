@@ -1,40 +1,32 @@
 -- `text_reader::is_no_heading` meets its contract.
-use borrow.Author.Needs.{needs}
-use Rattle·numbers.proofs.Truth.{decides-yes, decides-no}
-use Rattle·text_reader·proofs.proofs.is_no_heading.Statement.{statement}
-use Rattle·text_reader·proofs.proofs.is_no_heading.Tie as tie
+use borrow.Author.Rules.{rules}
+use Rattle.numbers.proofs.Truth.{decides_yes, decides_no}
+use Rattle.text_reader.proofs.is_no_heading.Statement.{statement}
+use Rattle.text_reader.proofs.is_no_heading.Tie as tie
 
-slice-aggregate-is-word : tie.Need-slice-aggregate-is-word
-slice-aggregate-is-word c = search needs
+is-word-requires : tie.Need-is_word-requires
+is-word-requires c κs = search rules
 
-is-word-requires : tie.Need-is-word-requires
-is-word-requires c κs = search needs
+returns : tie.Need-returns-then-is_word
+returns c = λ from. decides_no (λ w. w.0 ((c.is_word.ensures from).holds c.if-is_word.true))
 
-returns : tie.Need-returns
-returns c = λ from. decides-no (λ w. w .0 (c .before .is-word .ensures from .holds (c .if1 .taken)))
+is-word-requires-2 : tie.Need-is_word-requires-2
+is-word-requires-2 c κs = search rules
 
-slice-aggregate-is-word-2 : tie.Need-slice-aggregate-is-word-2
-slice-aggregate-is-word-2 c = search needs
+returns-2 : tie.Need-returns-then-is_word-2
+returns-2 c = λ from. decides_no (λ w. w.1 ((c.is_word-2.ensures from).holds c.if-is_word-2.true))
 
-is-word-requires-2 : tie.Need-is-word-requires-2
-is-word-requires-2 c κs = search needs
-
-returns-2 : tie.Need-returns-2
-returns-2 c = λ from. decides-no (λ w. w .1 (c .before .is-word2 .ensures from .holds (c .if2 .taken)))
-
-returns-3 : tie.Need-returns-3
+returns-3 : tie.Need-returns
 returns-3 c =
-    let z = c .before .before .before in
-    λ from. decides-yes (z .before .is-word .ensures from .fails (z .if1 .left), c .before .is-word2 .ensures from .fails (c .if2 .left))
+    let z = c in
+    λ from. decides_yes ((z.is_word.ensures from).fails z.if-is_word.false, (c.is_word-2.ensures from).fails c.if-is_word-2.false)
 
-pub is-no-heading-spec : {M : Type 1} → statement M
-is-no-heading-spec =
+pub is_no_heading_spec : {M : Type 1} → statement M
+is_no_heading_spec =
     tie.close
     (tie.spec
-    slice-aggregate-is-word
     is-word-requires
     returns
-    slice-aggregate-is-word-2
     is-word-requires-2
     returns-2
     returns-3)

@@ -1,20 +1,20 @@
 -- `text_reader::is_wrong_size` meets its contract.
 use native.Mathlib.Omega.{arith}
 use borrow.Author.Tests.{ltb-true, ltb-false}
-use Rattle·numbers.proofs.Truth.{decides-yes}
-use Rattle·text_reader·proofs.proofs.is_wrong_size.Statement.{statement}
-use Rattle·text_reader·proofs.proofs.is_wrong_size.Tie as tie
+use Rattle.numbers.proofs.Truth.{decides_yes}
+use Rattle.text_reader.proofs.is_wrong_size.Statement.{statement}
+use Rattle.text_reader.proofs.is_wrong_size.Tie as tie
 
-returns : tie.Need-returns
-returns c = decides-yes (λ w. let z : ⊥ = omega (arith, w .0) in z)
+returns : tie.Need-returns-then-elements-lt2
+returns c = decides_yes (λ w. let z : ⊥ = omega (arith, w.0) in z)
 
-returns-2 : tie.Need-returns-2
+returns-2 : tie.Need-returns
 returns-2 c =
-    let x = c .before .args .elements in
+    let x = c.args.elements in
     record {
-      holds = λ e w. let z : ⊥ = omega (arith, ltb-true 32 x e, w .1) in z;
+      holds = λ e w. let z : ⊥ = omega (arith, ltb-true 32 x e, w.1) in z;
       fails = λ e h. h (omega arith, omega (arith, ltb-false 32 x e));
     }
 
-pub is-wrong-size-spec : {M : Type 1} → statement M
-is-wrong-size-spec = tie.close (tie.spec returns returns-2)
+pub is_wrong_size_spec : {M : Type 1} → statement M
+is_wrong_size_spec = tie.close (tie.spec returns returns-2)

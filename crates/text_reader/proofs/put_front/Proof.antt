@@ -1,65 +1,62 @@
 -- `text_reader::put_front` meets its contract. The loop's invariant: the first k numbers are written.
-use Prim.Native.Nat.{_-_, _≤_, _<_}
+use Prim.Native.Nat.{◌-◌, ◌≤◌, ◌<◌}
 use native.Mathlib.Omega.{arith}
 use lib.ListN.{length, take}
-use lib.Seq.{take-all}
-use Rattle·numbers.specs.Lists.{at}
-use Rattle·numbers.proofs.Lists.{Filled, filled-start, filled-put, take-next}
-use Rattle·rules.proofs.Calls.{filled-lent}
-use Rattle·text_reader·proofs.proofs.put_front.Statement.{statement}
-use Rattle·text_reader·proofs.proofs.put_front.Tie as tie
+use lib.Seq.{take_all}
+use Rattle.numbers.specs.Lists.{at}
+use Rattle.numbers.proofs.Lists.{Filled, filled_start, filled_put, take_next}
+use Rattle.rules.proofs.Calls.{filled_lent}
+use Rattle.text_reader.proofs.put_front.Statement.{statement}
+use Rattle.text_reader.proofs.put_front.Tie as tie
 
-abbrev Inv-loop : tie.InvT-loop
-Inv-loop numbers out₀ k₀ out k = (k ≤ length numbers) × Filled out₀ out k (take k numbers)
+abbrev invariant-loop : tie.invariant-loop-k
+invariant-loop numbers out₀ k₀ out k = (k ≤ length numbers) × Filled out₀ out k (take k numbers)
 
-abbrev μ-loop : tie.MeasureT-loop
-μ-loop numbers out₀ k₀ out k = length numbers - k
+abbrev decreases-loop : tie.decreases-loop-k
+decreases-loop numbers out₀ k₀ out k = length numbers - k
 
-loop-holds : tie.Need-loop-holds Inv-loop μ-loop
-loop-holds c = (omega arith, filled-start _)
+loop-holds : tie.Need-loop-k-init invariant-loop decreases-loop
+loop-holds c = (omega arith, filled_start _)
 
-mul-out : tie.Need-mul-out Inv-loop μ-loop
+mul-out : tie.Need-offset_bounds-numbers-k invariant-loop decreases-loop
 mul-out c = omega arith
 
-shared-slice-read-out : tie.Need-shared-slice-read-out Inv-loop μ-loop
+shared-slice-read-out : tie.Need-bounds-numbers-k invariant-loop decreases-loop
 shared-slice-read-out c = omega arith
 
-mul-out-2 : tie.Need-mul-out-2 Inv-loop μ-loop
+mul-out-2 : tie.Need-offset_bounds-out-k invariant-loop decreases-loop
 mul-out-2 c = omega arith
 
-slice-write-out : tie.Need-slice-write-out Inv-loop μ-loop
+slice-write-out : tie.Need-bounds-out-k invariant-loop decreases-loop
 slice-write-out c = omega arith
 
-add-k : tie.Need-add-k Inv-loop μ-loop
+add-k : tie.Need-overflow_add-k invariant-loop decreases-loop
 add-k c = omega arith
 
-loop-less : tie.Need-loop-less Inv-loop μ-loop
+loop-less : tie.Need-loop-k-smaller invariant-loop decreases-loop
 loop-less c = omega arith
 
-loop-again : tie.Need-loop-again Inv-loop μ-loop
+loop-again : tie.Need-loop-k-preserved invariant-loop decreases-loop
 loop-again c =
-    let u = c .before .before in
-    let z = u .before in
-    let numbers = z .args .numbers .now in
-    let k = u .loop .k in
+    let numbers = c.args.numbers.now in
+    let k = c.loop-k.k in
     let l : k < length numbers = omega arith in
-    (omega arith, rw (take-next numbers k l) (filled-put (at numbers k) (u .loop .inv .1) (omega (arith, z .pre))))
+    (omega arith, rw (take_next numbers k l) (filled_put (at numbers k) c.loop-k.invariant.1 (omega (arith, c.requires))))
 
-same-length : tie.Need-same-length Inv-loop μ-loop
-same-length c = c .before .loop .inv .1 .same
+same_length : tie.Need-shape_of-out invariant-loop decreases-loop
+same_length c = c.loop-k.invariant.1.same
 
-returns : tie.Need-returns Inv-loop μ-loop
+returns : tie.Need-returns invariant-loop decreases-loop
 returns c =
-    let u = c .before in
-    let numbers = u .before .args .numbers .now in
-    rw (take-all (u .loop .k) numbers (omega arith)) at (filled-lent (u .loop .inv .1))
+    let numbers = c.args.numbers.now in
+    rw (take_all c.loop-k.k numbers (omega arith)) at (filled_lent c.loop-k.invariant.1)
 
-pub put-front-spec : {M : Type 1} → statement M
-put-front-spec =
+pub put_front_spec : {M : Type 1} → statement M
+put_front_spec =
     tie.close
     (tie.spec
-    Inv-loop
-    μ-loop
+    invariant-loop
+    decreases-loop
     loop-holds
     mul-out
     shared-slice-read-out
@@ -68,5 +65,5 @@ put-front-spec =
     add-k
     loop-less
     loop-again
-    same-length
+    same_length
     returns)

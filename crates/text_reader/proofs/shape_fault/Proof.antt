@@ -1,46 +1,46 @@
 -- `text_reader::shape_fault` meets its contract.
 use mathlib.Core.Path.{refl}
-use borrow.Author.Needs.{needs}
-use Rattle·numbers.proofs.Truth.{denied, granted}
-use Rattle·text_reader·proofs.proofs.Lines.{shape-missing, shape-spare, shape-right}
-use Rattle·text_reader·proofs.proofs.shape_fault.Statement.{statement}
-use Rattle·text_reader·proofs.proofs.shape_fault.Tie as tie
+use borrow.Author.Rules.{rules}
+use Rattle.numbers.proofs.Truth.{denied, granted}
+use Rattle.text_reader.proofs.Lines.{shape_missing, shape_spare, shape_right}
+use Rattle.text_reader.proofs.shape_fault.Statement.{statement}
+use Rattle.text_reader.proofs.shape_fault.Tie as tie
 
-has-field-requires : tie.Need-has-field-requires
-has-field-requires c κs = search needs
+has-field-requires : tie.Need-has_field-requires
+has-field-requires c κs = search rules
 
-place-of-requires : tie.Need-place-of-requires
-place-of-requires c κs = search needs
+place-of-requires : tie.Need-place_of-requires
+place-of-requires c κs = search rules
 
-returns : tie.Need-returns
+returns : tie.Need-returns-then-not-has_field
 returns c =
-    let h = c .before .before in
-    let from = h .before .before .args .from in
-    shape-missing _ _ _ _ refl (c .place-of .ensures) (denied (h .has-field .ensures from) (c .before .if1 .taken))
+    let h = c in
+    let from = h.args.from in
+    shape_missing _ _ _ _ refl c.place_of.ensures (denied (h.has_field.ensures from) c.if-not-has_field.true)
 
-has-field-requires-2 : tie.Need-has-field-requires-2
-has-field-requires-2 c κs = search needs
+has-field-requires-2 : tie.Need-has_field-requires-2
+has-field-requires-2 c κs = search rules
 
-place-of-requires-2 : tie.Need-place-of-requires-2
-place-of-requires-2 c κs = search needs
+place-of-requires-2 : tie.Need-place_of-requires-then-has_field
+place-of-requires-2 c κs = search rules
 
-returns-2 : tie.Need-returns-2
+returns-2 : tie.Need-returns-then-has_field
 returns-2 c =
-    let s = c .before .before in
-    let h = s .before .before in
-    let from = h .before .before .args .from in
-    shape-spare _ _ _ _ refl (c .place-of2 .ensures) (granted (h .has-field .ensures from) (s .before .if1 .left))
-    (s .has-field2 .ensures from .holds (c .before .if2 .taken))
+    let s = c in
+    let h = s in
+    let from = h.args.from in
+    shape_spare _ _ _ _ refl c.place_of-then-has_field.ensures (granted (h.has_field.ensures from) s.if-not-has_field.false)
+    ((s.has_field-2.ensures from).holds c.if-has_field.true)
 
-returns-3 : tie.Need-returns-3
+returns-3 : tie.Need-returns
 returns-3 c =
-    let s = c .before in
-    let h = s .before .before in
-    let from = h .before .before .args .from in
-    shape-right _ _ (granted (h .has-field .ensures from) (s .before .if1 .left)) (s .has-field2 .ensures from .fails (c .if2 .left))
+    let s = c in
+    let h = s in
+    let from = h.args.from in
+    shape_right _ _ (granted (h.has_field.ensures from) s.if-not-has_field.false) ((s.has_field-2.ensures from).fails c.if-has_field.false)
 
-pub shape-fault-spec : {M : Type 1} → statement M
-shape-fault-spec =
+pub shape_fault_spec : {M : Type 1} → statement M
+shape_fault_spec =
     tie.close
     (tie.spec
     has-field-requires

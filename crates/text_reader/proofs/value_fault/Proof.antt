@@ -1,40 +1,33 @@
 -- `text_reader::value_fault` meets its contract.
-use borrow.Author.Needs.{needs}
-use Rattle·rules.proofs.Answers.{answered}
-use Rattle·text_reader·proofs.proofs.Lines.{values-right, values-wrong}
-use Rattle·text_reader·proofs.proofs.value_fault.Statement.{statement}
-use Rattle·text_reader·proofs.proofs.value_fault.Tie as tie
+use borrow.Author.Rules.{rules}
+use Rattle.rules.proofs.Answers.{answered}
+use Rattle.text_reader.proofs.Lines.{values_right, values_wrong}
+use Rattle.text_reader.proofs.value_fault.Statement.{statement}
+use Rattle.text_reader.proofs.value_fault.Tie as tie
 
-in-ring-requires : tie.Need-in-ring-requires
-in-ring-requires c κs = search needs
+in-ring-requires : tie.Need-in_ring-requires
+in-ring-requires c κs = search rules
 
-row-fault-requires : tie.Need-row-fault-requires
-row-fault-requires c κs = search needs
+row-fault-requires : tie.Need-row_fault-number-requires
+row-fault-requires c κs = search rules
 
-returns : tie.Need-returns
+returns : tie.Need-returns-then-number-eq-DONE
 returns c =
-    let r = c .before in
-    let n = r .before in
-    let z = n .before .before in
-    answered _ (values-right _ _ _ _ (z .pre .1) (rw (c .if1 .taken, n .in-ring .ensures) at (r .row-fault .ensures)))
+    answered _ (values_right _ _ _ _ c.requires.1 (rw (c.if-number-eq-DONE.true, c.in_ring.ensures) at c.row_fault-number.ensures))
 
 blamed-requires : tie.Need-blamed-requires
-blamed-requires c κs = search needs
+blamed-requires c κs = search rules
 
-place-of-requires : tie.Need-place-of-requires
-place-of-requires c κs = c .before .before .before .before .before .pre .0
+place-of-requires : tie.Need-place_of-requires
+place-of-requires c κs = c.requires.0
 
-returns-2 : tie.Need-returns-2
+returns-2 : tie.Need-returns
 returns-2 c =
-    let b = c .before in
-    let r = b .before .before in
-    let n = r .before in
-    let z = n .before .before in
-    rw (c .place-of .ensures, b .blamed .ensures)
-    (values-wrong _ _ _ _ (z .pre .1) _ (b .before .if1 .left) (rw (n .in-ring .ensures) at (r .row-fault .ensures)))
+    rw (c.place_of.ensures, c.blamed.ensures)
+    (values_wrong _ _ _ _ c.requires.1 _ c.if-number-eq-DONE.false (rw c.in_ring.ensures at c.row_fault-number.ensures))
 
-pub value-fault-spec : {M : Type 1} → statement M
-value-fault-spec =
+pub value_fault_spec : {M : Type 1} → statement M
+value_fault_spec =
     tie.close
     (tie.spec
     in-ring-requires

@@ -1,21 +1,19 @@
 -- `text_reader::version_for` meets its contract.
-use borrow.Author.Tests.{eq-eqb, ne-eqb}
-use Rattle·rules.specs.Bounds.{max-rings}
-use Rattle·text_reader·proofs.proofs.version_for.Statement.{statement}
-use Rattle·text_reader·proofs.proofs.version_for.Tie as tie
+use borrow.Author.Tests.{eq-eqb, ne_eqb}
+use Rattle.rules.specs.Bounds.{max_rings}
+use Rattle.text_reader.proofs.version_for.Statement.{statement}
+use Rattle.text_reader.proofs.version_for.Tie as tie
 
-returns : tie.Need-returns
-returns c = rw (eq-eqb (c .before .args .rings) max-rings (c .if1 .taken))
+returns : tie.Need-returns-then-rings-eq-RINGS
+returns c = rw (eq-eqb c.args.rings max_rings c.if-rings-eq-RINGS.true)
 
-returns-2 : tie.Need-returns-2
+returns-2 : tie.Need-returns-then-labelled
 returns-2 c =
-    let z = c .before in
-    rw (ne-eqb (z .before .args .rings) max-rings (z .if1 .left), c .if2 .taken)
+    rw (ne_eqb c.args.rings max_rings c.if-rings-eq-RINGS.false, c.if-labelled.true)
 
-returns-3 : tie.Need-returns-3
+returns-3 : tie.Need-returns
 returns-3 c =
-    let z = c .before in
-    rw (ne-eqb (z .before .args .rings) max-rings (z .if1 .left), c .if2 .left)
+    rw (ne_eqb c.args.rings max_rings c.if-rings-eq-RINGS.false, c.if-labelled.false)
 
-pub version-for-spec : {M : Type 1} → statement M
-version-for-spec = tie.close (tie.spec returns returns-2 returns-3)
+pub version_for_spec : {M : Type 1} → statement M
+version_for_spec = tie.close (tie.spec returns returns-2 returns-3)

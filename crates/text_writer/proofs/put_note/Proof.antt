@@ -1,79 +1,62 @@
 -- `text_writer::put_note` meets its contract.
 use native.Mathlib.Omega.{arith}
-use borrow.Author.Tests.{eq-eqb, ne-eqb}
-use Rattle·numbers.specs.Lists.{each}
-use Rattle·rules.specs.Bounds.{max-rings}
-use Rattle·rules.specs.TableFile.{version-2}
-use Rattle·grammar.specs.TableText.{note}
-use borrow.Author.Needs.{needs}
-use Rattle·text_writer·proofs.proofs.put_note.Statement.{statement}
-use Rattle·text_writer·proofs.proofs.put_note.Tie as tie
+use borrow.Author.Tests.{eq-eqb, ne_eqb}
+use Rattle.numbers.specs.Lists.{each}
+use Rattle.rules.specs.Bounds.{max_rings}
+use Rattle.rules.specs.TableFile.{version_2}
+use Rattle.grammar.specs.TableText.{note}
+use borrow.Author.Rules.{rules}
+use Rattle.text_writer.proofs.put_note.Statement.{statement}
+use Rattle.text_writer.proofs.put_note.Tie as tie
 
-slice-aggregate-put-bytes : tie.Need-slice-aggregate-put-bytes
-slice-aggregate-put-bytes c = search needs
+put-bytes-requires : tie.Need-put_bytes-requires
+put-bytes-requires c κs = search rules
 
-put-bytes-requires : tie.Need-put-bytes-requires
-put-bytes-requires c κs = search needs
+same_length : tie.Need-shape_of-out-then-rings-eq-RINGS
+same_length c = search rules
 
-same-length : tie.Need-same-length
-same-length c = search needs
-
-returns : tie.Need-returns
+returns : tie.Need-returns-then-rings-eq-RINGS
 unfolding note each
 returns c =
-    let p = c .before .before .put-bytes .ensures in
-    let z = c .before .before .before .before .before in
-    rw (eq-eqb (z .before .before .args .rings) max-rings (z .if1 .taken)) (p, omega (arith, p .after))
+    let p = c.put_bytes.ensures in
+    rw (eq-eqb c.args.rings max_rings c.if-rings-eq-RINGS.true) (p, omega (arith, p.after))
 
-slice-aggregate-put-bytes-2 : tie.Need-slice-aggregate-put-bytes-2
-slice-aggregate-put-bytes-2 c = search needs
+put-bytes-requires-2 : tie.Need-put_bytes-requires-then-version-eq-VERSION_2
+put-bytes-requires-2 c κs = search rules
 
-put-bytes-requires-2 : tie.Need-put-bytes-requires-2
-put-bytes-requires-2 c κs = search needs
+same-length-2 : tie.Need-shape_of-out-then-version-eq-VERSION_2
+same-length-2 c = search rules
 
-same-length-2 : tie.Need-same-length-2
-same-length-2 c = search needs
-
-returns-2 : tie.Need-returns-2
+returns-2 : tie.Need-returns-then-version-eq-VERSION_2
 unfolding note each
 returns-2 c =
-    let p = c .before .before .put-bytes2 .ensures in
-    let y = c .before .before .before .before .before in
-    let z = y .before in
-    let a = z .before .before .args in
-    rw (ne-eqb (a .rings) max-rings (z .if1 .left), eq-eqb (a .version) version-2 (y .if2 .taken)) (p, omega (arith, p .after))
+    let p = c.put_bytes-then-version-eq-VERSION_2.ensures in
+    let a = c.args in
+    rw (ne_eqb a.rings max_rings c.if-rings-eq-RINGS.false, eq-eqb a.version version_2 c.if-version-eq-VERSION_2.true) (p, omega (arith, p.after))
 
-slice-aggregate-put-bytes-3 : tie.Need-slice-aggregate-put-bytes-3
-slice-aggregate-put-bytes-3 c = search needs
+put-bytes-requires-3 : tie.Need-put_bytes-requires-2
+put-bytes-requires-3 c κs = search rules
 
-put-bytes-requires-3 : tie.Need-put-bytes-requires-3
-put-bytes-requires-3 c κs = search needs
+same-length-3 : tie.Need-shape_of-out
+same-length-3 c = search rules
 
-same-length-3 : tie.Need-same-length-3
-same-length-3 c = search needs
-
-returns-3 : tie.Need-returns-3
+returns-3 : tie.Need-returns
 unfolding note each
 returns-3 c =
-    let p = c .before .before .put-bytes3 .ensures in
-    let y = c .before .before .before .before .before in
-    let z = y .before in
-    let a = z .before .before .args in
-    rw (ne-eqb (a .rings) max-rings (z .if1 .left), ne-eqb (a .version) version-2 (y .if2 .left)) (p, omega (arith, p .after))
+    let p = c.put_bytes-2.ensures in
+    let a = c.args in
+    rw (ne_eqb a.rings max_rings c.if-rings-eq-RINGS.false, ne_eqb a.version version_2 c.if-version-eq-VERSION_2.false) (p, omega (arith, p.after))
 
-pub put-note-spec : {M : Type 1} → statement M
-put-note-spec =
+pub put_note_spec : {M : Type 1} → statement M
+put_note_spec =
     tie.close
     (tie.spec
-    slice-aggregate-put-bytes
     put-bytes-requires
-    same-length
+    same_length
     returns
-    slice-aggregate-put-bytes-2
     put-bytes-requires-2
     same-length-2
     returns-2
-    slice-aggregate-put-bytes-3
     put-bytes-requires-3
     same-length-3
     returns-3)

@@ -1,57 +1,55 @@
 -- `text_writer::write` meets its contract.
-use mathlib.Core.Path.{_≡_, ap}
-use mathlib.Core.Logic.{⊎-elim}
+use mathlib.Core.Path.{◌≡◌, ap}
+use mathlib.Core.Logic.{⊎_elim}
 use native.Mathlib.Omega.{arith}
 use lib.ListN.{length}
-use Rattle·numbers.proofs.Truth.{le-or-lt}
-use Rattle·table.specs.declared.Answer.{Answer}
-use Rattle·text_writer·proofs.proofs.Written.{mark-refused, mark-known}
-use borrow.Author.Needs.{needs}
-use Rattle·text_writer·proofs.proofs.write.Statement.{statement}
-use Rattle·text_writer·proofs.proofs.write.Tie as tie
+use Rattle.numbers.proofs.Truth.{le_or_lt}
+use Rattle.table.specs.declared.Answer.{Answer}
+use Rattle.text_writer.proofs.Written.{mark_refused, mark_known}
+use borrow.Author.Rules.{rules}
+use Rattle.text_writer.proofs.write.Statement.{statement}
+use Rattle.text_writer.proofs.write.Tie as tie
 
-is-no-mark-requires : tie.Need-is-no-mark-requires
-is-no-mark-requires c κs = search needs
+is-no-mark-requires : tie.Need-is_no_mark-requires
+is-no-mark-requires c κs = search rules
 
 at-requires : tie.Need-at-requires
-at-requires c κs = search needs
+at-requires c κs = search rules
 
-refuse-write-requires : tie.Need-refuse-write-requires
-refuse-write-requires c κs = search needs
+refuse-write-requires : tie.Need-refuse_write-requires
+refuse-write-requires c κs = search rules
 
-returns : tie.Need-returns
+returns : tie.Need-returns-then-is_no_mark
 returns c =
-    let z = c .before .before in
-    let e = c .refuse-write .ensures in
-    let w = c .before .at .ensures in
-    rw (ap (λ (w : Answer). w .number) (e .0), ap (λ (w : Answer). w .place) (e .0), w .0, w .1, e .1)
-    (mark-refused _ _ _ _ _ _ (z .before .is-no-mark .ensures .holds (z .if1 .taken)))
+    let z = c in
+    let e = c.refuse_write.ensures in
+    let w = c.at.ensures in
+    rw (ap (λ (w : Answer). w.number) e.0, ap (λ (w : Answer). w.place) e.0, w.0, w.1, e.1)
+    (mark_refused _ _ _ _ _ _ (z.is_no_mark.ensures.holds z.if-is_no_mark.true))
 
-rings-of-requires : tie.Need-rings-of-requires
+rings-of-requires : tie.Need-rings_of-requires
 rings-of-requires c κs =
-    let m = c .before .before .before .before .before .args .mark .now in
-    ⊎-elim (λ l. l)
+    let m = c.args.mark.now in
+    ⊎_elim (λ l. l)
     (λ l.
-    absurd (c .before .is-no-mark .ensures .fails (c .if1 .left)
+    absurd (c.is_no_mark.ensures.fails c.if-is_no_mark.false
     ((λ e. let z : length m ≡ 3 = ap length e in omega (arith, l, z)), (λ e. let z : length m ≡ 3 = ap length e in omega (arith, l, z)))))
-    (le-or-lt 3 (length m))
+    (le_or_lt 3 (length m))
 
-write-with-requires : tie.Need-write-with-requires
-write-with-requires c κs = search needs
+write-with-requires : tie.Need-write_with-requires
+write-with-requires c κs = search rules
 
-same-length : tie.Need-same-length
-same-length c = search needs
+same_length : tie.Need-shape_of-out
+same_length c = search rules
 
-returns-2 : tie.Need-returns-2
+returns-2 : tie.Need-returns
 returns-2 c =
-    let w = c .before .before in
-    let r = w .before .before in
-    let z = r .before in
-    mark-known _ _ _ _ _ _ _ _ _ _ (z .before .is-no-mark .ensures .fails (z .if1 .left))
-    (rw (r .rings-of .ensures) at (w .write-with .ensures))
+    let z = c in
+    mark_known _ _ _ _ _ _ _ _ _ _ (z.is_no_mark.ensures.fails z.if-is_no_mark.false)
+    (rw c.rings_of.ensures at c.write_with.ensures)
 
-pub write-spec : {M : Type 1} → statement M
-write-spec =
+pub write_spec : {M : Type 1} → statement M
+write_spec =
     tie.close
     (tie.spec
     is-no-mark-requires
@@ -60,5 +58,5 @@ write-spec =
     returns
     rings-of-requires
     write-with-requires
-    same-length
+    same_length
     returns-2)

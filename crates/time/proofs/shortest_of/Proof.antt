@@ -1,50 +1,50 @@
 -- shortest_of: the least divisor goes up the periods.
-use Prim.Native.Nat.{_-_, _≤_}
+use Prim.Native.Nat.{◌-◌, ◌≤◌}
 use native.Mathlib.Omega.{arith}
-use Rattle·numbers.specs.Lists.{at}
-use Rattle·time·specs.specs.Time.{Nearing}
-use Rattle·time·proofs.proofs.Periods.{nearing-start, nearing-end}
-use Rattle·time·proofs.proofs.shortest_of.Statement.{statement}
-use Rattle·time·proofs.proofs.shortest_of.Tie as tie
+use Rattle.numbers.specs.Lists.{at}
+use Rattle.time.specs.Time.{Nearing}
+use Rattle.time.proofs.Periods.{nearing_start, nearing_end}
+use Rattle.time.proofs.shortest_of.Statement.{statement}
+use Rattle.time.proofs.shortest_of.Tie as tie
 
-abbrev Inv-loop : tie.InvT-loop
-Inv-loop count period l₀ i₀ l i = (i ≤ count) × Nearing count (at period) i 0 l
+abbrev invariant-loop : tie.invariant-loop-i
+invariant-loop count period l₀ i₀ l i = (i ≤ count) × Nearing count (at period) i 0 l
 
-abbrev μ-loop : tie.MeasureT-loop
-μ-loop count period l₀ i₀ l i = count - i
+abbrev decreases-loop : tie.decreases-loop-i
+decreases-loop count period l₀ i₀ l i = count - i
 
-slots-at-requires : tie.Need-slots-at-requires Inv-loop μ-loop
+slots-at-requires : tie.Need-slots_at-l-requires invariant-loop decreases-loop
 slots-at-requires c κs = omega arith
 
-loop-holds : tie.Need-loop-holds Inv-loop μ-loop
-loop-holds c = (c .before .pre .some, rw (c .slots-at .ensures) (nearing-start (c .before .pre)))
+loop-holds : tie.Need-loop-i-init invariant-loop decreases-loop
+loop-holds c = (c.requires.some, rw c.slots_at-l.ensures (nearing_start c.requires))
 
-lowered-requires : tie.Need-lowered-requires Inv-loop μ-loop
+lowered-requires : tie.Need-lowered-l-requires invariant-loop decreases-loop
 lowered-requires c κs =
-    let z = c .before .before .before in
-    (z .args .count, z .pre, c .before .loop .inv .1, omega arith)
+    let z = c in
+    (z.args.count, z.requires, c.loop-i.invariant.1, omega arith)
 
-add-i : tie.Need-add-i Inv-loop μ-loop
+add-i : tie.Need-overflow_add-i invariant-loop decreases-loop
 add-i c = omega arith
 
-loop-less : tie.Need-loop-less Inv-loop μ-loop
+loop-less : tie.Need-loop-i-smaller invariant-loop decreases-loop
 loop-less c = omega arith
 
-loop-again : tie.Need-loop-again Inv-loop μ-loop
+loop-again : tie.Need-loop-i-preserved invariant-loop decreases-loop
 loop-again c =
-    let u = c .before .before in
-    let z = u .before .before in
-    (omega arith, c .lowered .ensures (z .args .count) (z .pre) (u .loop .inv .1) (omega arith))
+    let u = c in
+    let z = u in
+    (omega arith, c.lowered-l.ensures z.args.count z.requires u.loop-i.invariant.1 (omega arith))
 
-returns : tie.Need-returns Inv-loop μ-loop
-returns c = nearing-end (c .before .loop .inv .1) (omega arith)
+returns : tie.Need-returns invariant-loop decreases-loop
+returns c = nearing_end c.loop-i.invariant.1 (omega arith)
 
-pub shortest-of-spec : {M : Type 1} → statement M
-shortest-of-spec =
+pub shortest_of_spec : {M : Type 1} → statement M
+shortest_of_spec =
     tie.close
     (tie.spec
-    Inv-loop
-    μ-loop
+    invariant-loop
+    decreases-loop
     slots-at-requires
     loop-holds
     lowered-requires

@@ -3,93 +3,93 @@ use mathlib.Core.Path.{refl}
 use mathlib.Core.List.{List}
 use Prim.Native.Nat.{ℕ}
 use native.Mathlib.Omega.{arith}
-use borrow.Author.Needs.{needs}
-use Rattle·numbers.specs.Lists.{at}
-use Rattle·rules.specs.Bus.{Table}
-use Rattle·rules.specs.Refusals.{line-checks, bound-checks}
-use Rattle·table.specs.Columns.{columnTable}
-use Rattle·outline.specs.Outlined.{Outlined}
-use Rattle·lags.proofs.Intervals.{shortest-le}
-use Rattle·verdict·proofs.proofs.Weighing.{times-of}
-use Rattle·verdict·proofs.proofs.Weighed.{rows-weighed}
-use Rattle·verdict·specs.specs.Weighing.{Weighs}
-use Rattle·verdict·specs.specs.Analysed.{Rated}
-use Rattle·verdict·proofs.proofs.Analysing.{analysed-first, analysed-after, line-none, rated-weighable, analysed-next, analysed-done}
-use Rattle·verdict·proofs.proofs.analysis_of.Statement.{statement}
-use Rattle·verdict·proofs.proofs.analysis_of.Tie as tie
+use borrow.Author.Rules.{rules}
+use Rattle.numbers.specs.Lists.{at}
+use Rattle.rules.specs.Bus.{Table}
+use Rattle.rules.specs.Refusals.{line_checks, bound_checks}
+use Rattle.table.specs.Columns.{column_table}
+use Rattle.outline.specs.Outlined.{Outlined}
+use Rattle.lags.proofs.Intervals.{shortest_le}
+use Rattle.verdict.proofs.Weighing.{times_of}
+use Rattle.verdict.proofs.Weighed.{rows_weighed}
+use Rattle.verdict.specs.Weighing.{Weighs}
+use Rattle.verdict.specs.Analysed.{Rated}
+use Rattle.verdict.proofs.Analysing.{analysed_first, analysed_after, line_none, rated_weighable, analysed_next, analysed_done}
+use Rattle.verdict.proofs.analysis_of.Statement.{statement}
+use Rattle.verdict.proofs.analysis_of.Tie as tie
 
-abbrev table : tie.After-outline-of → Table
+abbrev table : tie.After-outline_of-outline → Table
 table d =
-    let a = d .before .args in
-    columnTable (a .elements) (a .rows) (a .rings) (a .cost .now) (a .period .now) (a .first .now) (a .second .now) (a .way .now)
+    let a = d.args in
+    column_table a.elements a.rows a.rings a.cost.now a.period.now a.first.now a.second.now a.way.now
 
-outlined : (d : tie.After-outline-of) → Outlined (line-checks (table d)) (table d) (d .outline-of .result)
-outlined d = d .outline-of .ensures (at (d .before .args .cost .now)) (d .before .pre)
+outlined : (d : tie.After-outline_of-outline) → Outlined (line_checks (table d)) (table d) d.outline_of-outline.result
+outlined d = d.outline_of-outline.ensures (at d.args.cost.now) d.requires
 
-outline-of-requires : tie.Need-outline-of-requires
-outline-of-requires c κs = (at (c .args .cost .now), c .pre)
+outline-of-requires : tie.Need-outline_of-outline-requires
+outline-of-requires c κs = (at c.args.cost.now, c.requires)
 
 refused-requires : tie.Need-refused-requires
-refused-requires c κs = search needs
+refused-requires c κs = search rules
 
-returns : tie.Need-returns
+returns : tie.Need-returns-then-answer-ne-DONE
 returns c =
-    let d = c .before .before .before .before in
-    rw (c .refused .ensures) (analysed-first (table d) _ (outlined d) (c .before .if1 .taken))
+    let d = c.before.before.before.before in
+    rw c.refused.ensures (analysed_first (table d) _ (outlined d) c.if-answer-ne-DONE.true)
 
 -- the way back from the rates to the outline, and from the weights to the rates
-abbrev asked : tie.After-put-rates → tie.After-outline-of
-asked d = d .before .before .before .before .before .before
+abbrev asked : tie.After-put_rates-light → tie.After-outline_of-outline
+asked d = d.before.before.before.before.before.before
 
-abbrev rates : tie.After-put-rates → List ℕ
-rates d = d .put-rates .last .1 .1 .1 .1 .1 .0
+abbrev rates : tie.After-put_rates-light → List ℕ
+rates d = d.put_rates-light.new.rate
 
-rated : (d : tie.After-put-rates) → Rated (table (asked d)) (asked d .outline-of .result) (d .put-rates .result) (rates d)
+rated : (d : tie.After-put_rates-light) → Rated (table (asked d)) (asked d).outline_of-outline.result d.put_rates-light.result (rates d)
 rated d =
-    let e = d .before .before .before in
+    let e = d in
     let a = asked d in
-    let F = outlined a .found (e .if1 .left) in
-    record { outlined = outlined a; passed = e .if1 .left; weighed = rows-weighed (F .timed) (d .put-rates .ensures) }
+    let F = (outlined a).found e.if-answer-ne-DONE.false in
+    record { outlined = outlined a; passed = e.if-answer-ne-DONE.false; weighed = rows_weighed F.timed d.put_rates-light.ensures }
 
-put-rates-requires : tie.Need-put-rates-requires
+put-rates-requires : tie.Need-put_rates-light-requires
 put-rates-requires c κs =
-    let e = c .before .before in
-    let T = outlined (e .before .before .before) .found (e .if1 .left) .timed in
-    (times-of (T .sound), omega (arith, T .hyper, T .short), omega (arith, T .interval, shortest-le (T .sound)), refl)
+    let e = c in
+    let T = ((outlined e.before.before.before.before.before).found e.if-answer-ne-DONE.false).timed in
+    (times_of T.sound, omega (arith, T.hyper, T.short), omega (arith, T.interval, shortest_le T.sound), refl)
 
-weigh-requires : tie.Need-weigh-requires
+weigh-requires : tie.Need-weigh-weighing-requires
 weigh-requires c κs =
-    let d = c .before .before .before .before in
-    (table (asked d), rated-weighable (table (asked d)) (rated d))
+    let d = c.before.before.before in
+    (table (asked d), rated_weighable (table (asked d)) (rated d))
 
-abbrev weighed : tie.After-weigh → tie.After-put-rates
-weighed w = w .before .before .before .before .before
+abbrev weighed : tie.After-weigh-weighing → tie.After-put_rates-light
+weighed w = w.before.before.before.before
 
-weighs : (w : tie.After-weigh) → Weighs (table (asked (weighed w))) (w .weigh .result)
+weighs : (w : tie.After-weigh-weighing) → Weighs (table (asked (weighed w))) w.weigh-weighing.result
 weighs w =
     let a = asked (weighed w) in
-    w .weigh .ensures (table a) (rated-weighable (table a) (rated (weighed w)))
+    w.weigh-weighing.ensures (table a) (rated_weighable (table a) (rated (weighed w)))
 
-refused-requires-2 : tie.Need-refused-requires-2
-refused-requires-2 c κs = search needs
+refused-requires-2 : tie.Need-refused-requires-then-next-ne-DONE
+refused-requires-2 c κs = search rules
 
-returns-2 : tie.Need-returns-2
+returns-2 : tie.Need-returns-then-next-ne-DONE
 returns-2 c =
-    let w = c .before .before .before .before in
+    let w = c.before.before.before.before in
     let t = table (asked (weighed w)) in
     let R = rated (weighed w) in
-    rw (c .refused2 .ensures)
-    (analysed-after (line-checks t) (bound-checks t) (line-none t R) (analysed-next t R _ (weighs w) (c .before .if2 .taken)))
+    rw c.refused-then-next-ne-DONE.ensures
+    (analysed_after (line_checks t) (bound_checks t) (line_none t R) (analysed_next t R _ (weighs w) c.if-next-ne-DONE.true))
 
-returns-3 : tie.Need-returns-3
+returns-3 : tie.Need-returns
 returns-3 c =
-    let w = c .before .before .before in
+    let w = c.before.before.before in
     let t = table (asked (weighed w)) in
     let R = rated (weighed w) in
-    analysed-after (line-checks t) (bound-checks t) (line-none t R) (analysed-done t R _ (weighs w) (c .if2 .left))
+    analysed_after (line_checks t) (bound_checks t) (line_none t R) (analysed_done t R _ (weighs w) c.if-next-ne-DONE.false)
 
-pub analysis-of-spec : {M : Type 1} → statement M
-analysis-of-spec =
+pub analysis_of_spec : {M : Type 1} → statement M
+analysis_of_spec =
     tie.close
     (tie.spec
     outline-of-requires

@@ -1,60 +1,60 @@
 -- judge: past the checks of a table as it is given the columns hold it, and its verdict is the file's.
-use mathlib.Core.Path.{_≡_}
+use mathlib.Core.Path.{◌≡◌}
 use mathlib.Core.List.{List}
 use Prim.Native.Nat.{ℕ}
-use borrow.Author.Needs.{needs}
-use Rattle·rules.specs.TableFile.{fileTable}
-use Rattle·rules.specs.Refusals.{Answers, given-checks}
-use Rattle·table.specs.Sound.{Sound}
-use Rattle·table.specs.Columns.{tableOf}
-use Rattle·table.specs.declared.columns.Columns.{Columns}
-use Rattle·decoding.specs.Decoded.{columnsBy}
-use Rattle·pasted.proofs.AsGiven.{given-of}
-use Rattle·outline.proofs.Outlined.{answers-zero}
-use Rattle·verdict·proofs.proofs.Bound.{given-stops}
-use Rattle·verdict·proofs.proofs.Judging.{judged-refused, judged-past}
-use Rattle·verdict·proofs.proofs.judge.Statement.{statement}
-use Rattle·verdict·proofs.proofs.judge.Tie as tie
+use borrow.Author.Rules.{rules}
+use Rattle.rules.specs.TableFile.{file_table}
+use Rattle.rules.specs.Refusals.{Answers, given_checks}
+use Rattle.table.specs.Sound.{Sound}
+use Rattle.table.specs.Columns.{table_of}
+use Rattle.table.specs.declared.columns.Columns.{Columns}
+use Rattle.decoding.specs.Decoded.{columns_by}
+use Rattle.pasted.proofs.AsGiven.{given_of}
+use Rattle.outline.proofs.Outlined.{answers_zero}
+use Rattle.verdict.proofs.Bound.{given_stops}
+use Rattle.verdict.proofs.Judging.{judged_refused, judged_past}
+use Rattle.verdict.proofs.judge.Statement.{statement}
+use Rattle.verdict.proofs.judge.Tie as tie
 
-abbrev taken : tie.Else1 → tie.After-given-into
-taken c = c .before .before .before
+abbrev taken : tie.Else-answer-ne-DONE → tie.After-given_into-head
+taken c = c.before.before.before
 
-abbrev bytes : tie.Else1 → List ℕ
-bytes c = taken c .before .before .before .before .before .before .before .args .file .now
+abbrev bytes : tie.Else-answer-ne-DONE → List ℕ
+bytes c = (taken c).args.file.now
 
 -- what is written
-abbrev columns : tie.Else1 → Columns
+abbrev columns : tie.Else-answer-ne-DONE → Columns
 columns c =
-    let g = taken c .given-into in
-    let xs = g .last in
-    columnsBy (g .result) (xs .1 .0) (xs .1 .1 .0) (xs .1 .1 .1 .0) (xs .1 .1 .1 .1 .0) (xs .1 .1 .1 .1 .1 .0)
+    let g = (taken c).given_into-head in
+    let xs = g.new in
+    columns_by g.result xs.cost xs.period xs.first xs.second xs.way
 
-checked : (c : tie.Else1) → Answers (given-checks (bytes c)) 0 (taken c .given-into .result .answer .place)
+checked : (c : tie.Else-answer-ne-DONE) → Answers (given_checks (bytes c)) 0 (taken c).given_into-head.result.answer.place
 checked c =
-    let g = taken c .given-into in
-    answers-zero (given-checks (bytes c)) (g .result .answer) (c .if1 .left) (g .ensures .answers)
+    let g = (taken c).given_into-head in
+    answers_zero (given_checks (bytes c)) g.result.answer c.if-answer-ne-DONE.false g.ensures.answers
 
-held : (c : tie.Else1) → tableOf (columns c) ≡ fileTable (bytes c)
-held c = taken c .given-into .ensures .passed (c .if1 .left) .table
+held : (c : tie.Else-answer-ne-DONE) → table_of (columns c) ≡ file_table (bytes c)
+held c = ((taken c).given_into-head.ensures.passed c.if-answer-ne-DONE.false).table
 
-sound : (c : tie.Else1) → Sound (tableOf (columns c))
-sound c = rw (held c) (given-of (bytes c) _ (checked c) .sound)
+sound : (c : tie.Else-answer-ne-DONE) → Sound (table_of (columns c))
+sound c = rw (held c) (given_of (bytes c) _ (checked c)).sound
 
-given-into-requires : tie.Need-given-into-requires
-given-into-requires c κs = search needs
+given-into-requires : tie.Need-given_into-head-requires
+given-into-requires c κs = search rules
 
-returns : tie.Need-returns
+returns : tie.Need-returns-then-answer-ne-DONE
 returns c =
-    let a = c .before .before .before .given-into in
-    judged-refused (a .result .answer) (c .if1 .taken) (given-stops _ _ _ (c .if1 .taken) (a .ensures .answers))
+    let a = c.given_into-head in
+    judged_refused a.result.answer c.if-answer-ne-DONE.true (given_stops _ _ _ c.if-answer-ne-DONE.true a.ensures.answers)
 
-judge-table-requires : tie.Need-judge-table-requires
-judge-table-requires c κs = sound (c .before .before .before .before .before)
+judge-table-requires : tie.Need-judge_table-requires
+judge-table-requires c κs = sound c.before.before.before.before.before
 
-returns-2 : tie.Need-returns-2
+returns-2 : tie.Need-returns
 returns-2 c =
-    let e = c .before .before .before .before .before .before in
-    judged-past (bytes e) _ (checked e) (c .judge-table .result) (rw (held e) at (c .judge-table .ensures))
+    let e = c.before.before.before.before.before.before in
+    judged_past (bytes e) _ (checked e) c.judge_table.result (rw (held e) at c.judge_table.ensures)
 
-pub judge-spec : {M : Type 1} → statement M
-judge-spec = tie.close (tie.spec given-into-requires returns judge-table-requires returns-2)
+pub judge_spec : {M : Type 1} → statement M
+judge_spec = tie.close (tie.spec given-into-requires returns judge-table-requires returns-2)

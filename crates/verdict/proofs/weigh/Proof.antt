@@ -1,76 +1,76 @@
 -- weigh: each return answers 13 and 14, and the last has what is found of the sets.
-use mathlib.Core.Path.{_≡_, refl, ap, _∙_}
+use mathlib.Core.Path.{refl, ap, ◌∙◌}
 use native.Mathlib.Omega.{arith}
-use borrow.Author.Needs.{needs}
-use Rattle·table.specs.declared.Answer.{Answer}
-use Rattle·lags.proofs.Intervals.{hyperperiod-positive, shortest-positive, shortest-le}
-use Rattle·verdict·proofs.proofs.Weighed.{weighable-on-line, weighable-rates, weighs-light, weighs-over, weighs-done}
-use Rattle·verdict·proofs.proofs.weigh.Statement.{statement}
-use Rattle·verdict·proofs.proofs.weigh.Tie as tie
+use borrow.Author.Rules.{rules}
+use Rattle.table.specs.declared.Answer.{Answer}
+use Rattle.lags.proofs.Intervals.{hyperperiod_positive, shortest_positive, shortest_le}
+use Rattle.verdict.proofs.Weighed.{weighable_on_line, weighable_rates, weighs_light, weighs_over, weighs_done}
+use Rattle.verdict.proofs.weigh.Statement.{statement}
+use Rattle.verdict.proofs.weigh.Tie as tie
 
 at-requires : tie.Need-at-requires
 at-requires c κs =
-    let A = c .before .pre .1 in
-    let s = A .timed .sound in
-    omega (arith, c .if1 .taken, A .rows-is)
+    let A = c.requires.1 in
+    let s = A.timed.sound in
+    omega (arith, c.if-light-rows.true, A.rows_is)
 
 unweighed-requires : tie.Need-unweighed-requires
-unweighed-requires c κs = search needs
+unweighed-requires c κs = search rules
 
-returns : tie.Need-returns
+returns : tie.Need-returns-then-light-rows
 returns c t A =
-    let e = c .unweighed .ensures in
-    weighs-light A (c .before .before .if1 .taken) _
-    (ap (λ (r : Answer). r .number) e ∙ c .before .at .ensures .0, ap (λ (r : Answer). r .place) e ∙ c .before .at .ensures .1)
+    let e = c.unweighed.ensures in
+    weighs_light A c.if-light-rows.true _
+    (ap (λ (r : Answer). r.number) e ∙ c.at.ensures.0, ap (λ (r : Answer). r.place) e ∙ c.at.ensures.1)
 
-weigh-line-requires : tie.Need-weigh-line-requires
+weigh-line-requires : tie.Need-weigh_line-found-requires
 weigh-line-requires c κs =
-    let A = c .before .pre .1 in
-    let T = A .timed in
-    let s = T .sound in (
-      weighable-on-line A,
-      weighable-rates A,
-      omega (arith, T .hyper, T .short),
-      omega (arith, T .interval, shortest-positive s),
-      omega (arith, T .interval, shortest-le s),
+    let A = c.requires.1 in
+    let T = A.timed in
+    let s = T.sound in (
+      weighable_on_line A,
+      weighable_rates A,
+      omega (arith, T.hyper, T.short),
+      omega (arith, T.interval, shortest_positive s),
+      omega (arith, T.interval, shortest_le s),
     )
 
-at-requires-2 : tie.Need-at-requires-2
+at-requires-2 : tie.Need-at-requires-then-found
 at-requires-2 c κs =
-    let w = c .before .before in
-    let A = w .before .before .pre .1 in
-    let s = A .timed .sound in
-    omega (arith, c .if2 .taken, w .weigh-line .ensures .1 .few, A .rows-is)
+    let w = c in
+    let A = w.requires.1 in
+    let s = A.timed.sound in
+    omega (arith, c.if-found.true, w.weigh_line-found.ensures.1.few, A.rows_is)
 
-unweighed-requires-2 : tie.Need-unweighed-requires-2
-unweighed-requires-2 c κs = search needs
+unweighed-requires-2 : tie.Need-unweighed-requires-then-found
+unweighed-requires-2 c κs = search rules
 
-returns-2 : tie.Need-returns-2
+returns-2 : tie.Need-returns-then-found
 returns-2 c t A =
-    let w = c .before .before .before .before in
-    let e = c .unweighed2 .ensures in
-    let v = w .weigh-line .ensures in
-    weighs-over A (w .before .if1 .left) (v .1) (v .2) (c .before .before .if2 .taken) _
-    (ap (λ (r : Answer). r .number) e ∙ c .before .at2 .ensures .0, ap (λ (r : Answer). r .place) e ∙ c .before .at2 .ensures .1)
+    let w = c in
+    let e = c.unweighed-then-found.ensures in
+    let v = w.weigh_line-found.ensures in
+    weighs_over A w.if-light-rows.false v.1 v.2 c.if-found.true _
+    (ap (λ (r : Answer). r.number) e ∙ c.at-then-found.ensures.0, ap (λ (r : Answer). r.place) e ∙ c.at-then-found.ensures.1)
 
 done-requires : tie.Need-done-requires
-done-requires c κs = search needs
+done-requires c κs = search rules
 
 thousandths-requires : tie.Need-thousandths-requires
 thousandths-requires c κs =
-    let w = c .before .before .before in
-    let T = w .before .before .pre .1 .timed in
-    (w .weigh-line .ensures .2 .small, omega (arith, T .hyper, hyperperiod-positive (T .sound)), omega (arith, T .hyper, T .short))
+    let w = c in
+    let T = w.requires.1.timed in
+    (w.weigh_line-found.ensures.2.small, omega (arith, T.hyper, hyperperiod_positive T.sound), omega (arith, T.hyper, T.short))
 
-returns-3 : tie.Need-returns-3
+returns-3 : tie.Need-returns
 returns-3 c t A =
-    let w = c .before .before .before .before in
-    let v = w .weigh-line .ensures in
-    weighs-done A (w .before .if1 .left) (v .1) (v .2) (c .before .before .if2 .left) _
-    (c .before .done .ensures) refl (c .thousandths .ensures)
+    let w = c in
+    let v = w.weigh_line-found.ensures in
+    weighs_done A w.if-light-rows.false v.1 v.2 c.if-found.false _
+    c.done.ensures refl c.thousandths.ensures
 
-pub weigh-spec : {M : Type 1} → statement M
-weigh-spec =
+pub weigh_spec : {M : Type 1} → statement M
+weigh_spec =
     tie.close
     (tie.spec
     at-requires

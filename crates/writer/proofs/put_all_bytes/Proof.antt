@@ -1,102 +1,102 @@
 -- `writer::put_all_bytes` meets its contract. The loop's invariant: the rows before row `i` are written.
-use mathlib.Core.Path.{_≡_, subst}
-use mathlib.Core.List.{_++_}
-use Prim.Native.Nat.{ℕ, _+_, _*_, _-_, _≤_}
-use native.Mathlib.Nat.{mul-le-mul-left}
+use mathlib.Core.Path.{◌≡◌, subst}
+use mathlib.Core.List.{◌++◌}
+use Prim.Native.Nat.{ℕ, ◌+◌, ◌*◌, ◌-◌, ◌≤◌}
+use native.Mathlib.Nat.{mul-le-mul_left}
 use native.Mathlib.Omega.{arith}
 use lib.ListN.{length, take}
-use Rattle·numbers.specs.Lists.{each}
-use Rattle·numbers.proofs.Lists.{Filled, filled-front}
-use Rattle·rules.specs.TableFile.{headerSize, lastSize, rowSize, memoryLabelledWith, fileRow, rowBytes}
-use Rattle·rules.proofs.Calls.{filled-lent}
-use Rattle·numbers.proofs.Codec.{filled-rows, filled-row}
-use Rattle·writer·proofs.proofs.Calls.{file-row}
-use Rattle·table.specs.Rows.{alone}
-use Rattle·table.proofs.RowSizes.{row-length}
-use Rattle·writer·proofs.proofs.put_all_bytes.Statement.{statement}
-use Rattle·writer·proofs.proofs.put_all_bytes.Tie as tie
+use Rattle.numbers.specs.Lists.{each}
+use Rattle.numbers.proofs.Lists.{Filled, filled_front}
+use Rattle.rules.specs.TableFile.{header_size, last_size, row_size, memory_labelled_with, file_row, row_bytes}
+use Rattle.rules.proofs.Calls.{filled_lent}
+use Rattle.numbers.proofs.Codec.{filled_rows, filled_row}
+use Rattle.writer.proofs.Calls.{file_row_lem}
+use Rattle.table.specs.Rows.{alone}
+use Rattle.table.proofs.RowSizes.{row_length}
+use Rattle.writer.proofs.put_all_bytes.Statement.{statement}
+use Rattle.writer.proofs.put_all_bytes.Tie as tie
 
-abbrev Inv-loop : tie.InvT-loop
-Inv-loop rings version numbers rows out₀ i₀ out i =
-    (i ≤ rows) × Filled out₀ out (headerSize + rowSize rings version * i)
-    (take headerSize out₀ ++ each i (fileRow (lastSize rings version) (memoryLabelledWith rings 0 rows numbers)))
+abbrev invariant-loop : tie.invariant-loop-i
+invariant-loop rings version numbers rows out₀ i₀ out i =
+    (i ≤ rows) × Filled out₀ out (header_size + row_size rings version * i)
+    (take header_size out₀ ++ each i (file_row (last_size rings version) (memory_labelled_with rings 0 rows numbers)))
 
-abbrev μ-loop : tie.MeasureT-loop
-μ-loop rings version numbers rows out₀ i₀ out i = rows - i
+abbrev decreases-loop : tie.decreases-loop-i
+decreases-loop rings version numbers rows out₀ i₀ out i = rows - i
 
-loop-holds : tie.Need-loop-holds Inv-loop μ-loop
+loop-holds : tie.Need-loop-i-init invariant-loop decreases-loop
 loop-holds c =
-    let a = c .before .before .args in
-    let e : headerSize ≡ headerSize + rowSize (a .rings) (a .version) * 0 = omega arith in
-    let front = take headerSize (a .out .now) in
-    let rows = fileRow (lastSize (a .rings) (a .version)) (memoryLabelledWith (a .rings) 0 (a .rows) (a .numbers .now)) in (
+    let a = c.before.before.args in
+    let e : header_size ≡ header_size + row_size a.rings a.version * 0 = omega arith in
+    let front = take header_size a.out.now in
+    let rows = file_row (last_size a.rings a.version) (memory_labelled_with a.rings 0 a.rows a.numbers.now) in (
       omega arith,
-      subst (λ (n : ℕ). Filled (a .out .now) (a .out .now) n (front ++ each 0 rows)) e
-          (filled-rows front rows (filled-front (a .out .now) headerSize (omega (arith, c .before .before .pre .2)))),
+      subst (λ (n : ℕ). Filled a.out.now a.out.now n (front ++ each 0 rows)) e
+          (filled_rows front rows (filled_front a.out.now header_size (omega (arith, c.before.before.requires.2)))),
     )
 
-row-of-requires : tie.Need-row-of-requires Inv-loop μ-loop
-row-of-requires c κs = omega (arith, c .before .before .before .before .pre .1)
+row-of-requires : tie.Need-row_of-requires invariant-loop decreases-loop
+row-of-requires c κs = omega (arith, c.before.before.before.before.requires.1)
 
-row-place-requires : tie.Need-row-place-requires Inv-loop μ-loop
-row-place-requires c κs = omega (arith, c .before .before .before .before .before .pre .0)
+row-place-requires : tie.Need-row_place-requires invariant-loop decreases-loop
+row-place-requires c κs = omega (arith, c.before.before.before.before.before.requires.0)
 
-put-row-requires : tie.Need-put-row-requires Inv-loop μ-loop
+put-row-requires : tie.Need-put_row-requires invariant-loop decreases-loop
 put-row-requires c κs =
-    let z = c .before .before .before .before .before .before .before in
-    let u = c .before .before .before .before .loop in
-    let l = c .before .before .before .loop-test .taken in
-    let q = c .before .before .row-of .ensures 0 (z .args .rows) in (
+    let z = c.before.before.before.before.before.before.before in
+    let u = c.before.before.before.before.loop-i in
+    let l = c.before.before.before.loop-i-test.true in
+    let q = c.before.before.row_of.ensures 0 z.args.rows in (
       omega (
         arith,
-        z .pre .2,
-        u .inv .1 .same,
-        c .before .row-place .ensures,
-        mul-le-mul-left (rowSize (z .args .rings) (z .args .version)) l,
+        z.requires.2,
+        u.invariant.1.same,
+        c.before.row_place.ensures,
+        mul-le-mul_left (row_size z.args.rings z.args.version) l,
       ),
-      rw (q .first) (z .pre .3 .first (u .i) l),
-      rw (q .second) (z .pre .3 .second (u .i) l),
-      rw (q .way) (z .pre .3 .way (u .i) l),
+      rw q.first (z.requires.3.first u.i l),
+      rw q.second (z.requires.3.second u.i l),
+      rw q.way (z.requires.3.way u.i l),
     )
 
-add-i : tie.Need-add-i Inv-loop μ-loop
+add-i : tie.Need-overflow_add-i invariant-loop decreases-loop
 add-i c = omega arith
 
-loop-less : tie.Need-loop-less Inv-loop μ-loop
+loop-less : tie.Need-loop-i-smaller invariant-loop decreases-loop
 loop-less c = omega arith
 
-loop-again : tie.Need-loop-again Inv-loop μ-loop
+loop-again : tie.Need-loop-i-preserved invariant-loop decreases-loop
 loop-again c =
-    let z = c .before .before .before .before .before .before .before .before .before .before in
-    let a = z .args in
-    let u = c .before .before .before .before .before .before .before .loop in
-    let k = lastSize (a .rings) (a .version) in
-    let rows = fileRow k (memoryLabelledWith (a .rings) 0 (a .rows) (a .numbers .now)) in
-    let r = c .before .before .before .before .before .row-of in
-    let q = file-row k (r .ensures 0 (a .rows)) in
-    let more = mul-le-mul-left (rowSize (a .rings) (a .version)) (c .before .before .before .before .before .before .loop-test .taken) in
-    let room : headerSize + rowSize (a .rings) (a .version) * (u .i + 1) ≤ length (a .out .now) = omega (arith, z .pre .2, more) in
-    let e = rw (c .before .before .before .before .row-place .ensures) at (c .before .before .put-row .ensures) in (
+    let z = c.before.before.before.before.before.before.before.before.before.before in
+    let a = z.args in
+    let u = c.before.before.before.before.before.before.before.loop-i in
+    let k = last_size a.rings a.version in
+    let rows = file_row k (memory_labelled_with a.rings 0 a.rows a.numbers.now) in
+    let r = c.before.before.before.before.before.row_of in
+    let q = file_row_lem k (r.ensures 0 a.rows) in
+    let more = mul-le-mul_left (row_size a.rings a.version) c.before.before.before.before.before.before.loop-i-test.true in
+    let room : header_size + row_size a.rings a.version * (u.i + 1) ≤ length a.out.now = omega (arith, z.requires.2, more) in
+    let e = rw c.before.before.before.before.row_place.ensures at c.before.before.put_row.ensures in (
       omega arith,
-      filled-row {i = u .i} (take headerSize (a .out .now)) rows _ _ (u .inv .1) e q
-          (omega (arith, row-length k (alone (a .rings) (r .result)) 0)) room,
+      filled_row {i = u.i} (take header_size a.out.now) rows _ _ u.invariant.1 e q
+          (omega (arith, row_length k (alone a.rings r.result) 0)) room,
     )
 
-same-length : tie.Need-same-length Inv-loop μ-loop
-same-length c = c .before .loop .inv .1 .same
+same_length : tie.Need-shape_of-out invariant-loop decreases-loop
+same_length c = c.before.loop-i.invariant.1.same
 
-returns : tie.Need-returns Inv-loop μ-loop
-unfolding rowBytes
+returns : tie.Need-returns invariant-loop decreases-loop
+unfolding row_bytes
 returns c =
-    let e : c .before .loop .i ≡ c .before .before .before .before .args .rows = omega arith in
-    rw e at (filled-lent (c .before .loop .inv .1))
+    let e : c.before.loop-i.i ≡ c.before.before.before.before.args.rows = omega arith in
+    rw e at (filled_lent c.before.loop-i.invariant.1)
 
-pub put-all-bytes-spec : {M : Type 1} → statement M
-put-all-bytes-spec =
+pub put_all_bytes_spec : {M : Type 1} → statement M
+put_all_bytes_spec =
     tie.close
     (tie.spec
-    Inv-loop
-    μ-loop
+    invariant-loop
+    decreases-loop
     loop-holds
     row-of-requires
     row-place-requires
@@ -104,5 +104,5 @@ put-all-bytes-spec =
     add-i
     loop-less
     loop-again
-    same-length
+    same_length
     returns)

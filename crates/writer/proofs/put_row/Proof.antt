@@ -1,46 +1,46 @@
 -- `writer::put_row` meets its contract.
-use mathlib.Core.Path.{sym, ap, _∙_}
+use mathlib.Core.Path.{sym, ap, ◌∙◌}
 use mathlib.Core.List.{List}
-use Prim.Native.Nat.{ℕ, _+_}
+use Prim.Native.Nat.{ℕ, ◌+◌}
 use native.Mathlib.Omega.{arith}
 use lib.ListN.{length}
 use lib.Seq.{sets, length-sets}
-use Rattle·rules.specs.TableFile.{rowWith, lastSize, lastOf}
-use Rattle·numbers.specs.Codec.{writeLow}
-use Rattle·table.specs.Rows.{inFile}
-use Rattle·writer·proofs.proofs.Calls.{row-join}
-use borrow.Author.Needs.{needs}
-use Rattle·writer·proofs.proofs.put_row.Statement.{statement}
-use Rattle·writer·proofs.proofs.put_row.Tie as tie
+use Rattle.rules.specs.TableFile.{row_with, last_size, last_of}
+use Rattle.numbers.specs.Codec.{write_low}
+use Rattle.table.specs.Rows.{in_file}
+use Rattle.writer.proofs.Calls.{row_join}
+use borrow.Author.Rules.{rules}
+use Rattle.writer.proofs.put_row.Statement.{statement}
+use Rattle.writer.proofs.put_row.Tie as tie
 
-put-bytes-requires : tie.Need-put-bytes-requires
+put-bytes-requires : tie.Need-put_bytes-requires
 put-bytes-requires c κs =
-    let p = c .before .before .pre in
-    (omega (arith, p .0), p .1, p .2)
+    let p = c.before.before.requires in
+    (omega (arith, p.0), p.1, p.2)
 
-add-put-last : tie.Need-add-put-last
-add-put-last c = search needs
+add-put-last : tie.Need-overflow_add-at
+add-put-last c = search rules
 
-put-last-requires : tie.Need-put-last-requires
+put-last-requires : tie.Need-put_last-requires
 put-last-requires c κs =
-    let z = c .before .before .before in
-    let s = z .before .before .before in
-    let a = s .args in
-    let e = ap length (z .put-bytes .ensures) ∙ length-sets (a .out .now) (a .at) (inFile 1 0 (a .row)) in
-    (omega (arith, s .pre .0, e), s .pre .3)
+    let z = c.before.before.before in
+    let s = z.before.before.before in
+    let a = s.args in
+    let e = ap length z.put_bytes.ensures ∙ length-sets a.out.now a.at (in_file 1 0 a.row) in
+    (omega (arith, s.requires.0, e), s.requires.3)
 
-same-length : tie.Need-same-length
-same-length c = search needs
+same_length : tie.Need-shape_of-out
+same_length c = search rules
 
 returns : tie.Need-returns
 returns c =
-    let z = c .before .before .before .before .before .before in
-    let a = z .before .before .before .args in
-    let k = lastSize (a .rings) (a .version) in
-    c .before .before .put-last .ensures
-    ∙ ap (λ (l : List ℕ). sets l (a .at + rowWith 0) (writeLow k (lastOf (a .rings) (a .row .way) (a .row .label)))) (z .put-bytes .ensures)
-    ∙ sym (row-join (a .rings) k (a .row) (a .out .now) (a .at))
+    let z = c.before.before.before.before.before.before in
+    let a = z.before.before.before.args in
+    let k = last_size a.rings a.version in
+    c.before.before.put_last.ensures
+    ∙ ap (λ (l : List ℕ). sets l (a.at + row_with 0) (write_low k (last_of a.rings a.row.way a.row.label))) z.put_bytes.ensures
+    ∙ sym (row_join a.rings k a.row a.out.now a.at)
 
-pub put-row-spec : {M : Type 1} → statement M
-put-row-spec =
-    tie.close (tie.spec put-bytes-requires add-put-last put-last-requires same-length returns)
+pub put_row_spec : {M : Type 1} → statement M
+put_row_spec =
+    tie.close (tie.spec put-bytes-requires add-put-last put-last-requires same_length returns)

@@ -1,23 +1,23 @@
 -- `writer::put_way` meets its contract.
 use mathlib.Core.Path.{refl}
 use native.Mathlib.Omega.{arith}
-use Rattle·numbers.specs.Codec.{writeLow}
-use borrow.Author.Needs.{needs}
-use Rattle·writer·proofs.proofs.put_way.Statement.{statement}
-use Rattle·writer·proofs.proofs.put_way.Tie as tie
+use Rattle.numbers.specs.Codec.{write_low}
+use borrow.Author.Rules.{rules}
+use Rattle.writer.proofs.put_way.Statement.{statement}
+use Rattle.writer.proofs.put_way.Tie as tie
 
-cast-out : tie.Need-cast-out
-cast-out c = search needs
+cast-out : tie.Need-overflow_cast-out
+cast-out c = search rules
 
-slice-write-out : tie.Need-slice-write-out
+slice-write-out : tie.Need-bounds-out-at
 slice-write-out c = omega arith
 
-same-length : tie.Need-same-length
-same-length c = search needs
+same_length : tie.Need-shape_of-out
+same_length c = search rules
 
 returns : tie.Need-returns
-unfolding writeLow
+unfolding write_low
 returns c = refl
 
-pub put-way-spec : {M : Type 1} → statement M
-put-way-spec = tie.close (tie.spec cast-out slice-write-out same-length returns)
+pub put_way_spec : {M : Type 1} → statement M
+put_way_spec = tie.close (tie.spec cast-out slice-write-out same_length returns)

@@ -1,53 +1,53 @@
 -- `all_less` has found less than h left of every set that it has passed.
-use borrow.Author.Needs.{needs}
+use borrow.Author.Rules.{rules}
 use mathlib.Core.Bool.{false≢true}
-use Prim.Native.Nat.{ℕ, _-_, _<_}
+use Prim.Native.Nat.{ℕ, ◌-◌, ◌<◌}
 use native.Mathlib.Omega.{arith}
-use Rattle·numbers.specs.Lists.{at}
-use Rattle·interval·proofs.proofs.Filling.{extend}
-use Rattle·interval·proofs.proofs.choice.all_less.Statement.{statement}
-use Rattle·interval·proofs.proofs.choice.all_less.Tie as tie
+use Rattle.numbers.specs.Lists.{at}
+use Rattle.interval.proofs.Filling.{extend}
+use Rattle.interval.proofs.choice.all_less.Statement.{statement}
+use Rattle.interval.proofs.choice.all_less.Tie as tie
 
-abbrev Inv-loop : tie.InvT-loop
-Inv-loop left sets h k₀ k =
+abbrev invariant-loop : tie.invariant-loop-k
+invariant-loop left sets h k₀ k =
     (q : ℕ) → q < k → at left q < h
 
-abbrev μ-loop : tie.MeasureT-loop
-μ-loop left sets h k₀ k = sets - k
+abbrev decreases-loop : tie.decreases-loop-k
+decreases-loop left sets h k₀ k = sets - k
 
-loop-holds : tie.Need-loop-holds Inv-loop μ-loop
+loop-holds : tie.Need-loop-k-init invariant-loop decreases-loop
 loop-holds c = λ q l. absurd (omega arith)
 
-mul-if1 : tie.Need-mul-if1 Inv-loop μ-loop
-mul-if1 c = search needs
+mul-if1 : tie.Need-offset_bounds-left-k invariant-loop decreases-loop
+mul-if1 c = search rules
 
-element-copy-out-if1 : tie.Need-element-copy-out-if1 Inv-loop μ-loop
-element-copy-out-if1 c = search needs
+element-copy-out-if1 : tie.Need-bounds-left-k invariant-loop decreases-loop
+element-copy-out-if1 c = search rules
 
-returns : tie.Need-returns Inv-loop μ-loop
+returns : tie.Need-returns-then-left-k invariant-loop decreases-loop
 returns c = λ q. absurd (false≢true q)
 
-add-k : tie.Need-add-k Inv-loop μ-loop
-add-k c = search needs
+add-k : tie.Need-overflow_add-k invariant-loop decreases-loop
+add-k c = search rules
 
-loop-less : tie.Need-loop-less Inv-loop μ-loop
-loop-less c = search needs
+loop-less : tie.Need-loop-k-smaller invariant-loop decreases-loop
+loop-less c = search rules
 
-loop-again : tie.Need-loop-again Inv-loop μ-loop
+loop-again : tie.Need-loop-k-preserved invariant-loop decreases-loop
 loop-again c =
-    let u = c .before .before .before .loop in
-    let z = c .before .before .before .before .args in
-    extend (λ q. at (z .left .now) q < z .h) (u .k) (u .inv) (omega (arith, c .if1 .left))
+    let u = c.loop-k in
+    let z = c.args in
+    extend (λ q. at z.left.now q < z.h) u.k u.invariant (omega (arith, c.if-left-k.false))
 
-returns-2 : tie.Need-returns-2 Inv-loop μ-loop
-returns-2 c = λ q k l. c .before .loop .inv k (omega arith)
+returns-2 : tie.Need-returns invariant-loop decreases-loop
+returns-2 c = λ q k l. c.loop-k.invariant k (omega arith)
 
-pub all-less-spec : {M : Type 1} → statement M
-all-less-spec =
+pub all_less_spec : {M : Type 1} → statement M
+all_less_spec =
     tie.close
     (tie.spec
-    Inv-loop
-    μ-loop
+    invariant-loop
+    decreases-loop
     loop-holds
     mul-if1
     element-copy-out-if1

@@ -1,126 +1,126 @@
 -- `fold_sets` folds word after word, from the first on: what it has still to read is as it was.
-use borrow.Author.Needs.{needs}
-use mathlib.Core.Path.{_≡_, ap, _∙_}
+use borrow.Author.Rules.{rules}
+use mathlib.Core.Path.{◌≡◌, ap, ◌∙◌}
 use mathlib.Core.Bool.{cond}
-use Prim.Native.Nat.{ℕ, _-_, _≤_, _<_}
+use Prim.Native.Nat.{ℕ, ◌-◌, ◌≤◌, ◌<◌}
 use native.Mathlib.Omega.{arith}
 use lib.ListN.{length-set}
-use Rattle·numbers.specs.Lists.{at}
-use Rattle·numbers.specs.Word.{bit}
-use Rattle·loads.proofs.Network.{put-set}
-use Rattle·interval·proofs.proofs.Folding.{low-le, Folding, folding-start, folding-next, folded-all, folded-none}
-use Rattle·interval·proofs.proofs.fold.fold_sets.Statement.{statement}
-use Rattle·interval·proofs.proofs.fold.fold_sets.Tie as tie
+use Rattle.numbers.specs.Lists.{at}
+use Rattle.numbers.specs.Word.{bit}
+use Rattle.loads.proofs.Network.{put_set}
+use Rattle.interval.proofs.Folding.{low_le, Folding, folding_start, folding_next, folded_all, folded_none}
+use Rattle.interval.proofs.fold.fold_sets.Statement.{statement}
+use Rattle.interval.proofs.fold.fold_sets.Tie as tie
 
-abbrev Inv-loop : tie.InvT-loop
-Inv-loop rows sets first bound words₀ upper low count k₀ words k = (k ≤ count) × Folding sets low upper words₀ k words
+abbrev invariant-loop : tie.invariant-loop-k
+invariant-loop rows sets first bound words₀ upper low count k₀ words k = (k ≤ count) × Folding sets low upper words₀ k words
 
-abbrev μ-loop : tie.MeasureT-loop
-μ-loop rows sets first bound words₀ upper low count k₀ words k = count - k
+abbrev decreases-loop : tie.decreases-loop-k
+decreases-loop rows sets first bound words₀ upper low count k₀ words k = count - k
 
-upper-rows-requires : tie.Need-upper-rows-requires Inv-loop μ-loop
-upper-rows-requires c κs = search needs
+upper-rows-requires : tie.Need-upper_rows-upper-requires invariant-loop decreases-loop
+upper-rows-requires c κs = search rules
 
-returns : tie.Need-returns Inv-loop μ-loop
+returns : tie.Need-returns-then-upper-eq0 invariant-loop decreases-loop
 returns c =
-    let u = c .before in
-    let z = u .before in
-    folded-none (z .args .rows) (z .args .bound) (z .args .sets) _ (z .args .words .now) (z .pre .2) (z .pre .1) (u .upper-rows .result)
-    (u .upper-rows .ensures) (c .if1 .taken)
+    let u = c in
+    let z = u in
+    folded_none z.args.rows z.args.bound z.args.sets _ z.args.words.now z.requires.2 z.requires.1 u.upper_rows-upper.result
+    u.upper_rows-upper.ensures c.if-upper-eq0.true
 
-low-sets-requires : tie.Need-low-sets-requires Inv-loop μ-loop
-low-sets-requires c κs = search needs
+low-sets-requires : tie.Need-low_sets-low-requires invariant-loop decreases-loop
+low-sets-requires c κs = search rules
 
 -- no more sets come before the second ring's than there are
-few-low : (c : tie.After-low-sets Inv-loop μ-loop) → c .low-sets .result ≤ c .before .before .before .before .args .sets
+few-low : (c : tie.After-low_sets-low invariant-loop decreases-loop) → c.low_sets-low.result ≤ c.args.sets
 few-low c =
-    let z = c .before .before .before .before in
+    let z = c in
     omega (
       arith,
-      c .low-sets .ensures,
-      low-le (z .args .sets) (c .before .before .before .upper-rows .result) (z .args .words .now)
-          (omega (arith, z .pre)),
+      c.low_sets-low.ensures,
+      low_le z.args.sets c.upper_rows-upper.result z.args.words.now
+          (omega (arith, z.requires)),
     )
 
-sub-larger : tie.Need-sub-larger Inv-loop μ-loop
+sub-larger : tie.Need-overflow_sub-sets invariant-loop decreases-loop
 sub-larger c = few-low c
 
-larger-requires : tie.Need-larger-requires Inv-loop μ-loop
-larger-requires c κs = search needs
+larger-requires : tie.Need-larger-count-requires invariant-loop decreases-loop
+larger-requires c κs = search rules
 
-loop-holds : tie.Need-loop-holds Inv-loop μ-loop
+loop-holds : tie.Need-loop-k-init invariant-loop decreases-loop
 loop-holds c =
-    let z = c .before .before .before .before .before in
-    (omega arith, folding-start _ _ _ (z .args .words .now) (z .pre .2) (z .pre .1))
+    let z = c in
+    (omega arith, folding_start _ _ _ z.args.words.now z.requires.2 z.requires.1)
 
 -- the word is one of the list
-within : (l : tie.In-loop Inv-loop μ-loop) → l .before .loop .k < l .before .before .before .before .before .before .before .args .sets
+within : (l : tie.In-loop-k invariant-loop decreases-loop) → l.loop-k.k < l.args.sets
 within l =
-    let g = l .before .before in
-    omega (arith, l .loop-test .taken, g .larger .ensures, few-low (g .before))
+    let g = l in
+    omega (arith, l.loop-k-test.true, g.larger-count.ensures, few-low g.before.before.before)
 
-add-set-at : tie.Need-add-set-at Inv-loop μ-loop
-add-set-at c = record { fits = omega (arith, within (c .before), few-low (c .before .before .before .before)) }
+add-set-at : tie.Need-overflow_add-low invariant-loop decreases-loop
+add-set-at c = record { fits = omega (arith, within c, few-low c.before.before.before) }
 
-set-at-requires : tie.Need-set-at-requires Inv-loop μ-loop
-set-at-requires c κs = (c .before .before .before .before .before .before .before .before .pre .1, c .before .before .loop .inv .1 .size)
+set-at-requires : tie.Need-set_at-high-requires invariant-loop decreases-loop
+set-at-requires c κs = (c.requires.1, c.loop-k.invariant.1.size)
 
 -- so it lies in the array
-low : (l : tie.In-loop Inv-loop μ-loop) → l .before .loop .k < 64
-low l = omega (arith, within l, l .before .before .before .before .before .before .before .pre .1)
+low : (l : tie.In-loop-k invariant-loop decreases-loop) → l.loop-k.k < 64
+low l = omega (arith, within l, l.requires.1)
 
-mul-merge : tie.Need-mul-merge Inv-loop μ-loop
-mul-merge c = omega (arith, low (c .before .before))
+mul-merge : tie.Need-offset_bounds-words-k invariant-loop decreases-loop
+mul-merge c = omega (arith, low c.before)
 
-element-copy-out-merge : tie.Need-element-copy-out-merge Inv-loop μ-loop
-element-copy-out-merge c = low (c .before .before)
+element-copy-out-merge : tie.Need-bounds-words-k invariant-loop decreases-loop
+element-copy-out-merge c = low c.before.before
 
-merge-requires : tie.Need-merge-requires Inv-loop μ-loop
-merge-requires c κs = search needs
+merge-requires : tie.Need-merge-requires invariant-loop decreases-loop
+merge-requires c κs = search rules
 
-mul-words : tie.Need-mul-words Inv-loop μ-loop
-mul-words c = omega (arith, low (c .before .before .before .before))
+mul_words : tie.Need-offset_bounds-words-k-in-loop-k invariant-loop decreases-loop
+mul_words c = omega (arith, low c.before.before.before.before)
 
-element-write-words : tie.Need-element-write-words Inv-loop μ-loop
-element-write-words c = low (c .before .before .before .before)
+element-write-words : tie.Need-bounds-words-k-in-loop-k invariant-loop decreases-loop
+element-write-words c = low c.before.before.before.before
 
-add-k : tie.Need-add-k Inv-loop μ-loop
-add-k c = omega (arith, low (c .before .before .before .before))
+add-k : tie.Need-overflow_add-k invariant-loop decreases-loop
+add-k c = omega (arith, low c.before.before.before.before)
 
-loop-less : tie.Need-loop-less Inv-loop μ-loop
-loop-less c = omega (arith, c .before .before .before .before .loop-test .taken)
+loop-less : tie.Need-loop-k-smaller invariant-loop decreases-loop
+loop-less c = omega (arith, c.loop-k-test.true)
 
-loop-again : tie.Need-loop-again Inv-loop μ-loop
+loop-again : tie.Need-loop-k-preserved invariant-loop decreases-loop
 loop-again c =
-    let h = c .before .before in
-    let l = h .before .before in
-    let u = l .before .loop in
-    let z = l .before .before .before .before .before .before .before in
-    let w = l .before .before .before .before .before .before .upper-rows .result in (
-      omega (arith, l .loop-test .taken),
-      folding-next _ _ _ (z .args .words .now) (z .pre .2) (z .pre .1) (u .k) (c .merge .result) (u .words) _ (u .inv .1) (within l)
-          (put-set (u .words) (u .k) (c .merge .result) (omega (arith, low l, u .inv .1 .size)))
-          (simp length-set (u .inv .1 .size))
-          (λ i. c .merge .ensures i ∙ ap (λ (v : ℕ). cond (bit w i) (bit v i) (bit (at (u .words) (u .k)) i)) (h .set-at .ensures)),
+    let h = c in
+    let l = h.before.before.before.before in
+    let u = l.loop-k in
+    let z = l in
+    let w = l.upper_rows-upper.result in (
+      omega (arith, l.loop-k-test.true),
+      folding_next _ _ _ z.args.words.now z.requires.2 z.requires.1 u.k c.merge.result u.words _ u.invariant.1 (within l)
+          (put_set u.words u.k c.merge.result (omega (arith, low l, u.invariant.1.size)))
+          (simp length-set u.invariant.1.size)
+          (λ i. c.merge.ensures i ∙ ap (λ (v : ℕ). cond (bit w i) (bit v i) (bit (at u.words u.k) i)) h.set_at-high.ensures),
     )
 
-returns-2 : tie.Need-returns-2 Inv-loop μ-loop
+returns-2 : tie.Need-returns invariant-loop decreases-loop
 returns-2 c =
-    let u = c .before .loop in
-    let g = c .before .before in
-    let f = g .before in
-    let z = f .before .before .before .before in
-    let e : u .k ≡ g .larger .result = omega (arith, u .inv .0) in
-    folded-all (z .args .rows) (z .args .bound) (z .args .sets) _ (z .args .words .now) (z .pre .2) (z .pre .1) _
-    (f .before .before .before .upper-rows .ensures) (f .low-sets .result) _ (u .words) (f .low-sets .ensures) (g .larger .ensures)
-    (rw e at (u .inv .1))
+    let u = c.loop-k in
+    let g = c in
+    let f = g in
+    let z = f in
+    let e : u.k ≡ g.larger-count.result = omega (arith, u.invariant.0) in
+    folded_all z.args.rows z.args.bound z.args.sets _ z.args.words.now z.requires.2 z.requires.1 _
+    f.upper_rows-upper.ensures f.low_sets-low.result _ u.words f.low_sets-low.ensures g.larger-count.ensures
+    (rw e at u.invariant.1)
 
-pub fold-sets-spec : {M : Type 1} → statement M
-fold-sets-spec =
+pub fold_sets_spec : {M : Type 1} → statement M
+fold_sets_spec =
     tie.close
     (tie.spec
-    Inv-loop
-    μ-loop
+    invariant-loop
+    decreases-loop
     upper-rows-requires
     returns
     low-sets-requires
@@ -132,7 +132,7 @@ fold-sets-spec =
     mul-merge
     element-copy-out-merge
     merge-requires
-    mul-words
+    mul_words
     element-write-words
     add-k
     loop-less

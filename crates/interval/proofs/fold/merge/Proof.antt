@@ -1,11 +1,11 @@
 -- `merge` toggles the rows that differ, where they are in `upper`.
-use mathlib.Core.Path.{_≡_, refl, ap, _∙_}
-use mathlib.Core.Bool.{Bool, true, false, not, _&&_, cond}
-use lib.Bits.{bitAnd, bitXor}
-use Rattle·numbers.specs.Word.{bit}
-use Rattle·numbers.proofs.Word.{bit-and, bit-xor}
-use Rattle·interval·proofs.proofs.fold.merge.Statement.{statement}
-use Rattle·interval·proofs.proofs.fold.merge.Tie as tie
+use mathlib.Core.Path.{◌≡◌, refl, ap, ◌∙◌}
+use mathlib.Core.Bool.{Bool, true, false, not, ◌&&◌, cond}
+use lib.Bits.{bit_and, bit_xor}
+use Rattle.numbers.specs.Word.{bit}
+use Rattle.numbers.proofs.Word.{bit_and_lem, bit_xor_lem}
+use Rattle.interval.proofs.fold.merge.Statement.{statement}
+use Rattle.interval.proofs.fold.merge.Tie as tie
 
 toggled : (l h u : Bool) → cond l (not (cond l (not h) h && u)) (cond l (not h) h && u) ≡ cond u h l
 toggled true true true = refl
@@ -19,11 +19,11 @@ toggled false false false = refl
 
 returns : tie.Need-returns
 returns c i =
-    let a = c .args in
-    bit-xor (a .low) (bitAnd (bitXor (a .low) (a .high)) (a .upper)) i
-    ∙ ap (λ (q : Bool). cond (bit (a .low) i) (not q) q)
-    (bit-and (bitXor (a .low) (a .high)) (a .upper) i ∙ ap (λ (p : Bool). p && bit (a .upper) i) (bit-xor (a .low) (a .high) i))
-    ∙ toggled (bit (a .low) i) (bit (a .high) i) (bit (a .upper) i)
+    let a = c.args in
+    bit_xor_lem a.low (bit_and (bit_xor a.low a.high) a.upper) i
+    ∙ ap (λ (q : Bool). cond (bit a.low i) (not q) q)
+    (bit_and_lem (bit_xor a.low a.high) a.upper i ∙ ap (λ (p : Bool). p && bit a.upper i) (bit_xor_lem a.low a.high i))
+    ∙ toggled (bit a.low i) (bit a.high i) (bit a.upper i)
 
-pub merge-spec : {M : Type 1} → statement M
-merge-spec = tie.close (tie.spec returns)
+pub merge_spec : {M : Type 1} → statement M
+merge_spec = tie.close (tie.spec returns)

@@ -1,29 +1,29 @@
 -- `set_at` reads within the list, and there is no set past its end.
-use borrow.Author.Needs.{needs}
+use borrow.Author.Rules.{rules}
 use mathlib.Core.Path.{sym}
 use native.Mathlib.Omega.{arith}
 use lib.ListN.{take}
-use lib.Seq.{getD-take}
-use Rattle·table.proofs.ByRow.{past-end}
-use Rattle·interval·proofs.proofs.Folding.{front-length}
-use Rattle·interval·proofs.proofs.fold.set_at.Statement.{statement}
-use Rattle·interval·proofs.proofs.fold.set_at.Tie as tie
+use lib.Seq.{get_or-take}
+use Rattle.table.proofs.ByRow.{past_end}
+use Rattle.interval.proofs.Folding.{front_length}
+use Rattle.interval.proofs.fold.set_at.Statement.{statement}
+use Rattle.interval.proofs.fold.set_at.Tie as tie
 
-mul-result : tie.Need-mul-result
-mul-result c = search needs
+mul-result : tie.Need-offset_bounds-words-k
+mul-result c = search rules
 
-element-copy-out-result : tie.Need-element-copy-out-result
-element-copy-out-result c = search needs
+element-copy-out-result : tie.Need-bounds-words-k
+element-copy-out-result c = search rules
 
-returns : tie.Need-returns
-returns c = let a = c .before .before .args in sym (getD-take (a .sets) (a .words .now) (a .k) 0 (c .before .if1 .taken))
+returns : tie.Need-returns-then-k-sets
+returns c = let a = c.args in sym (get_or-take a.sets a.words.now a.k 0 c.if-k-sets.true)
 
-returns-2 : tie.Need-returns-2
+returns-2 : tie.Need-returns
 returns-2 c =
-    let z = c .before in
-    let a = z .args in
-    sym (past-end (take (a .sets) (a .words .now)) (a .k)
-    (omega (arith, front-length (a .sets) (a .words .now) (omega (arith, z .pre)), c .if1 .left)))
+    let z = c in
+    let a = z.args in
+    sym (past_end (take a.sets a.words.now) a.k
+    (omega (arith, front_length a.sets a.words.now (omega (arith, z.requires)), c.if-k-sets.false)))
 
-pub set-at-spec : {M : Type 1} → statement M
-set-at-spec = tie.close (tie.spec mul-result element-copy-out-result returns returns-2)
+pub set_at_spec : {M : Type 1} → statement M
+set_at_spec = tie.close (tie.spec mul-result element-copy-out-result returns returns-2)

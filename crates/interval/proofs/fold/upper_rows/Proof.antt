@@ -1,58 +1,58 @@
 -- `upper_rows` has the word of the rows that it has passed.
-use borrow.Author.Needs.{needs}
-use mathlib.Core.Path.{_≡_, sym, ap}
-use Prim.Native.Nat.{_-_, _≤_}
+use borrow.Author.Rules.{rules}
+use mathlib.Core.Path.{◌≡◌, sym, ap}
+use Prim.Native.Nat.{◌-◌, ◌≤◌}
 use native.Mathlib.Omega.{arith}
 use lib.Dec.{ltb}
-use Rattle·numbers.specs.Lists.{at}
-use Rattle·numbers.specs.Word.{word}
-use Rattle·loads.proofs.Comparing.{word-zero, word-more}
-use Rattle·interval·proofs.proofs.fold.upper_rows.Statement.{statement}
-use Rattle·interval·proofs.proofs.fold.upper_rows.Tie as tie
+use Rattle.numbers.specs.Lists.{at}
+use Rattle.numbers.specs.Word.{word}
+use Rattle.loads.proofs.Comparing.{word_zero, word_more}
+use Rattle.interval.proofs.fold.upper_rows.Statement.{statement}
+use Rattle.interval.proofs.fold.upper_rows.Tie as tie
 
-abbrev Inv-loop : tie.InvT-loop
-Inv-loop rows first bound upper₀ i₀ upper i = (i ≤ rows) × (upper ≡ word i (λ j. ltb bound (at first j)))
+abbrev invariant-loop : tie.invariant-loop-i
+invariant-loop rows first bound upper₀ i₀ upper i = (i ≤ rows) × (upper ≡ word i (λ j. ltb bound (at first j)))
 
-abbrev μ-loop : tie.MeasureT-loop
-μ-loop rows first bound upper₀ i₀ upper i = rows - i
+abbrev decreases-loop : tie.decreases-loop-i
+decreases-loop rows first bound upper₀ i₀ upper i = rows - i
 
-loop-holds : tie.Need-loop-holds Inv-loop μ-loop
-loop-holds c = (omega arith, word-zero _)
+loop-holds : tie.Need-loop-i-init invariant-loop decreases-loop
+loop-holds c = (omega arith, word_zero _)
 
-end-at-requires : tie.Need-end-at-requires Inv-loop μ-loop
-end-at-requires c κs = search needs
+end-at-requires : tie.Need-end_at-requires invariant-loop decreases-loop
+end-at-requires c κs = search rules
 
-mark-requires : tie.Need-mark-requires Inv-loop μ-loop
-mark-requires c κs = search needs
+mark-requires : tie.Need-mark-upper-requires invariant-loop decreases-loop
+mark-requires c κs = search rules
 
-add-i : tie.Need-add-i Inv-loop μ-loop
-add-i c = search needs
+add-i : tie.Need-overflow_add-i invariant-loop decreases-loop
+add-i c = search rules
 
-loop-less : tie.Need-loop-less Inv-loop μ-loop
-loop-less c = search needs
+loop-less : tie.Need-loop-i-smaller invariant-loop decreases-loop
+loop-less c = search rules
 
-loop-again : tie.Need-loop-again Inv-loop μ-loop
+loop-again : tie.Need-loop-i-preserved invariant-loop decreases-loop
 loop-again c =
-    let e = c .before in
-    let l = e .before in
-    let u = l .before .loop in (
-      omega (arith, l .loop-test .taken),
-      word-more (u .i) (u .upper) _ _ _ (u .inv .1) (c .mark .ensures)
-          (ap (ltb (l .before .before .args .bound)) (sym (e .end-at .ensures))),
+    let e = c in
+    let l = e in
+    let u = l.loop-i in (
+      omega (arith, l.loop-i-test.true),
+      word_more u.i u.upper _ _ _ u.invariant.1 c.mark-upper.ensures
+          (ap (ltb l.args.bound) (sym e.end_at.ensures)),
     )
 
-returns : tie.Need-returns Inv-loop μ-loop
+returns : tie.Need-returns invariant-loop decreases-loop
 returns c =
-    let u = c .before .loop in
-    let q : u .i ≡ c .before .before .args .rows = omega (arith, u .inv .0) in
-    rw q at (u .inv .1)
+    let u = c.loop-i in
+    let q : u.i ≡ c.args.rows = omega (arith, u.invariant.0) in
+    rw q at u.invariant.1
 
-pub upper-rows-spec : {M : Type 1} → statement M
-upper-rows-spec =
+pub upper_rows_spec : {M : Type 1} → statement M
+upper_rows_spec =
     tie.close
     (tie.spec
-    Inv-loop
-    μ-loop
+    invariant-loop
+    decreases-loop
     loop-holds
     end-at-requires
     mark-requires

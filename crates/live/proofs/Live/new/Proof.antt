@@ -1,42 +1,42 @@
 -- `Live::new` meets its contract.
 use native.Mathlib.Omega.{arith}
-use borrow.Author.Needs.{needs}
-use Rattle·live·proofs.proofs.Answering.{answer-done, new-refused, new-done}
-use Rattle·live·proofs.proofs.Live.new.Statement.{statement}
-use Rattle·live·proofs.proofs.Live.new.Tie as tie
+use borrow.Author.Rules.{rules}
+use Rattle.live.proofs.Answering.{answer_done, new_refused, new_done}
+use Rattle.live.proofs.Live.new.Statement.{statement}
+use Rattle.live.proofs.Live.new.Tie as tie
 
 blank-requires : tie.Need-blank-requires
-blank-requires c κs = search needs
+blank-requires c κs = search rules
 
 refused-requires : tie.Need-refused-requires
-refused-requires c κs = search needs
+refused-requires c κs = search rules
 
-returns : tie.Need-returns
-returns c = rw (c .refused .ensures, c .before .blank .ensures) (new-refused _ (λ l h. omega (arith, l, c .before .before .if1 .taken)))
+returns : tie.Need-returns-then-elements-lt2
+returns c = rw (c.refused.ensures, c.blank.ensures) (new_refused _ (λ l h. omega (arith, l, c.if-elements-lt2.true)))
 
-blank-requires-2 : tie.Need-blank-requires-2
-blank-requires-2 c κs = search needs
+blank-requires-2 : tie.Need-blank-requires-then-elements-gt-ELEMENTS
+blank-requires-2 c κs = search rules
 
-refused-requires-2 : tie.Need-refused-requires-2
-refused-requires-2 c κs = search needs
+refused-requires-2 : tie.Need-refused-requires-then-elements-gt-ELEMENTS
+refused-requires-2 c κs = search rules
 
-returns-2 : tie.Need-returns-2
-returns-2 c = rw (c .refused2 .ensures, c .before .blank2 .ensures) (new-refused _ (λ l h. omega (arith, h, c .before .before .if2 .taken)))
+returns-2 : tie.Need-returns-then-elements-gt-ELEMENTS
+returns-2 c = rw (c.refused-then-elements-gt-ELEMENTS.ensures, c.blank-then-elements-gt-ELEMENTS.ensures) (new_refused _ (λ l h. omega (arith, h, c.if-elements-gt-ELEMENTS.true)))
 
 done-requires : tie.Need-done-requires
-done-requires c κs = search needs
+done-requires c κs = search rules
 
-blank-requires-3 : tie.Need-blank-requires-3
-blank-requires-3 c κs = search needs
+blank-requires-3 : tie.Need-blank-requires-2
+blank-requires-3 c κs = search rules
 
-returns-3 : tie.Need-returns-3
+returns-3 : tie.Need-returns
 returns-3 c =
-    let b = c .before .before in
-    rw (answer-done _ (c .before .done .ensures), c .blank3 .ensures)
-    (new-done _ (omega (arith, b .before .if1 .left)) (omega (arith, b .if2 .left)))
+    let b = c in
+    rw (answer_done _ c.done.ensures, c.blank-2.ensures)
+    (new_done _ (omega (arith, b.if-elements-lt2.false)) (omega (arith, b.if-elements-gt-ELEMENTS.false)))
 
-pub new-spec : {M : Type 1} → statement M
-new-spec =
+pub new_spec : {M : Type 1} → statement M
+new_spec =
     tie.close
     (tie.spec
     blank-requires

@@ -1,62 +1,62 @@
 -- `files::write_file` meets its contract.
 use mathlib.Core.Path.{sym}
 use native.Mathlib.Omega.{arith}
-use borrow.Author.Needs.{needs}
-use Rattle·numbers.proofs.Truth.{denied, granted}
-use Rattle·rules.specs.TableFile.{numbers}
-use Rattle·live·specs.specs.State.{liveOf}
-use Rattle·live·proofs.proofs.Present.{present-few, present-length, present-numbers, file-off, file-written}
-use Rattle·live·proofs.proofs.files.write_file.Statement.{statement}
-use Rattle·live·proofs.proofs.files.write_file.Tie as tie
+use borrow.Author.Rules.{rules}
+use Rattle.numbers.proofs.Truth.{denied, granted}
+use Rattle.rules.specs.TableFile.{numbers}
+use Rattle.live.specs.State.{live_of}
+use Rattle.live.proofs.Present.{present_few, present_length, present_numbers, file_off, file_written}
+use Rattle.live.proofs.files.write_file.Statement.{statement}
+use Rattle.live.proofs.files.write_file.Tie as tie
 
-is-in-order-requires : tie.Need-is-in-order-requires
-is-in-order-requires c κs = search needs
+is-in-order-requires : tie.Need-is_in_order-requires
+is-in-order-requires c κs = search rules
 
 at-requires : tie.Need-at-requires
-at-requires c κs = search needs
+at-requires c κs = search rules
 
-returns : tie.Need-returns
+returns : tie.Need-returns-then-not-is_in_order
 returns c =
-    let i = c .before .before in
-    let z = i .before .before .args in
-    rw (c .at .ensures .0, c .at .ensures .1)
-    (file-off (z .version) (liveOf (z .t1)) (z .out .now) (denied (i .is-in-order .ensures) (c .before .if1 .taken)))
+    let i = c in
+    let z = i.args in
+    rw (c.at.ensures.0, c.at.ensures.1)
+    (file_off z.version (live_of z.live) z.out.now (denied i.is_in_order.ensures c.if-not-is_in_order.true))
 
-slice-aggregate-put-present : tie.Need-slice-aggregate-put-present
-slice-aggregate-put-present c = search needs
+slice-aggregate-put-present : tie.Need-slice_bounds-put_present-end
+slice-aggregate-put-present c = search rules
 
-put-present-requires : tie.Need-put-present-requires
-put-present-requires c κs = search needs
+put-present-requires : tie.Need-put_present-rows-requires
+put-present-requires c κs = search rules
 
-mul-size : tie.Need-mul-size
-mul-size c = omega (arith, present-few (c .before .put-present .ensures))
+mul-size : tie.Need-overflow_mul-size
+mul-size c = omega (arith, present_few c.put_present-rows.ensures)
 
-array-share-prefix-numbers : tie.Need-array-share-prefix-numbers
-array-share-prefix-numbers c = omega (arith, present-few (c .before .put-present .ensures))
+array-share-prefix-numbers : tie.Need-slice_bounds-numbers-end
+array-share-prefix-numbers c = omega (arith, present_few c.put_present-rows.ensures)
 
-slice-aggregate-write-plain : tie.Need-slice-aggregate-write-plain
-slice-aggregate-write-plain c = sym (present-length (c .before .before .put-present .ensures))
+slice-aggregate-write-plain : tie.Need-slice_bounds-write_plain-end
+slice-aggregate-write-plain c = sym (present_length c.put_present-rows.ensures)
 
-write-plain-requires : tie.Need-write-plain-requires
-write-plain-requires c κs = search needs
+write-plain-requires : tie.Need-write_plain-requires
+write-plain-requires c κs = search rules
 
-same-length : tie.Need-same-length
-same-length c = search needs
+same_length : tie.Need-shape_of-out
+same_length c = search rules
 
-returns-2 : tie.Need-returns-2
+returns-2 : tie.Need-returns
 unfolding numbers
 returns-2 c =
-    let w = c .before .before in
-    let p = w .before .before .before .before in
-    let e = p .before .before .before .before .before .before .before .before in
-    let i = e .before in
-    let z = i .before .before .args in
-    file-written (z .version) (liveOf (z .t1)) (z .out .now) (p .put-present .result) _ _ _ _
-    (granted (i .is-in-order .ensures) (e .if1 .left)) (p .put-present .ensures .rows) (present-numbers (p .put-present .ensures))
-    (w .write-plain .ensures)
+    let w = c in
+    let p = w in
+    let e = p in
+    let i = e in
+    let z = i.args in
+    file_written z.version (live_of z.live) z.out.now p.put_present-rows.result _ _ _ _
+    (granted i.is_in_order.ensures e.if-not-is_in_order.false) p.put_present-rows.ensures.rows (present_numbers p.put_present-rows.ensures)
+    w.write_plain.ensures
 
-pub write-file-spec : {M : Type 1} → statement M
-write-file-spec =
+pub write_file_spec : {M : Type 1} → statement M
+write_file_spec =
     tie.close
     (tie.spec
     is-in-order-requires
@@ -68,5 +68,5 @@ write-file-spec =
     array-share-prefix-numbers
     slice-aggregate-write-plain
     write-plain-requires
-    same-length
+    same_length
     returns-2)

@@ -1,40 +1,40 @@
 -- `seats::are_seated` meets its contract.
 use native.Mathlib.Omega.{arith}
-use borrow.Author.Needs.{needs}
-use Rattle·numbers.proofs.Truth.{denied, granted, decides-no}
-use Rattle·live·proofs.proofs.seats.are_seated.Statement.{statement}
-use Rattle·live·proofs.proofs.seats.are_seated.Tie as tie
+use borrow.Author.Rules.{rules}
+use Rattle.numbers.proofs.Truth.{denied, granted, decides_no}
+use Rattle.live.proofs.seats.are_seated.Statement.{statement}
+use Rattle.live.proofs.seats.are_seated.Tie as tie
 
-returns : tie.Need-returns
-returns c = decides-no (λ S. omega (arith, c .if1 .taken, S .low))
+returns : tie.Need-returns-then-elements-lt2
+returns c = decides_no (λ S. omega (arith, c.if-elements-lt2.true, S.low))
 
-returns-2 : tie.Need-returns-2
-returns-2 c = decides-no (λ S. omega (arith, c .if2 .taken, S .high))
+returns-2 : tie.Need-returns-then-elements-gt-ELEMENTS
+returns-2 c = decides_no (λ S. omega (arith, c.if-elements-gt-ELEMENTS.true, S.high))
 
-are-seats-requires : tie.Need-are-seats-requires
-are-seats-requires c κs = search needs
+are-seats-requires : tie.Need-are_seats-requires
+are-seats-requires c κs = search rules
 
-returns-3 : tie.Need-returns-3
-returns-3 c = decides-no (λ S. denied (c .before .are-seats .ensures) (c .if3 .taken) (S .place))
+returns-3 : tie.Need-returns-then-not-are_seats
+returns-3 c = decides_no (λ S. denied c.are_seats.ensures c.if-not-are_seats.true S.place)
 
-are-single-requires : tie.Need-are-single-requires
-are-single-requires c κs = search needs
+are-single-requires : tie.Need-are_single-requires
+are-single-requires c κs = search rules
 
-returns-4 : tie.Need-returns-4
+returns-4 : tie.Need-returns
 returns-4 c =
-    let p = c .before in
-    let e = p .before .before in
-    let z = e .before .before .args in
-    let D = c .are-single .ensures (z .elements) in
+    let p = c in
+    let e = p in
+    let z = e.args in
+    let D = c.are_single.ensures z.elements in
     record {
       holds = λ t. record {
-        low = omega (arith, e .before .if1 .left);
-        high = omega (arith, e .if2 .left);
-        place = granted (p .before .are-seats .ensures) (p .if3 .left);
-        single = D .holds t;
+        low = omega (arith, e.if-elements-lt2.false);
+        high = omega (arith, e.if-elements-gt-ELEMENTS.false);
+        place = granted p.are_seats.ensures p.if-not-are_seats.false;
+        single = D.holds t;
       };
-      fails = λ f S. D .fails f (S .single);
+      fails = λ f S. D.fails f S.single;
     }
 
-pub are-seated-spec : {M : Type 1} → statement M
-are-seated-spec = tie.close (tie.spec returns returns-2 are-seats-requires returns-3 are-single-requires returns-4)
+pub are_seated_spec : {M : Type 1} → statement M
+are_seated_spec = tie.close (tie.spec returns returns-2 are-seats-requires returns-3 are-single-requires returns-4)

@@ -1,71 +1,71 @@
 -- `seats::are_seats` meets its contract: place after place is right.
-use Prim.Native.Nat.{_-_}
+use Prim.Native.Nat.{◌-◌}
 use native.Mathlib.Omega.{arith}
-use borrow.Author.Needs.{needs}
-use Rattle·numbers.proofs.Truth.{denied, granted}
-use Rattle·numbers.specs.Lists.{at}
-use Rattle·rules.specs.Bounds.{max-rows}
-use Rattle·live·specs.specs.Tally.{columnLive}
-use Rattle·live·proofs.proofs.Sums.{place-row}
-use Rattle·live·specs.specs.Seats.{Seat}
-use Rattle·live·proofs.proofs.Seated.{Upto, upto-start, upto-next, upto-end, upto-stop, seat-of, of-seat}
-use Rattle·live·proofs.proofs.seats.are_seats.Statement.{statement}
-use Rattle·live·proofs.proofs.seats.are_seats.Tie as tie
+use borrow.Author.Rules.{rules}
+use Rattle.numbers.proofs.Truth.{denied, granted}
+use Rattle.numbers.specs.Lists.{at}
+use Rattle.rules.specs.Bounds.{max_rows}
+use Rattle.live.specs.Tally.{column_live}
+use Rattle.live.proofs.Sums.{place_row}
+use Rattle.live.specs.Seats.{Seat}
+use Rattle.live.proofs.Seated.{Upto, upto_start, upto_next, upto_end, upto_stop, seat_of, of_seat}
+use Rattle.live.proofs.seats.are_seats.Statement.{statement}
+use Rattle.live.proofs.seats.are_seats.Tie as tie
 
-abbrev Inv-loop : tie.InvT-loop
-Inv-loop elements cost period first second label i₀ i = Upto max-rows (Seat (columnLive elements cost period first second label)) i
+abbrev invariant-loop : tie.invariant-loop-i
+invariant-loop elements cost period first second label i₀ i = Upto max_rows (Seat (column_live elements cost period first second label)) i
 
-abbrev μ-loop : tie.MeasureT-loop
-μ-loop elements cost period first second label i₀ i = max-rows - i
+abbrev decreases-loop : tie.decreases-loop-i
+decreases-loop elements cost period first second label i₀ i = max_rows - i
 
-loop-holds : tie.Need-loop-holds Inv-loop μ-loop
-loop-holds c = upto-start
+loop-holds : tie.Need-loop-i-init invariant-loop decreases-loop
+loop-holds c = upto_start
 
-mul-row-at : tie.Need-mul-row-at Inv-loop μ-loop
-mul-row-at c = search needs
+mul-row-at : tie.Need-offset_bounds-label-i invariant-loop decreases-loop
+mul-row-at c = search rules
 
-element-copy-out-row-at : tie.Need-element-copy-out-row-at Inv-loop μ-loop
+element-copy-out-row-at : tie.Need-bounds-label-i invariant-loop decreases-loop
 element-copy-out-row-at c = omega arith
 
-row-at-requires : tie.Need-row-at-requires Inv-loop μ-loop
-row-at-requires c κs = search needs
+row-at-requires : tie.Need-row_at-requires invariant-loop decreases-loop
+row-at-requires c κs = search rules
 
-is-seat-requires : tie.Need-is-seat-requires Inv-loop μ-loop
-is-seat-requires c κs = search needs
+is-seat-requires : tie.Need-is_seat-requires invariant-loop decreases-loop
+is-seat-requires c κs = search rules
 
-returns : tie.Need-returns Inv-loop μ-loop
+returns : tie.Need-returns-then-not-is_seat invariant-loop decreases-loop
 returns c =
-    let s = c .before in
-    let r = s .before in
-    let u = r .before .before .before in
-    upto-stop (u .loop .i) (omega arith)
-    (λ q. denied (s .is-seat .ensures) (c .if1 .taken)
-    (of-seat (place-row (u .before .args .elements) (at (u .before .args .label .now)) (r .row-at .ensures)) q))
+    let s = c in
+    let r = s in
+    let u = r in
+    upto_stop u.loop-i.i (omega arith)
+    (λ q. denied s.is_seat.ensures c.if-not-is_seat.true
+    (of_seat (place_row u.args.elements (at u.args.label.now) r.row_at.ensures) q))
 
-add-i : tie.Need-add-i Inv-loop μ-loop
-add-i c = search needs
+add-i : tie.Need-overflow_add-i invariant-loop decreases-loop
+add-i c = search rules
 
-loop-less : tie.Need-loop-less Inv-loop μ-loop
-loop-less c = search needs
+loop-less : tie.Need-loop-i-smaller invariant-loop decreases-loop
+loop-less c = search rules
 
-loop-again : tie.Need-loop-again Inv-loop μ-loop
+loop-again : tie.Need-loop-i-preserved invariant-loop decreases-loop
 loop-again c =
-    let s = c .before in
-    let r = s .before in
-    let u = r .before .before .before in
-    upto-next (u .loop .inv) (omega arith)
-    (seat-of (place-row (u .before .args .elements) (at (u .before .args .label .now)) (r .row-at .ensures))
-    (granted (s .is-seat .ensures) (c .if1 .left)))
+    let s = c in
+    let r = s in
+    let u = r in
+    upto_next u.loop-i.invariant (omega arith)
+    (seat_of (place_row u.args.elements (at u.args.label.now) r.row_at.ensures)
+    (granted s.is_seat.ensures c.if-not-is_seat.false))
 
-returns-2 : tie.Need-returns-2 Inv-loop μ-loop
-returns-2 c = upto-end (c .before .loop .inv) (omega arith)
+returns-2 : tie.Need-returns invariant-loop decreases-loop
+returns-2 c = upto_end c.loop-i.invariant (omega arith)
 
-pub are-seats-spec : {M : Type 1} → statement M
-are-seats-spec =
+pub are_seats_spec : {M : Type 1} → statement M
+are_seats_spec =
     tie.close
     (tie.spec
-    Inv-loop
-    μ-loop
+    invariant-loop
+    decreases-loop
     loop-holds
     mul-row-at
     element-copy-out-row-at

@@ -1,55 +1,55 @@
 -- `seats::has_row` meets its contract: place after place has another row.
-use mathlib.Core.Path.{sym, _∙_}
-use Prim.Native.Nat.{_-_}
+use mathlib.Core.Path.{sym, ◌∙◌}
+use Prim.Native.Nat.{◌-◌}
 use native.Mathlib.Omega.{arith}
-use borrow.Author.Needs.{needs}
-use Rattle·numbers.specs.Lists.{at}
-use Rattle·numbers.proofs.Truth.{is-true, of-true}
-use Rattle·numbers.proofs.Finite.{any-of, any-none, Sought, sought-start, sought-next}
-use Rattle·live·specs.specs.Seats.{equal}
-use Rattle·live·proofs.proofs.seats.has_row.Statement.{statement}
-use Rattle·live·proofs.proofs.seats.has_row.Tie as tie
+use borrow.Author.Rules.{rules}
+use Rattle.numbers.specs.Lists.{at}
+use Rattle.numbers.proofs.Truth.{is_true, of_true}
+use Rattle.numbers.proofs.Finite.{any_of, any_none, Sought, sought_start, sought_next}
+use Rattle.live.specs.Seats.{equal}
+use Rattle.live.proofs.seats.has_row.Statement.{statement}
+use Rattle.live.proofs.seats.has_row.Tie as tie
 
-abbrev Inv-loop : tie.InvT-loop
-Inv-loop count period first second row j₀ j = Sought count (equal (at period) (at first) (at second) row) j
+abbrev invariant-loop : tie.invariant-loop-j
+invariant-loop count period first second row j₀ j = Sought count (equal (at period) (at first) (at second) row) j
 
-abbrev μ-loop : tie.MeasureT-loop
-μ-loop count period first second row j₀ j = count - j
+abbrev decreases-loop : tie.decreases-loop-j
+decreases-loop count period first second row j₀ j = count - j
 
-loop-holds : tie.Need-loop-holds Inv-loop μ-loop
-loop-holds c = sought-start
+loop-holds : tie.Need-loop-j-init invariant-loop decreases-loop
+loop-holds c = sought_start
 
-is-equal-requires : tie.Need-is-equal-requires Inv-loop μ-loop
-is-equal-requires c κs = search needs
+is-equal-requires : tie.Need-is_equal-requires invariant-loop decreases-loop
+is-equal-requires c κs = search rules
 
-returns : tie.Need-returns Inv-loop μ-loop
+returns : tie.Need-returns-then-is_equal invariant-loop decreases-loop
 returns c =
-    let d = c .before in
-    let u = d .before .before in
-    sym (is-true _ (any-of (u .before .args .count) _ (u .loop .j) (omega arith) (of-true (sym (d .is-equal .ensures) ∙ c .if1 .taken))))
+    let d = c in
+    let u = d in
+    sym (is_true _ (any_of u.args.count _ u.loop-j.j (omega arith) (of_true (sym d.is_equal.ensures ∙ c.if-is_equal.true))))
 
-add-j : tie.Need-add-j Inv-loop μ-loop
-add-j c = search needs
+add-j : tie.Need-overflow_add-j invariant-loop decreases-loop
+add-j c = search rules
 
-loop-less : tie.Need-loop-less Inv-loop μ-loop
-loop-less c = search needs
+loop-less : tie.Need-loop-j-smaller invariant-loop decreases-loop
+loop-less c = search rules
 
-loop-again : tie.Need-loop-again Inv-loop μ-loop
+loop-again : tie.Need-loop-j-preserved invariant-loop decreases-loop
 loop-again c =
-    let d = c .before in
-    sought-next (d .before .before .loop .inv) (omega arith) (sym (d .is-equal .ensures) ∙ c .if1 .left)
+    let d = c in
+    sought_next d.loop-j.invariant (omega arith) (sym d.is_equal.ensures ∙ c.if-is_equal.false)
 
-returns-2 : tie.Need-returns-2 Inv-loop μ-loop
+returns-2 : tie.Need-returns invariant-loop decreases-loop
 returns-2 c =
-    let u = c .before in
-    sym (any-none (u .before .args .count) _ (λ j l. u .loop .inv .none j (omega arith)))
+    let u = c in
+    sym (any_none u.args.count _ (λ j l. u.loop-j.invariant.none j (omega arith)))
 
-pub has-row-spec : {M : Type 1} → statement M
-has-row-spec =
+pub has_row_spec : {M : Type 1} → statement M
+has_row_spec =
     tie.close
     (tie.spec
-    Inv-loop
-    μ-loop
+    invariant-loop
+    decreases-loop
     loop-holds
     is-equal-requires
     returns

@@ -1,58 +1,58 @@
 -- `seats::is_equal` meets its contract.
-use mathlib.Core.Path.{sym, ap, _∙_}
+use mathlib.Core.Path.{sym, ap, ◌∙◌}
 use Prim.Native.Nat.{ℕ}
-use borrow.Author.Needs.{needs}
+use borrow.Author.Rules.{rules}
 use lib.Dec.{eqb}
-use Rattle·numbers.specs.Lists.{at}
-use Rattle·live·proofs.proofs.Seated.{first-differs, second-differs, third-decides}
-use Rattle·live·proofs.proofs.seats.is_equal.Statement.{statement}
-use Rattle·live·proofs.proofs.seats.is_equal.Tie as tie
+use Rattle.numbers.specs.Lists.{at}
+use Rattle.live.proofs.Seated.{first_differs, second_differs, third_decides}
+use Rattle.live.proofs.seats.is_equal.Statement.{statement}
+use Rattle.live.proofs.seats.is_equal.Tie as tie
 
-end-at-requires : tie.Need-end-at-requires
-end-at-requires c κs = search needs
+end-at-requires : tie.Need-end_at-requires
+end-at-requires c κs = search rules
 
-cast-if1 : tie.Need-cast-if1
-cast-if1 c = search needs
+cast-if1 : tie.Need-overflow_cast-row
+cast-if1 c = search rules
 
-returns : tie.Need-returns
+returns : tie.Need-returns-then-end_at-row
 returns c =
-    let d = c .before .before in
-    let z = d .before .args in
-    first-differs (at (z .first .now) (z .j)) (at (z .second .now) (z .j)) (at (z .period .now) (z .j)) (z .row .first) (z .row .second)
-    (z .row .period) (λ e. c .if1 .taken (d .end-at .ensures ∙ e))
+    let d = c in
+    let z = d.args in
+    first_differs (at z.first.now z.j) (at z.second.now z.j) (at z.period.now z.j) z.row.first z.row.second
+    z.row.period (λ e. c.if-end_at-row.true (d.end_at.ensures ∙ e))
 
-end-at-requires-2 : tie.Need-end-at-requires-2
-end-at-requires-2 c κs = search needs
+end-at-requires-2 : tie.Need-end_at-requires-2
+end-at-requires-2 c κs = search rules
 
-cast-if2 : tie.Need-cast-if2
-cast-if2 c = search needs
+cast-if2 : tie.Need-overflow_cast-row-2
+cast-if2 c = search rules
 
-returns-2 : tie.Need-returns-2
+returns-2 : tie.Need-returns-then-end_at-row-2
 returns-2 c =
-    let s = c .before .before in
-    let d = s .before .before .before in
-    let z = d .before .args in
-    second-differs (at (z .first .now) (z .j)) (at (z .second .now) (z .j)) (at (z .period .now) (z .j)) (z .row .first) (z .row .second)
-    (z .row .period) (sym (d .end-at .ensures) ∙ s .before .if1 .left) (λ e. c .if2 .taken (s .end-at2 .ensures ∙ e))
+    let s = c in
+    let d = s in
+    let z = d.args in
+    second_differs (at z.first.now z.j) (at z.second.now z.j) (at z.period.now z.j) z.row.first z.row.second
+    z.row.period (sym d.end_at.ensures ∙ s.if-end_at-row.false) (λ e. c.if-end_at-row-2.true (s.end_at-2.ensures ∙ e))
 
-slots-at-requires : tie.Need-slots-at-requires
-slots-at-requires c κs = search needs
+slots-at-requires : tie.Need-slots_at-requires
+slots-at-requires c κs = search rules
 
-cast-result : tie.Need-cast-result
-cast-result c = search needs
+cast-result : tie.Need-overflow_cast-result
+cast-result c = search rules
 
-returns-3 : tie.Need-returns-3
+returns-3 : tie.Need-returns
 returns-3 c =
-    let e = c .before .before in
-    let s = e .before .before in
-    let d = s .before .before .before in
-    let z = d .before .args in
-    ap (λ (p : ℕ). eqb p (z .row .period)) (c .before .slots-at .ensures)
-    ∙ third-decides (at (z .first .now) (z .j)) (at (z .second .now) (z .j)) (at (z .period .now) (z .j)) (z .row .first) (z .row .second)
-    (z .row .period) (sym (d .end-at .ensures) ∙ s .before .if1 .left) (sym (s .end-at2 .ensures) ∙ e .if2 .left)
+    let e = c in
+    let s = e in
+    let d = s in
+    let z = d.args in
+    ap (λ (p : ℕ). eqb p z.row.period) c.slots_at.ensures
+    ∙ third_decides (at z.first.now z.j) (at z.second.now z.j) (at z.period.now z.j) z.row.first z.row.second
+    z.row.period (sym d.end_at.ensures ∙ s.if-end_at-row.false) (sym s.end_at-2.ensures ∙ e.if-end_at-row-2.false)
 
-pub is-equal-spec : {M : Type 1} → statement M
-is-equal-spec =
+pub is_equal_spec : {M : Type 1} → statement M
+is_equal_spec =
     tie.close
     (tie.spec
     end-at-requires

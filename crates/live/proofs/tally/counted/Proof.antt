@@ -1,62 +1,62 @@
 -- `tally::counted` meets its contract.
-use mathlib.Core.Path.{_≡_}
-use Prim.Native.Nat.{_-_, _≤_, max}
+use mathlib.Core.Path.{◌≡◌}
+use Prim.Native.Nat.{◌-◌, ◌≤◌, max}
 use native.Mathlib.Omega.{arith}
-use borrow.Author.Needs.{needs}
-use Rattle·numbers.specs.Lists.{at}
-use Rattle·rules.specs.Bounds.{max-rows}
-use Rattle·table.specs.Columns.{ByRow}
-use Rattle·table.proofs.ByRow.{by-row-start, by-row-put}
-use Rattle·live·proofs.proofs.tally.counted.Statement.{statement}
-use Rattle·live·proofs.proofs.tally.counted.Tie as tie
+use borrow.Author.Rules.{rules}
+use Rattle.numbers.specs.Lists.{at}
+use Rattle.rules.specs.Bounds.{max_rows}
+use Rattle.table.specs.Columns.{ByRow}
+use Rattle.table.proofs.ByRow.{by_row_start, by_row_put}
+use Rattle.live.proofs.tally.counted.Statement.{statement}
+use Rattle.live.proofs.tally.counted.Tie as tie
 
-abbrev Inv-loop : tie.InvT-loop
-Inv-loop period all₀ i₀ all i = (i ≤ max-rows) × ByRow i (λ j. max 1 (at period j)) all
+abbrev invariant-loop : tie.invariant-loop-i
+invariant-loop period all₀ i₀ all i = (i ≤ max_rows) × ByRow i (λ j. max 1 (at period j)) all
 
-abbrev μ-loop : tie.MeasureT-loop
-μ-loop period all₀ i₀ all i = max-rows - i
+abbrev decreases-loop : tie.decreases-loop-i
+decreases-loop period all₀ i₀ all i = max_rows - i
 
-loop-holds : tie.Need-loop-holds Inv-loop μ-loop
-loop-holds c = (omega arith, by-row-start _)
+loop-holds : tie.Need-loop-i-init invariant-loop decreases-loop
+loop-holds c = (omega arith, by_row_start _)
 
-mul-at-least-one : tie.Need-mul-at-least-one Inv-loop μ-loop
-mul-at-least-one c = search needs
+mul-at-least-one : tie.Need-offset_bounds-period-i invariant-loop decreases-loop
+mul-at-least-one c = search rules
 
-element-copy-out-at-least-one : tie.Need-element-copy-out-at-least-one Inv-loop μ-loop
-element-copy-out-at-least-one c = search needs
+element-copy-out-at-least-one : tie.Need-bounds-period-i invariant-loop decreases-loop
+element-copy-out-at-least-one c = search rules
 
-at-least-one-requires : tie.Need-at-least-one-requires Inv-loop μ-loop
-at-least-one-requires c κs = search needs
+at-least-one-requires : tie.Need-at_least_one-requires invariant-loop decreases-loop
+at-least-one-requires c κs = search rules
 
-mul-all : tie.Need-mul-all Inv-loop μ-loop
-mul-all c = search needs
+mul-all : tie.Need-offset_bounds-all-i invariant-loop decreases-loop
+mul-all c = search rules
 
-array-write-all : tie.Need-array-write-all Inv-loop μ-loop
-array-write-all c = omega (arith, c .before .before .before .loop .inv .1 .size)
+array-write-all : tie.Need-bounds-all-i invariant-loop decreases-loop
+array-write-all c = omega (arith, c.loop-i.invariant.1.size)
 
-add-i : tie.Need-add-i Inv-loop μ-loop
-add-i c = search needs
+add-i : tie.Need-overflow_add-i invariant-loop decreases-loop
+add-i c = search rules
 
-loop-less : tie.Need-loop-less Inv-loop μ-loop
-loop-less c = search needs
+loop-less : tie.Need-loop-i-smaller invariant-loop decreases-loop
+loop-less c = search rules
 
-loop-again : tie.Need-loop-again Inv-loop μ-loop
+loop-again : tie.Need-loop-i-preserved invariant-loop decreases-loop
 loop-again c =
-    let d = c .before .before .before in
-    (omega arith, by-row-put _ (d .loop .inv .1) (omega arith) (c .at-least-one .ensures))
+    let d = c in
+    (omega arith, by_row_put _ d.loop-i.invariant.1 (omega arith) c.at_least_one.ensures)
 
-returns : tie.Need-returns Inv-loop μ-loop
+returns : tie.Need-returns invariant-loop decreases-loop
 returns c =
-    let d = c .before in
-    let e : d .loop .i ≡ max-rows = omega (arith, d .loop .inv .0) in
-    rw e at (d .loop .inv .1)
+    let d = c in
+    let e : d.loop-i.i ≡ max_rows = omega (arith, d.loop-i.invariant.0) in
+    rw e at d.loop-i.invariant.1
 
-pub counted-spec : {M : Type 1} → statement M
-counted-spec =
+pub counted_spec : {M : Type 1} → statement M
+counted_spec =
     tie.close
     (tie.spec
-    Inv-loop
-    μ-loop
+    invariant-loop
+    decreases-loop
     loop-holds
     mul-at-least-one
     element-copy-out-at-least-one

@@ -1,223 +1,223 @@
 -- `find_way` goes on from nodes that are seen and not done, until t is seen or all are done.
-use mathlib.Core.Path.{_≡_, refl, sym, _∙_}
+use mathlib.Core.Path.{◌≡◌, refl, sym, ◌∙◌}
 use mathlib.Core.Bool.{Bool, true, false, not, true≢false, false≢true}
-use Prim.Native.Nat.{ℕ, _<_, _≤_}
+use Prim.Native.Nat.{ℕ, ◌<◌, ◌≤◌}
 use native.Mathlib.Omega.{arith}
 use lib.ListN.{length}
 use borrow.Author.Tests.{eqb-true}
-use Rattle·numbers.specs.Finite.{count}
-use Rattle·numbers.specs.Lists.{at}
-use Rattle·numbers.specs.Word.{bit}
-use Rattle·numbers.proofs.Lists.{zeros-at}
-use Rattle·numbers.proofs.Word.{bit-shr, bit-zero}
-use Rattle·loads·specs.specs.Network.{nodes-most, Net, Circulation}
-use Rattle·loads·specs.specs.Way.{WaysFrom, Done, Wired, Narrow, Shown}
-use Rattle·loads·proofs.proofs.Words.{bit-one-more, bit-first, bit-odd, in-first, fewer}
-use Rattle·loads·proofs.proofs.Ways.{reached-start, done-start, done-shut, out-node, into-node}
-use Rattle·loads·proofs.proofs.Ways.{leave-line, leave-reached, leave-done, leave-within}
-use Rattle·loads·proofs.proofs.flow.find_way.Statement.{statement}
-use Rattle·loads·proofs.proofs.flow.find_way.Tie as tie
+use Rattle.numbers.specs.Finite.{count}
+use Rattle.numbers.specs.Lists.{at}
+use Rattle.numbers.specs.Word.{bit}
+use Rattle.numbers.proofs.Lists.{zeros_at}
+use Rattle.numbers.proofs.Word.{bit_shr, bit_zero}
+use Rattle.loads.specs.Network.{nodes_most, Net, Circulation}
+use Rattle.loads.specs.Way.{WaysFrom, Done, Wired, Narrow, Shown}
+use Rattle.loads.proofs.Words.{bit_one_more, bit_first, bit_odd, in_first, fewer}
+use Rattle.loads.proofs.Ways.{reached_start, done_start, done_shut, out_node, into_node}
+use Rattle.loads.proofs.Ways.{leave_line, leave_reached, leave_done, leave_within}
+use Rattle.loads.proofs.flow.find_way.Statement.{statement}
+use Rattle.loads.proofs.flow.find_way.Tie as tie
 
-abbrev Inv-loop : tie.InvT-loop
-Inv-loop tail head out into arcs s t by₀ seen₀ done₀ by seen done =
-    (length by ≡ nodes-most) × ((v : ℕ) → bit done v ≡ true → bit seen v ≡ true)
+abbrev invariant-loop : tie.invariant-loop-seen
+invariant-loop tail head out into arcs s t by₀ seen₀ done₀ by seen done =
+    (length by ≡ nodes_most) × ((v : ℕ) → bit done v ≡ true → bit seen v ≡ true)
     × ((n K : ℕ) → Wired n K (at tail) (at head) (at out) (at into) → Narrow K arcs → s ≤ K → (v : ℕ) → bit seen v ≡ true → v ≤ K)
     × ((n K : ℕ) (G : Net) (may : ℕ → Bool) (x : ℕ → ℕ) → Wired n K (at tail) (at head) (at out) (at into) → Narrow K arcs → s ≤ K
     → Shown n K G may x (at tail) (at head) arcs → Circulation G x → WaysFrom n G may x s seen (at by) × Done G may x seen done)
 
-abbrev μ-loop : tie.MeasureT-loop
-μ-loop tail head out into arcs s t by₀ seen₀ done₀ by seen done = count 64 (λ v. not (bit done v))
+abbrev decreases-loop : tie.decreases-loop-seen
+decreases-loop tail head out into arcs s t by₀ seen₀ done₀ by seen done = count 64 (λ v. not (bit done v))
 
-small : (z : tie.Start Inv-loop μ-loop) → (z .args .s < nodes-most) × (z .args .t < nodes-most)
-small z = let p = z .pre in (omega (arith, p .2 .few-nodes, p .4), omega (arith, p .2 .few-nodes, p .5))
+small : (z : tie.Start invariant-loop decreases-loop) → (z.args.s < nodes_most) × (z.args.t < nodes_most)
+small z = let p = z.requires in (omega (arith, p.2.few_nodes, p.4), omega (arith, p.2.few_nodes, p.5))
 
-abbrev entry : tie.After-pick Inv-loop μ-loop → tie.Start Inv-loop μ-loop
-entry p = p .before .before .before .before
+abbrev entry : tie.After-pick-u invariant-loop decreases-loop → tie.Start invariant-loop decreases-loop
+entry p = p.before.before.before.before
 
-abbrev state : tie.After-pick Inv-loop μ-loop → tie.At-loop Inv-loop μ-loop
-state p = p .before .before .before
+abbrev state : tie.After-pick-u invariant-loop decreases-loop → tie.At-loop-seen invariant-loop decreases-loop
+state p = p.before.before.before
 
 -- the node that is gone on from: seen, not done, and on the line
-picked : (p : tie.After-pick Inv-loop μ-loop)
-    → (bit (state p .loop .seen) (p .pick .result) ≡ true) × (bit (state p .loop .done) (p .pick .result) ≡ false)
-picked p = in-first _ _ (p .pick .ensures .1) (state p .loop .inv .1 (p .pick .result))
+picked : (p : tie.After-pick-u invariant-loop decreases-loop)
+    → (bit (state p).loop-seen.seen p.pick-u.result ≡ true) × (bit (state p).loop-seen.done p.pick-u.result ≡ false)
+picked p = in_first _ _ p.pick-u.ensures.1 ((state p).loop-seen.invariant.1 p.pick-u.result)
 
-on-line : (p : tie.After-pick Inv-loop μ-loop) → p .pick .result ≤ entry p .pre .1
-on-line p =
-    let q = entry p .pre in
-    state p .loop .inv .2 (q .0) (q .1) (q .2) (q .3) (q .4) (p .pick .result) (picked p .0)
+on_line : (p : tie.After-pick-u invariant-loop decreases-loop) → p.pick-u.result ≤ (entry p).requires.1
+on_line p =
+    let q = (entry p).requires in
+    (state p).loop-seen.invariant.2 q.0 q.1 q.2 q.3 q.4 p.pick-u.result (picked p).0
 
-low : (p : tie.After-pick Inv-loop μ-loop) → p .pick .result < nodes-most
-low p = omega (arith, on-line p, entry p .pre .2 .few-nodes)
+low : (p : tie.After-pick-u invariant-loop decreases-loop) → p.pick-u.result < nodes_most
+low p = omega (arith, on_line p, (entry p).requires.2.few_nodes)
 
-shl-seen : tie.Need-shl-seen Inv-loop μ-loop
+shl-seen : tie.Need-overflow_shl-seen invariant-loop decreases-loop
 shl-seen c = omega (arith, small c)
 
-loop-holds : tie.Need-loop-holds Inv-loop μ-loop
+loop-holds : tie.Need-loop-seen-init invariant-loop decreases-loop
 loop-holds c =
-    let s = c .args .s in
+    let s = c.args.s in
     let l : s < 64 = omega (arith, small c) in (
       refl,
-      λ v q. absurd (false≢true (sym (bit-zero v) ∙ q)),
-      λ n K W N sK v q. let e : v ≡ s = eqb-true v s (sym (bit-first s v l) ∙ q) in omega arith,
+      λ v q. absurd (false≢true (sym (bit_zero v) ∙ q)),
+      λ n K W N sK v q. let e : v ≡ s = eqb-true v s (sym (bit_first s v l) ∙ q) in omega arith,
       λ n K G may x W N sK S circ. (
-        reached-start n G may x s _ _ circ (λ v. bit-first s v l) (zeros-at nodes-most s),
-        done-start G may x _,
+        reached_start n G may x s _ _ circ (λ v. bit_first s v l) (zeros_at nodes_most s),
+        done_start G may x _,
       ),
     )
 
-shr-if1 : tie.Need-shr-if1 Inv-loop μ-loop
-shr-if1 c = omega (arith, small (c .before .before))
+shr-if1 : tie.Need-overflow_shr-seen invariant-loop decreases-loop
+shr-if1 c = omega (arith, small c.before.before)
 
-mul-t21 : tie.Need-mul-t21 Inv-loop μ-loop
-mul-t21 c = omega (arith, small (c .before .before .before))
+mul-t21 : tie.Need-offset_bounds-by-t invariant-loop decreases-loop
+mul-t21 c = omega (arith, small c.before.before.before)
 
-array-read-t24 : tie.Need-array-read-t24 Inv-loop μ-loop
-array-read-t24 c = omega (arith, small (c .before .before .before), c .before .before .loop .inv .0)
+array-read-t24 : tie.Need-bounds-by-t invariant-loop decreases-loop
+array-read-t24 c = omega (arith, small c.before.before.before, c.loop-seen.invariant.0)
 
-returns : tie.Need-returns Inv-loop μ-loop
+returns : tie.Need-returns-then-seen-t-eq1 invariant-loop decreases-loop
 returns c n K G may x W N sK tK S circ =
-    let u = c .before .before .loop in
-    let t = c .before .before .before .args .t in
-    let w = u .inv .3 n K G may x W N sK S circ .0 .way t (bit-odd (u .seen) t (c .if1 .taken)) in
-    record { found = λ q. (bit (u .seen), w .0, w .1, w .2); none = λ q. absurd (true≢false q) }
+    let u = c.loop-seen in
+    let t = c.args.t in
+    let w = (u.invariant.3 n K G may x W N sK S circ).0.way t (bit_odd u.seen t c.if-seen-t-eq1.true) in
+    record { found = λ q. (bit u.seen, w.0, w.1, w.2); none = λ q. absurd (true≢false q) }
 
-pick-requires : tie.Need-pick-requires Inv-loop μ-loop
-pick-requires c κs = c .before .loop-test .taken
+pick-requires : tie.Need-pick-u-requires invariant-loop decreases-loop
+pick-requires c κs = c.loop-seen-test.true
 
-mul-way : tie.Need-mul-way Inv-loop μ-loop
+mul-way : tie.Need-offset_bounds-by-u invariant-loop decreases-loop
 mul-way c = omega (arith, low c)
 
-array-read-way : tie.Need-array-read-way Inv-loop μ-loop
-array-read-way c = omega (arith, low c, state c .loop .inv .0)
+array-read-way : tie.Need-bounds-by-u invariant-loop decreases-loop
+array-read-way c = omega (arith, low c, (state c).loop-seen.invariant.0)
 
-mul-visit : tie.Need-mul-visit Inv-loop μ-loop
+mul-visit : tie.Need-offset_bounds-out-u invariant-loop decreases-loop
 mul-visit c = omega (arith, low c)
 
-element-copy-out-visit : tie.Need-element-copy-out-visit Inv-loop μ-loop
-element-copy-out-visit c = omega (arith, low c)
+element-copy-out-visit : tie.Need-bounds-out-u invariant-loop decreases-loop
+element-copy-out-visit c = omega (arith, low c.before)
 
-visit-requires : tie.Need-visit-requires Inv-loop μ-loop
+visit-requires : tie.Need-visit-ahead-requires invariant-loop decreases-loop
 visit-requires c κs =
-    let p = c .before .before .before in
-    let q = entry p .pre in (
+    let p = c.before.before.before.before in
+    let q = (entry p).requires in (
       λ i b. omega (
         arith,
-        q .2 .ends i (out-node _ _ _ _ _ _ (q .2) (p .pick .result) i (entry p .args .arcs .up) (on-line p) b .0),
-        q .2 .few-nodes,
+        q.2.ends i (out_node _ _ _ _ _ _ q.2 p.pick-u.result i (entry p).args.arcs.up (on_line p) b).0,
+        q.2.few_nodes,
       ),
-      state p .loop .inv .0,
+      (state p).loop-seen.invariant.0,
     )
 
-mul-visit-2 : tie.Need-mul-visit-2 Inv-loop μ-loop
-mul-visit-2 c = omega (arith, low (c .before .before .before .before))
+mul-visit-2 : tie.Need-offset_bounds-into-u invariant-loop decreases-loop
+mul-visit-2 c = omega (arith, low c.before.before.before.before.before)
 
-element-copy-out-visit-2 : tie.Need-element-copy-out-visit-2 Inv-loop μ-loop
-element-copy-out-visit-2 c = omega (arith, low (c .before .before .before .before))
+element-copy-out-visit-2 : tie.Need-bounds-into-u invariant-loop decreases-loop
+element-copy-out-visit-2 c = omega (arith, low c.before.before.before.before.before.before)
 
-visit-requires-2 : tie.Need-visit-requires-2 Inv-loop μ-loop
+visit-requires-2 : tie.Need-visit-back-requires invariant-loop decreases-loop
 visit-requires-2 c κs =
-    let v = c .before .before .before in
-    let p = v .before .before .before .before in
-    let q = entry p .pre in (
+    let v = c.before.before.before in
+    let p = v.before.before.before.before.before.before in
+    let q = (entry p).requires in (
       λ i b. omega (
         arith,
-        q .2 .ends i (into-node _ _ _ _ _ _ (q .2) (p .pick .result) i (entry p .args .arcs .down) (on-line p) b .0),
-        q .2 .few-nodes,
+        q.2.ends i (into_node _ _ _ _ _ _ q.2 p.pick-u.result i (entry p).args.arcs.down (on_line p) b).0,
+        q.2.few_nodes,
       ),
-      v .visit .ensures .0,
+      v.visit-ahead.ensures.0,
     )
 
 -- the pick, from the second visit on
-abbrev picking : tie.After-visit2 Inv-loop μ-loop → tie.After-pick Inv-loop μ-loop
-picking w = w .before .before .before .before .before .before .before .before
+abbrev picking : tie.After-visit-back invariant-loop decreases-loop → tie.After-pick-u invariant-loop decreases-loop
+picking w = w.before.before.before.before.before.before.before.before.before.before
 
-step-down-requires : tie.Need-step-down-requires Inv-loop μ-loop
+step-down-requires : tie.Need-step_down-lower-requires invariant-loop decreases-loop
 step-down-requires c κs =
-    let w = c .before in
+    let w = c.before in
     let p = picking w in
-    (low p, λ q. entry p .pre .3 .more (p .pick .result) q .0, w .visit2 .ensures .0)
+    (low p, λ q. ((entry p).requires.3.more p.pick-u.result q).0, w.visit-back.ensures.0)
 
-step-up-requires : tie.Need-step-up-requires Inv-loop μ-loop
+step-up-requires : tie.Need-step_up-seen-requires invariant-loop decreases-loop
 step-up-requires c κs =
-    let d = c .before in
-    let p = picking (d .before .before) in (
+    let d = c.before in
+    let p = picking d.before.before in (
       low p,
-      λ q. omega (arith, entry p .pre .3 .less (p .pick .result) q, entry p .pre .2 .few-nodes),
-      d .step-down .ensures .0,
+      λ q. omega (arith, (entry p).requires.3.less p.pick-u.result q, (entry p).requires.2.few_nodes),
+      d.step_down-lower.ensures.0,
     )
 
 -- the pick, from where the node is done
-abbrev leaving : tie.After-step-up Inv-loop μ-loop → tie.After-pick Inv-loop μ-loop
-leaving c = picking (c .before .before .before .before)
+abbrev leaving : tie.After-step_up-seen invariant-loop decreases-loop → tie.After-pick-u invariant-loop decreases-loop
+leaving c = picking c.before.before.before.before
 
-shl-done : tie.Need-shl-done Inv-loop μ-loop
-shl-done c = omega (arith, leaving c .pick .ensures .0)
+shl-done : tie.Need-overflow_shl-done invariant-loop decreases-loop
+shl-done c = omega (arith, (leaving c).pick-u.ensures.0)
 
-loop-less : tie.Need-loop-less Inv-loop μ-loop
+loop-less : tie.Need-loop-seen-smaller invariant-loop decreases-loop
 loop-less c =
     let p = leaving c in
-    let d = state p .loop .done in
-    let l = p .pick .ensures .0 in
-    fewer d _ (p .pick .result) l (picked p .1) (λ v. bit-one-more d (p .pick .result) v l)
+    let d = (state p).loop-seen.done in
+    let l = p.pick-u.ensures.0 in
+    fewer d _ p.pick-u.result l (picked p).1 (λ v. bit_one_more d p.pick-u.result v l)
 
-loop-again : tie.Need-loop-again Inv-loop μ-loop
+loop-again : tie.Need-loop-seen-preserved invariant-loop decreases-loop
 loop-again c =
     let p = leaving c in
-    let i = entry p .args in
-    let L = state p .loop in
-    let u = p .pick .result in
-    let l = p .pick .ensures .0 in
-    let w2 = c .before .before .before .before in
-    let a = w2 .before .before .before .before .visit .ensures .1 in
-    let b = w2 .visit2 .ensures .1 in
-    let d = c .before .before .step-down .ensures .1 in
-    let e = c .step-up .ensures in
-    let wider : (v : ℕ) → bit (L .seen) v ≡ true → bit (c .step-up .result) v ≡ true =
-    λ v q. e .1 .kept v (d .kept v (b .kept v (a .kept v q .0) .0) .0) .0 in (
-      e .0,
-      leave-within u (L .seen) (c .step-up .result) (L .done) _ wider (picked p .0) (λ v. bit-one-more (L .done) u v l) (L .inv .1),
+    let i = (entry p).args in
+    let L = (state p).loop-seen in
+    let u = p.pick-u.result in
+    let l = p.pick-u.ensures.0 in
+    let w2 = c.before.before.before.before in
+    let a = w2.visit-ahead.ensures.1 in
+    let b = w2.visit-back.ensures.1 in
+    let d = c.step_down-lower.ensures.1 in
+    let e = c.step_up-seen.ensures in
+    let wider : (v : ℕ) → bit L.seen v ≡ true → bit c.step_up-seen.result v ≡ true =
+    λ v q. (e.1.kept v (d.kept v (b.kept v (a.kept v q).0).0).0).0 in (
+      e.0,
+      leave_within u L.seen c.step_up-seen.result L.done _ wider (picked p).0 (λ v. bit_one_more L.done u v l) L.invariant.1,
       λ n K W N sK.
-          let line = L .inv .2 n K W N sK in
-          leave-line n K _ _ _ _ W (i .arcs) N u _ (L .seen) _ _ _ (c .step-up .result) _ _ _ _ _ (line u (picked p .0)) a b d (e .1) line,
+          let line = L.invariant.2 n K W N sK in
+          leave_line n K _ _ _ _ W i.arcs N u _ L.seen _ _ _ c.step_up-seen.result _ _ _ _ _ (line u (picked p).0) a b d e.1 line,
       λ n K G may x W N sK S circ.
-          let R = L .inv .3 n K G may x W N sK S circ in
-          let ul = L .inv .2 n K W N sK u (picked p .0) in (
-            leave-reached n K _ _ _ _ W (i .arcs) N G may x S (i .s) u _ (L .seen) _ _ _ (c .step-up .result) _ _ _ _ _ ul (picked p .0)
+          let R = L.invariant.3 n K G may x W N sK S circ in
+          let ul = L.invariant.2 n K W N sK u (picked p).0 in (
+            leave_reached n K _ _ _ _ W i.arcs N G may x S i.s u _ L.seen _ _ _ c.step_up-seen.result _ _ _ _ _ ul (picked p).0
                 refl
-                a b d (e .1) (R .0),
-            leave-done n K _ _ _ _ W (i .arcs) N G may x S (i .s) u _ (L .seen) _ _ _ (c .step-up .result) _ _ _ _ _ ul (picked p .0) refl
-                a b d (e .1) (L .done) _ (λ v. bit-one-more (L .done) u v l) (R .1),
+                a b d e.1 R.0,
+            leave_done n K _ _ _ _ W i.arcs N G may x S i.s u _ L.seen _ _ _ c.step_up-seen.result _ _ _ _ _ ul (picked p).0 refl
+                a b d e.1 L.done _ (λ v. bit_one_more L.done u v l) R.1,
           ),
     )
 
-shr-t36 : tie.Need-shr-t36 Inv-loop μ-loop
-shr-t36 c = omega (arith, small (c .before .before))
+shr-t36 : tie.Need-overflow_shr-result invariant-loop decreases-loop
+shr-t36 c = omega (arith, small c.before.before)
 
-mul-t39 : tie.Need-mul-t39 Inv-loop μ-loop
-mul-t39 c = omega (arith, small (c .before .before))
+mul-t39 : tie.Need-offset_bounds-by-t-2 invariant-loop decreases-loop
+mul-t39 c = omega (arith, small c.before.before)
 
-array-read-t42 : tie.Need-array-read-t42 Inv-loop μ-loop
-array-read-t42 c = omega (arith, small (c .before .before), c .before .loop .inv .0)
+array-read-t42 : tie.Need-bounds-by-t-2 invariant-loop decreases-loop
+array-read-t42 c = omega (arith, small c.before.before, c.loop-seen.invariant.0)
 
-returns-2 : tie.Need-returns-2 Inv-loop μ-loop
+returns-2 : tie.Need-returns invariant-loop decreases-loop
 returns-2 c n K G may x W N sK tK S circ =
-    let u = c .before .loop in
-    let t = c .before .before .args .t in
-    let R = u .inv .3 n K G may x W N sK S circ in
-    let same : u .seen ≡ u .done = omega arith in record {
+    let u = c.loop-seen in
+    let t = c.args.t in
+    let R = u.invariant.3 n K G may x W N sK S circ in
+    let same : u.seen ≡ u.done = omega arith in record {
       found = λ q.
-          let w = R .0 .way t (sym (bit-shr (u .seen) t) ∙ q) in
-          (bit (u .seen), w .0, w .1, w .2);
-      none = λ q. (bit (u .seen), R .0 .start, sym (bit-shr (u .seen) t) ∙ q, done-shut G may x (u .seen) (u .done) same (R .1));
+          let w = R.0.way t (sym (bit_shr u.seen t) ∙ q) in
+          (bit u.seen, w.0, w.1, w.2);
+      none = λ q. (bit u.seen, R.0.start, sym (bit_shr u.seen t) ∙ q, done_shut G may x u.seen u.done same R.1);
     }
 
-pub find-way-spec : {M : Type 1} → statement M
-find-way-spec =
+pub find_way_spec : {M : Type 1} → statement M
+find_way_spec =
     tie.close
     (tie.spec
-    Inv-loop
-    μ-loop
+    invariant-loop
+    decreases-loop
     shl-seen
     loop-holds
     shr-if1

@@ -2,41 +2,41 @@
 use mathlib.Core.Path.{ap}
 use native.Mathlib.Omega.{arith}
 use lib.ListN.{length}
-use borrow.Author.Needs.{needs}
-use Rattle·rules.specs.ElementList.{inFile}
-use Rattle·maker·proofs.proofs.Words.{put-none, put-one}
-use Rattle·maker·proofs.proofs.moves.put_byte.Statement.{statement}
-use Rattle·maker·proofs.proofs.moves.put_byte.Tie as tie
+use borrow.Author.Rules.{rules}
+use Rattle.rules.specs.ElementList.{in_file}
+use Rattle.maker.proofs.Words.{put_none, put_one}
+use Rattle.maker.proofs.moves.put_byte.Statement.{statement}
+use Rattle.maker.proofs.moves.put_byte.Tie as tie
 
-returns : tie.Need-returns
-returns c = let a = c .before .before .args in put-none inFile (a .word) (a .slot) (a .way) _ (a .n) (a .out .now) (c .if1 .taken)
+returns : tie.Need-returns-then-word-eq0
+returns c = let a = c.args in put_none in_file a.word a.slot a.way _ a.n a.out.now c.if-word-eq0.true
 
-move-of-requires : tie.Need-move-of-requires
-move-of-requires c κs = let s = c .before .before in (s .pre .0, c .if1 .left, s .pre .1)
+move-of-requires : tie.Need-move_of-requires
+move-of-requires c κs = let s = c in (s.requires.0, c.if-word-eq0.false, s.requires.1)
 
-mul-put-bytes : tie.Need-mul-put-bytes
-mul-put-bytes c = search needs
+mul-put-bytes : tie.Need-overflow_mul-n
+mul-put-bytes c = search rules
 
-add-put-bytes : tie.Need-add-put-bytes
-add-put-bytes c = search needs
+add-put-bytes : tie.Need-overflow_add-n
+add-put-bytes c = search rules
 
-put-bytes-requires : tie.Need-put-bytes-requires
-put-bytes-requires c κs = let M = c .before .move-of .ensures in
-    let s = c .before .before .before .before in
-    (omega (arith, ap length (M .one), s .pre .3), omega (arith, M .row), omega (arith, M .way, s .pre .2))
+put-bytes-requires : tie.Need-put_bytes-requires
+put-bytes-requires c κs = let M = c.move_of.ensures in
+    let s = c in
+    (omega (arith, ap length M.one, s.requires.3), omega (arith, M.row), omega (arith, M.way, s.requires.2))
 
-add-result : tie.Need-add-result
-add-result c = search needs
+add-result : tie.Need-overflow_add-result
+add-result c = search rules
 
-same-length : tie.Need-same-length
-same-length c = search needs
+same_length : tie.Need-shape_of-out
+same_length c = search rules
 
-returns-2 : tie.Need-returns-2
+returns-2 : tie.Need-returns
 returns-2 c =
-    let m = c .before .before .before .before in
-    put-one inFile _ _ _ _ (m .move-of .ensures) (c .before .before .put-bytes .ensures)
+    let m = c in
+    put_one in_file _ _ _ _ m.move_of.ensures c.put_bytes.ensures
 
-pub put-byte-spec : {M : Type 1} → statement M
-put-byte-spec =
+pub put_byte_spec : {M : Type 1} → statement M
+put_byte_spec =
     tie.close
-    (tie.spec returns move-of-requires mul-put-bytes add-put-bytes put-bytes-requires add-result same-length returns-2)
+    (tie.spec returns move-of-requires mul-put-bytes add-put-bytes put-bytes-requires add-result same_length returns-2)

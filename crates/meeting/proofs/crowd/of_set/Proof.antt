@@ -1,137 +1,137 @@
 -- `crowd::of_set` meets its contract: the refusals of a table as it is given and on the line, 32, or the set and where its rows meet.
 use mathlib.Core.Path.{refl}
 use mathlib.Core.List.{List}
-use Prim.Native.Nat.{ℕ, _≤_}
+use Prim.Native.Nat.{ℕ, ◌≤◌}
 use native.Mathlib.Omega.{arith}
-use borrow.Author.Needs.{needs}
-use Rattle·numbers.specs.Lists.{at}
-use Rattle·rules.specs.Refusals.{line-checks}
-use Rattle·table.specs.Columns.{tableOf}
-use Rattle·outline.specs.Outlined.{Outlined}
-use Rattle·meeting·proofs.proofs.CrowdAsked.{crowd-given, crowd-sound, crowd-routes, crowd-line, crowd-few, crowd-past, crowd-done}
-use Rattle·meeting·proofs.proofs.crowd.of_set.Statement.{statement}
-use Rattle·meeting·proofs.proofs.crowd.of_set.Tie as tie
+use borrow.Author.Rules.{rules}
+use Rattle.numbers.specs.Lists.{at}
+use Rattle.rules.specs.Refusals.{line_checks}
+use Rattle.table.specs.Columns.{table_of}
+use Rattle.outline.specs.Outlined.{Outlined}
+use Rattle.meeting.proofs.CrowdAsked.{crowd_given, crowd_sound, crowd_routes, crowd_line, crowd_few, crowd_past, crowd_done}
+use Rattle.meeting.proofs.crowd.of_set.Statement.{statement}
+use Rattle.meeting.proofs.crowd.of_set.Tie as tie
 
-abbrev taken : tie.Else1 → tie.After-given
-taken e = e .before .before .before
+abbrev taken : tie.Else-answer-ne-DONE → tie.After-given-found
+taken e = e.before.before.before
 
-abbrev entry : tie.After-given → tie.Start
-entry g = g .before .before
+abbrev entry : tie.After-given-found → tie.Start
+entry g = g.before.before
 
-abbrev bytes : tie.After-given → List ℕ
-bytes g = entry g .args .file .now
+abbrev bytes : tie.After-given-found → List ℕ
+bytes g = (entry g).args.file.now
 
-abbrev passed : tie.After-outline-of → tie.Else1
-passed o = o .before .before .before .before .before .before
+abbrev passed : tie.After-outline_of-outline → tie.Else-answer-ne-DONE
+passed o = o.before.before.before.before.before
 
-abbrev placed : tie.Else2 → tie.After-outline-of
-placed l = l .before .before .before
+abbrev placed : tie.Else-placed-ne-DONE → tie.After-outline_of-outline
+placed l = l.before.before.before
 
-outlined : (o : tie.After-outline-of)
-    → Outlined (line-checks (tableOf (taken (passed o) .given .result .columns))) (tableOf (taken (passed o) .given .result .columns))
-    (o .outline-of .result)
+outlined : (o : tie.After-outline_of-outline)
+    → Outlined (line_checks (table_of (taken (passed o)).given-found.result.columns)) (table_of (taken (passed o)).given-found.result.columns)
+    o.outline_of-outline.result
 outlined o =
     let e = passed o in
     let g = taken e in
-    o .outline-of .ensures (at (g .given .result .columns .cost))
-    (crowd-sound (bytes g) (entry g .args .k) (g .given .result) (g .given .ensures) (e .if1 .left))
+    o.outline_of-outline.ensures (at g.given-found.result.columns.cost)
+    (crowd_sound (bytes g) (entry g).args.k g.given-found.result g.given-found.ensures e.if-answer-ne-DONE.false)
 
-given-requires : tie.Need-given-requires
-given-requires c κs = search needs
+given-requires : tie.Need-given-found-requires
+given-requires c κs = search rules
 
 refused-requires : tie.Need-refused-requires
-refused-requires c κs = search needs
+refused-requires c κs = search rules
 
-returns : tie.Need-returns
+returns : tie.Need-returns-then-answer-ne-DONE
 returns c =
-    let g = c .before .before .before .before in
-    let R = c .refused .ensures in
-    rw (R .0, R .1, R .2)
-    (crowd-given (bytes g) (entry g .args .k) (g .given .result) (g .given .ensures) (c .before .if1 .taken))
+    let g = c.before.before.before.before in
+    let R = c.refused.ensures in
+    rw (R.0, R.1, R.2)
+    (crowd_given (bytes g) (entry g).args.k g.given-found.result g.given-found.ensures c.if-answer-ne-DONE.true)
 
-outline-of-requires : tie.Need-outline-of-requires
+outline-of-requires : tie.Need-outline_of-outline-requires
 outline-of-requires c κs =
-    let e = c .before .before .before .before .before in
+    let e = c.before.before.before.before in
     let g = taken e in (
-      at (g .given .result .columns .cost),
-      crowd-sound (bytes g) (entry g .args .k) (g .given .result) (g .given .ensures) (e .if1 .left),
+      at g.given-found.result.columns.cost,
+      crowd_sound (bytes g) (entry g).args.k g.given-found.result g.given-found.ensures e.if-answer-ne-DONE.false,
     )
 
-refused-requires-2 : tie.Need-refused-requires-2
-refused-requires-2 c κs = search needs
+refused-requires-2 : tie.Need-refused-requires-then-placed-ne-DONE
+refused-requires-2 c κs = search rules
 
-returns-2 : tie.Need-returns-2
+returns-2 : tie.Need-returns-then-placed-ne-DONE
 returns-2 c =
-    let o = c .before .before .before .before in
+    let o = c.before.before.before.before in
     let e = passed o in
     let g = taken e in
-    let R = c .refused2 .ensures in
-    rw (R .0, R .1, R .2)
-    (crowd-line (bytes g) (entry g .args .k) (g .given .result) (g .given .ensures) (e .if1 .left) (o .outline-of .result) (outlined o)
-    (c .before .if2 .taken))
+    let R = c.refused-then-placed-ne-DONE.ensures in
+    rw (R.0, R.1, R.2)
+    (crowd_line (bytes g) (entry g).args.k g.given-found.result g.given-found.ensures e.if-answer-ne-DONE.false o.outline_of-outline.result (outlined o)
+    c.if-placed-ne-DONE.true)
 
 at-requires : tie.Need-at-requires
-at-requires c κs = search needs
+at-requires c κs = search rules
 
-refused-requires-3 : tie.Need-refused-requires-3
-refused-requires-3 c κs = search needs
+refused-requires-3 : tie.Need-refused-requires-then-k-outline
+refused-requires-3 c κs = search rules
 
-returns-3 : tie.Need-returns-3
+returns-3 : tie.Need-returns-then-k-outline
 returns-3 c =
-    let l = c .before .before .before .before in
+    let l = c.before.before.before.before in
     let o = placed l in
     let e = passed o in
     let g = taken e in
-    let R = c .refused3 .ensures in
-    rw (R .0, R .1, R .2)
-    (crowd-past (bytes g) (entry g .args .k) (g .given .result) (g .given .ensures) (e .if1 .left) (o .outline-of .result) (outlined o)
-    (l .if2 .left) _ _ (c .before .before .if3 .taken) (c .before .at .ensures))
+    let R = c.refused-then-k-outline.ensures in
+    rw (R.0, R.1, R.2)
+    (crowd_past (bytes g) (entry g).args.k g.given-found.result g.given-found.ensures e.if-answer-ne-DONE.false o.outline_of-outline.result (outlined o)
+    l.if-placed-ne-DONE.false _ _ c.if-k-outline.true c.at.ensures)
 
-few : (m : tie.Else3) → m .before .before .before .before .before .outline-of .result .sets ≤ 64
+few : (m : tie.Else-k-outline) → m.outline_of-outline.result.sets ≤ 64
 few m =
-    let l = m .before .before in
+    let l = m.before.before in
     let o = placed l in
     let e = passed o in
     let g = taken e in
-    crowd-few (bytes g) (entry g .args .k) (g .given .result) (g .given .ensures) (e .if1 .left) (o .outline-of .result) (outlined o)
-    (l .if2 .left)
+    crowd_few (bytes g) (entry g).args.k g.given-found.result g.given-found.ensures e.if-answer-ne-DONE.false o.outline_of-outline.result (outlined o)
+    l.if-placed-ne-DONE.false
 
-mul-set : tie.Need-mul-set
-mul-set c = omega (arith, few (c .before), c .before .if3 .left)
+mul-set : tie.Need-offset_bounds-words-k
+mul-set c = omega (arith, few c.before, c.if-k-outline.false)
 
-array-read-set : tie.Need-array-read-set
-array-read-set c = omega (arith, few (c .before), c .before .if3 .left)
+array-read-set : tie.Need-bounds-words-k
+array-read-set c = omega (arith, few c.before, c.if-k-outline.false)
 
-lay-segments-requires : tie.Need-lay-segments-requires
+lay-segments-requires : tie.Need-lay_segments-segments-requires
 lay-segments-requires c κs =
-    let e = passed (placed (c .before .before .before .before .before .before .before)) in
+    let e = passed (placed c.before.before.before.before.before.before) in
     let g = taken e in
-    crowd-routes (bytes g) (entry g .args .k) (g .given .result) (g .given .ensures) (e .if1 .left)
+    crowd_routes (bytes g) (entry g).args.k g.given-found.result g.given-found.ensures e.if-answer-ne-DONE.false
 
 done-requires : tie.Need-done-requires
-done-requires c κs = search needs
+done-requires c κs = search rules
 
 common-requires : tie.Need-common-requires
 common-requires c κs =
-    let e = passed (placed (c .before .before .before .before .before .before .before .before .before .before)) in
+    let e = passed (placed c.before.before.before.before.before.before.before.before.before) in
     let g = taken e in
-    let R = crowd-routes (bytes g) (entry g .args .k) (g .given .result) (g .given .ensures) (e .if1 .left) in
-    (R .small, R .few)
+    let R = crowd_routes (bytes g) (entry g).args.k g.given-found.result g.given-found.ensures e.if-answer-ne-DONE.false in
+    (R.small, R.few)
 
-returns-4 : tie.Need-returns-4
+returns-4 : tie.Need-returns
 returns-4 c =
-    let d = c .before .before in
-    let s = d .before in
-    let m = s .before .before .before .before .before .before in
-    let l = m .before .before in
+    let d = c in
+    let s = d in
+    let m = s in
+    let l = m.before.before.before.before.before.before.before.before.before.before in
     let o = placed l in
     let e = passed o in
     let g = taken e in
-    crowd-done (bytes g) (entry g .args .k) (g .given .result) (g .given .ensures) (e .if1 .left) (o .outline-of .result) (outlined o)
-    (l .if2 .left) (m .if3 .left) _ _ _ _ _ (d .done .ensures) refl (s .lay-segments .ensures) (c .common .ensures)
+    crowd_done (bytes g) (entry g).args.k g.given-found.result g.given-found.ensures e.if-answer-ne-DONE.false o.outline_of-outline.result (outlined o)
+    l.if-placed-ne-DONE.false m.if-k-outline.false _ _ _ _ _ d.done.ensures refl s.lay_segments-segments.ensures c.common.ensures
 
-pub of-set-spec : {M : Type 1} → statement M
-of-set-spec =
+pub of_set_spec : {M : Type 1} → statement M
+of_set_spec =
     tie.close
     (tie.spec
     given-requires

@@ -1,14 +1,14 @@
 -- refused: 0 for all but the answer.
 use mathlib.Core.Path.{refl}
-use borrow.Author.Needs.{needs}
-use Rattle·outline·proofs.proofs.Outline.refused.Statement.{statement}
-use Rattle·outline·proofs.proofs.Outline.refused.Tie as tie
+use borrow.Author.Rules.{rules}
+use Rattle.outline.proofs.Outline.refused.Statement.{statement}
+use Rattle.outline.proofs.Outline.refused.Tie as tie
 
 none-requires : tie.Need-none-requires
-none-requires c κs = search needs
+none-requires c κs = search rules
 
 returns : tie.Need-returns
-returns c = rw (c .none .ensures) refl
+returns c = rw c.none.ensures refl
 
-pub refused-spec : {M : Type 1} → statement M
-refused-spec = tie.close (tie.spec none-requires returns)
+pub refused_spec : {M : Type 1} → statement M
+refused_spec = tie.close (tie.spec none-requires returns)

@@ -1,52 +1,51 @@
 -- `Planner::is_off` meets its contract.
-use mathlib.Core.Path.{_≡_, sym, _∙_}
+use mathlib.Core.Path.{◌≡◌, sym, ◌∙◌}
 use mathlib.Core.Bool.{false}
-use borrow.Author.Needs.{needs}
-use borrow.Author.Tests.{not-true, not-false}
-use Rattle·numbers.proofs.Truth.{decides-yes}
-use Rattle·planner·specs.specs.State.{lateAt}
-use Rattle·planner·proofs.proofs.CourseNumbers.{few-sets}
-use Rattle·planner·proofs.proofs.Off.{off-late, off-spare-total, state-bounded, off-decided}
-use Rattle·planner·proofs.proofs.Planner.is_off.Statement.{statement}
-use Rattle·planner·proofs.proofs.Planner.is_off.Tie as tie
+use borrow.Author.Rules.{rules}
+use Rattle.numbers.proofs.Truth.{decides_yes}
+use Rattle.planner.specs.State.{late_at}
+use Rattle.planner.proofs.CourseNumbers.{few_sets}
+use Rattle.planner.proofs.Off.{off_late, off_spare_total, state_bounded, off_decided}
+use Rattle.planner.proofs.Planner.is_off.Statement.{statement}
+use Rattle.planner.proofs.Planner.is_off.Tie as tie
 
-is-late-requires : tie.Need-is-late-requires
-is-late-requires c κs = search needs
+is-late-requires : tie.Need-is_late-requires
+is-late-requires c κs = search rules
 
-returns : tie.Need-returns
-returns c t A e = decides-yes (off-late A (c .before .before .args .t1) e (sym (c .before .is-late .ensures) ∙ c .if1 .taken))
+returns : tie.Need-returns-then-is_late
+returns c t A e = decides_yes (off_late A c.args.self e (sym c.is_late.ensures ∙ c.if-is_late.true))
 
-spare-clear-requires : tie.Need-spare-clear-requires
-spare-clear-requires c κs = search needs
+spare-clear-requires : tie.Need-spare_clear-requires
+spare-clear-requires c κs = search rules
 
-returns-2 : tie.Need-returns-2
+returns-2 : tie.Need-returns-then-not-spare_clear
 returns-2 c t A e =
-    let S = c .before .before .before .before .before .before in
-    decides-yes (off-spare-total A (S .args .t1) e (c .before .spare-clear .ensures .fails (not-true _ (c .if2 .taken))))
+    let S = c in
+    decides_yes (off_spare_total A S.args.self e (c.spare_clear.ensures.fails c.if-not-spare_clear.true))
 
 -- the first test, from past the second
-abbrev in-time : tie.Else2 → tie.Else1
-in-time c = c .before .before .before .before
+abbrev in-time : tie.Else-not-spare_clear → tie.Else-is_late
+in-time c = c.before.before.before
 
-late : (c : tie.Else1)
-    → (let a = c .before .before .args in lateAt (a .t1 .stage) (a .slot) (a .t3 .outline .time .hyper) ≡ false)
-late c = sym (c .before .is-late .ensures) ∙ c .if1 .left
+late : (c : tie.Else-is_late)
+    → (let a = c.args in late_at a.self.stage a.slot a.table.outline.time.hyper ≡ false)
+late c = sym c.is_late.ensures ∙ c.if-is_late.false
 
-keeps-step-requires : tie.Need-keeps-step-requires
+keeps-step-requires : tie.Need-keeps_step-requires
 keeps-step-requires c κs =
-    let E = in-time (c .before .before .before .before .before) in
-    let S = E .before .before in
-    (state-bounded (S .pre .1) (S .args .t1) (S .pre .2) (late E), few-sets (S .pre .1))
+    let E = in-time c.before.before.before in
+    let S = E in
+    (state_bounded S.requires.1 S.args.self S.requires.2 (late E), few_sets S.requires.1)
 
-returns-3 : tie.Need-returns-3
+returns-3 : tie.Need-returns
 returns-3 c t A e =
-    let C = c .before .before .before .before .before .before in
+    let C = c.before.before.before.before in
     let E = in-time C in
-    off-decided A (E .before .before .args .t1) e (late E) (C .before .spare-clear .ensures .holds (not-false _ (C .if2 .left)))
-    (c .keeps-step .result) (c .keeps-step .ensures)
+    off_decided A E.args.self e (late E) (C.spare_clear.ensures.holds C.if-not-spare_clear.false)
+    c.keeps_step.result c.keeps_step.ensures
 
-pub is-off-spec : {M : Type 1} → statement M
-is-off-spec =
+pub is_off_spec : {M : Type 1} → statement M
+is_off_spec =
     tie.close
     (tie.spec
     is-late-requires

@@ -1,22 +1,22 @@
 -- `Planner::standings` meets its contract: the analysis answers the file's checks.
-use borrow.Author.Needs.{needs}
-use Rattle·rules.specs.Calls.{fileAsk}
-use Rattle·planner·proofs.proofs.Asks.{file-proper, usable, standings-asked}
-use Rattle·planner·proofs.proofs.Planner.standings.Statement.{statement}
-use Rattle·planner·proofs.proofs.Planner.standings.Tie as tie
+use borrow.Author.Rules.{rules}
+use Rattle.rules.specs.Calls.{file_ask}
+use Rattle.planner.proofs.Asks.{file_proper, usable, standings_asked}
+use Rattle.planner.proofs.Planner.standings.Statement.{statement}
+use Rattle.planner.proofs.Planner.standings.Tie as tie
 
 analyse-requires : tie.Need-analyse-requires
-analyse-requires c κs = search needs
+analyse-requires c κs = search rules
 
-standings-on-requires : tie.Need-standings-on-requires
-standings-on-requires c κs = usable (fileAsk _) (c .analyse .ensures)
+standings-on-requires : tie.Need-standings_on-requires
+standings-on-requires c κs = usable (file_ask _) c.analyse.ensures
 
 returns : tie.Need-returns
 returns c =
-    let A = c .before .analyse in
-    let S = c .before .before .before in
-    standings-asked (fileAsk (S .args .file .now)) (file-proper (S .args .file .now) .numbered) (A .ensures) (S .args .self)
-    (c .standings-on .result) (c .standings-on .ensures)
+    let A = c.analyse in
+    let S = c in
+    standings_asked (file_ask S.args.file.now) (file_proper S.args.file.now).numbered A.ensures S.args.self
+    c.standings_on.result c.standings_on.ensures
 
-pub standings-spec : {M : Type 1} → statement M
-standings-spec = tie.close (tie.spec analyse-requires standings-on-requires returns)
+pub standings_spec : {M : Type 1} → statement M
+standings_spec = tie.close (tie.spec analyse-requires standings-on-requires returns)

@@ -1,100 +1,100 @@
 -- `Planner::standings_on` meets its contract.
-use mathlib.Core.Path.{_≡_}
+use mathlib.Core.Path.{◌≡◌}
 use native.Mathlib.Omega.{arith}
-use borrow.Author.Needs.{needs}
-use Rattle·rules.specs.Bus.{Table}
-use Rattle·rules.specs.Planner.{Off}
-use Rattle·verdict.specs.Analysed.{Accepted}
-use Rattle·planner·specs.specs.State.{plannerOf, slotOf}
-use Rattle·planner·proofs.proofs.CourseNumbers.{timed}
-use Rattle·planner·proofs.proofs.Off.{still-bounded, state-keeps, state-reached}
-use Rattle·planner·proofs.proofs.Checks.{standings-off, standings-done}
-use Rattle·planner·proofs.proofs.Answering.{standings-answer, standings-own}
-use Rattle·planner·proofs.proofs.Planner.standings_on.Statement.{statement}
-use Rattle·planner·proofs.proofs.Planner.standings_on.Tie as tie
+use borrow.Author.Rules.{rules}
+use Rattle.rules.specs.Bus.{Table}
+use Rattle.rules.specs.Planner.{Off}
+use Rattle.verdict.specs.Analysed.{Accepted}
+use Rattle.planner.specs.State.{planner_of, slot_of}
+use Rattle.planner.proofs.CourseNumbers.{timed}
+use Rattle.planner.proofs.Off.{still_bounded, state_keeps, state_reached}
+use Rattle.planner.proofs.Checks.{standings_off, standings_done}
+use Rattle.planner.proofs.Answering.{standings_answer, standings_own}
+use Rattle.planner.proofs.Planner.standings_on.Statement.{statement}
+use Rattle.planner.proofs.Planner.standings_on.Tie as tie
 
-no-standings-requires : tie.Need-no-standings-requires
-no-standings-requires c κs = search needs
+no-standings-requires : tie.Need-no_standings-requires
+no-standings-requires c κs = search rules
 
-returns : tie.Need-returns
+returns : tie.Need-returns-then-answer-ne-DONE
 returns c = record {
-  done = λ z. absurd (c .before .if1 .taken z);
-  refused = λ h. c .no-standings .ensures;
+  done = λ z. absurd (c.if-answer-ne-DONE.true z);
+  refused = λ h. c.no_standings.ensures;
 }
 
 -- ---- past the first test a table is admitted
 
-abbrev entry : tie.Else1 → tie.Start
-entry c = c .before .before .before
+abbrev entry : tie.Else-answer-ne-DONE → tie.Start
+entry c = c.before.before.before
 
 -- some table that it is the analysis of
-some : (c : tie.Else1) → (t : Table) × Accepted t (entry c .args .t2)
-some c = entry c .pre (c .if1 .left)
+some : (c : tie.Else-answer-ne-DONE) → (t : Table) × Accepted t (entry c).args.table
+some c = (entry c).requires c.if-answer-ne-DONE.false
 
-slot-reached-requires : tie.Need-slot-reached-requires
-slot-reached-requires c κs = let w = some (c .before) in (w .0, timed (w .1))
+slot-reached-requires : tie.Need-slot_reached-slot-requires
+slot-reached-requires c κs = let w = some c.before in (w.0, timed w.1)
 
-abbrev passed : tie.After-slot-reached → tie.Else1
-passed c = c .before .before
+abbrev passed : tie.After-slot_reached-slot → tie.Else-answer-ne-DONE
+passed c = c.before.before
 
-here : (c : tie.After-slot-reached) {t : Table} → Accepted t (entry (passed c) .args .t2)
-    → c .slot-reached .result ≡ slotOf t (entry (passed c) .args .t1 .stage)
-here c {t} A = c .slot-reached .ensures t (timed A)
+here : (c : tie.After-slot_reached-slot) {t : Table} → Accepted t (entry (passed c)).args.table
+    → c.slot_reached-slot.result ≡ slot_of t (entry (passed c)).args.self.stage
+here c {t} A = c.slot_reached-slot.ensures t (timed A)
 
-is-off-requires : tie.Need-is-off-requires
-is-off-requires c κs = let w = some (passed c) in (w .0, w .1, here c (w .1))
+is-off-requires : tie.Need-is_off-requires
+is-off-requires c κs = let w = some (passed c) in (w.0, w.1, here c w.1)
 
 at-requires : tie.Need-at-requires
-at-requires c κs = search needs
+at-requires c κs = search rules
 
-no-standings-requires-2 : tie.Need-no-standings-requires-2
-no-standings-requires-2 c κs = search needs
+no-standings-requires-2 : tie.Need-no_standings-requires-then-is_off
+no-standings-requires-2 c κs = search rules
 
-returns-2 : tie.Need-returns-2
+returns-2 : tie.Need-returns-then-is_off
 returns-2 c =
-    let O = c .before .before .before in
-    let R = O .before in
-    let p = entry (passed R) .args .t1 in
+    let O = c in
+    let R = O.before.before.before.before in
+    let p = (entry (passed R)).args.self in
     record {
       done = λ z t A.
-          rw (c .no-standings2 .ensures)
-          (standings-own t (c .before .at .ensures) (omega arith) p
-          (standings-off t (plannerOf p) (O .is-off .ensures t A (here R A) .holds (c .before .before .if2 .taken))));
-      refused = λ h. absurd (h (passed R .if1 .left));
+          rw c.no_standings-then-is_off.ensures
+          (standings_own t c.at.ensures (omega arith) p
+          (standings_off t (planner_of p) ((O.is_off.ensures t A (here R A)).holds c.if-is_off.true)));
+      refused = λ h. absurd (h (passed R).if-answer-ne-DONE.false);
     }
 
 -- ---- and past the next test the state is not off
 
-still : (c : tie.Else2) {t : Table} → Accepted t (entry (passed (c .before .before)) .args .t2)
-    → ¬ Off t (plannerOf (entry (passed (c .before .before)) .args .t1))
-still c {t} A = c .before .is-off .ensures t A (here (c .before .before) A) .fails (c .if2 .left)
+still : (c : tie.Else-is_off) {t : Table} → Accepted t (entry (passed c.before.before)).args.table
+    → ¬ Off t (planner_of (entry (passed c.before.before)).args.self)
+still c {t} A = (c.is_off.ensures t A (here c.before.before A)).fails c.if-is_off.false
 
 done-requires : tie.Need-done-requires
-done-requires c κs = search needs
+done-requires c κs = search rules
 
 standings-requires : tie.Need-standings-requires
 standings-requires c κs =
-    let N = c .before .before .before .before .before in
-    let R = N .before .before in
-    let A = some (passed R) .1 in
-    let p = entry (passed R) .args .t1 in
-    (still-bounded A p (here R A) (still N A), state-keeps A p (here R A) (still N A))
+    let N = c.before.before.before in
+    let R = N.before.before in
+    let A = (some (passed R)).1 in
+    let p = (entry (passed R)).args.self in
+    (still_bounded A p (here R A) (still N A), state_keeps A p (here R A) (still N A))
 
-returns-3 : tie.Need-returns-3
+returns-3 : tie.Need-returns
 returns-3 c =
-    let D = c .before .before .before .before .before in
-    let N = D .before in
-    let R = N .before .before in
-    let p = entry (passed R) .args .t1 in
+    let D = c in
+    let N = D.before.before.before.before in
+    let R = N.before.before in
+    let p = (entry (passed R)).args.self in
     record {
       done = λ z t A.
-          standings-answer A _ (D .done .ensures) p _ (state-reached A p (here R A) (still N A)) (c .standings .result)
-          (standings-done t (plannerOf p) (still N A)) (c .standings .ensures);
-      refused = λ h. absurd (h (passed R .if1 .left));
+          standings_answer A _ D.done.ensures p _ (state_reached A p (here R A) (still N A)) c.standings.result
+          (standings_done t (planner_of p) (still N A)) c.standings.ensures;
+      refused = λ h. absurd (h (passed R).if-answer-ne-DONE.false);
     }
 
-pub standings-on-spec : {M : Type 1} → statement M
-standings-on-spec =
+pub standings_on_spec : {M : Type 1} → statement M
+standings_on_spec =
     tie.close
     (tie.spec
     no-standings-requires

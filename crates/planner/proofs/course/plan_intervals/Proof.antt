@@ -1,354 +1,353 @@
 -- `course::plan_intervals` meets its contract: `Planning` says what its loop keeps, and the pieces of an interval make it
--- (`advanced-of`).
-use mathlib.Core.Path.{_≡_, refl, sym, _∙_}
-use mathlib.Core.List.{List, _++_}
-use mathlib.Core.Logic.{⊎-elim}
-use Prim.Native.Nat.{ℕ, _+_, _-_, _*_, _/_, _%_, _≤_, _<_}
+-- (`advanced_of`).
+use mathlib.Core.Path.{◌≡◌, refl}
+use mathlib.Core.List.{List, ◌++◌}
+use Prim.Native.Nat.{ℕ, ◌+◌, ◌-◌, ◌≤◌, ◌<◌}
 use native.Mathlib.Omega.{arith}
-use borrow.Author.Needs.{needs}
 use lib.ListN.{length, take, drop, length-take, length-drop}
-use Rattle·numbers.specs.Lists.{at}
-use Rattle·rules.specs.Bounds.{max-rows, max-slots}
-use Rattle·rules.specs.Bus.{Table}
-use Rattle·rules.specs.Loads.{end}
-use Rattle·placing.specs.Filled.{FilledSlots}
-use Rattle·interval.specs.Ready.{Laid, Ready, Due}
-use Rattle·interval.proofs.Course.{all-laid, rows-chained, interval-short, shares-fit, are-parts, whole-fit, advanced-of}
-use Rattle·planner·specs.specs.Plannable.{Plannable}
-use Rattle·planner·proofs.proofs.CourseNumbers.{timed, few-rows, few-sets, few-periods, hyper-positive, hyper-short}
-use Rattle·planner·proofs.proofs.Shared.{low-sets, firsts-low, ready-of}
-use Rattle·planner·proofs.proofs.Walked.{Planning, planning-start, planning-begins, planning-due, planning-low, planning-room}
-use Rattle·planner·proofs.proofs.Walked.{planning-next, planning-end}
-use Rattle·planner·proofs.proofs.course.plan_intervals.Statement.{statement}
-use Rattle·planner·proofs.proofs.course.plan_intervals.Tie as tie
+use Rattle.numbers.specs.Lists.{at}
+use Rattle.rules.specs.Bounds.{max_rows, max_slots}
+use Rattle.rules.specs.Bus.{Table}
+use Rattle.rules.specs.Loads.{end}
+use Rattle.placing.specs.Filled.{FilledSlots}
+use Rattle.interval.specs.Ready.{Laid, Ready, Due}
+use Rattle.interval.proofs.Course.{all_laid, rows_chained, interval_short, shares_fit, are_parts, whole_fit, advanced_of}
+use Rattle.planner.specs.Plannable.{Plannable}
+use Rattle.planner.proofs.CourseNumbers.{timed, few_rows, few_sets, few_periods, hyper_positive, hyper_short}
+use Rattle.planner.proofs.Shared.{low_sets, firsts_low, ready_of}
+use Rattle.planner.proofs.Walked.{Planning, planning_start, planning_begins, planning_due, planning_low, planning_room}
+use Rattle.planner.proofs.Walked.{planning_next, planning_end}
+use Rattle.planner.proofs.course.plan_intervals.Statement.{statement}
+use Rattle.planner.proofs.course.plan_intervals.Tie as tie
+use Rattle.planner.proofs.course.plan_intervals.Lts.{then-plain, else-plain}
 
-abbrev Inv-loop : tie.InvT-loop
-Inv-loop plain from until plan₀ table rows top time folded tail head out into heads next size even inverse load₀ part₀ after₀ slot₀
+abbrev invariant-loop : tie.invariant-loop-slot
+invariant-loop plain from until plan₀ table rows top time folded tail head out into heads next size even inverse load₀ part₀ after₀ slot₀
     at₀ plan load part after slot at =
-    (length load ≡ max-rows) × (length part ≡ max-rows)
+    (length load ≡ max_rows) × (length part ≡ max_rows)
     × ((t : Table) (k m : ℕ) → Plannable t table k m from until after₀ (length plan₀) → Planning t k m after₀ plan₀ slot at after plan)
 
-abbrev μ-loop : tie.MeasureT-loop
-μ-loop plain from until plan₀ table rows top time folded tail head out into heads next size even inverse load₀ part₀ after₀ slot₀ at₀
+abbrev decreases-loop : tie.decreases-loop-slot
+decreases-loop plain from until plan₀ table rows top time folded tail head out into heads next size even inverse load₀ part₀ after₀ slot₀ at₀
     plan load part after slot at = until - slot
 
 -- ---- what the intervals share
 
 -- the function's entry, from where it is laid out
-abbrev entry : tie.After-lay Inv-loop μ-loop → tie.Start Inv-loop μ-loop
-entry c = c .before .before .before .before .before .before .before .before .before .before .before .before .before
+abbrev entry : tie.After-lay invariant-loop decreases-loop → tie.Start invariant-loop decreases-loop
+entry c = c.before.before.before.before.before.before.before.before.before.before.before.before
 
 -- where the sets are folded
-abbrev folding : tie.After-lay Inv-loop μ-loop → tie.After-fold-sets Inv-loop μ-loop
-folding c = c .before .before .before .before .before .before
+abbrev folding : tie.After-lay invariant-loop decreases-loop → tie.After-fold_sets-folded invariant-loop decreases-loop
+folding c = c.before.before.before.before.before.before
 
-fold-sets-requires : tie.Need-fold-sets-requires Inv-loop μ-loop
+fold-sets-requires : tie.Need-fold_sets-folded-requires invariant-loop decreases-loop
 fold-sets-requires c κs =
-    let A = c .before .before .before .before .before .before .pre .3 .accepted in
-    (few-rows A, few-sets A, A .outline .size)
+    let A = c.requires.3.accepted in
+    (few_rows A, few_sets A, A.outline.size)
 
-lay-requires : tie.Need-lay-requires Inv-loop μ-loop
+lay-requires : tie.Need-lay-requires invariant-loop decreases-loop
 lay-requires c κs =
-    let f = c .before .before .before .before .before in
-    let A = f .before .before .before .before .before .before .before .pre .3 .accepted in
-    (few-rows A, low-sets A (f .fold-sets .ensures), refl, refl, refl, refl)
+    let f = c in
+    let A = f.requires.3.accepted in
+    (few_rows A, low_sets A f.fold_sets-folded.ensures, refl, refl, refl, refl)
 
-chain-requires : tie.Need-chain-requires Inv-loop μ-loop
+chain-requires : tie.Need-chain-requires invariant-loop decreases-loop
 chain-requires c κs =
-    let A = entry (c .before .before .before .before) .pre .3 .accepted in
-    (few-rows A, firsts-low A, refl, refl)
+    let A = (entry c.before.before.before).requires.3.accepted in
+    (few_rows A, firsts_low A, refl, refl)
 
 -- where the nodes are laid out, from where the rows are chained
-abbrev linking : tie.After-chain Inv-loop μ-loop → tie.After-lay Inv-loop μ-loop
-linking c = c .before .before .before .before .before
+abbrev linking : tie.After-chain invariant-loop decreases-loop → tie.After-lay invariant-loop decreases-loop
+linking c = c.before.before.before.before
 
-has-shortest-requires : tie.Need-has-shortest-requires Inv-loop μ-loop
-has-shortest-requires c κs = few-periods (entry (linking (c .before .before)) .pre .3 .accepted)
+has-shortest-requires : tie.Need-has_shortest-even-requires invariant-loop decreases-loop
+has-shortest-requires c κs = few_periods (entry (linking c.before)).requires.3.accepted
 
 -- both, from what comes after
-abbrev chained : tie.After-has-shortest Inv-loop μ-loop → tie.After-chain Inv-loop μ-loop
-chained c = c .before .before .before
+abbrev chained : tie.After-has_shortest-even invariant-loop decreases-loop → tie.After-chain invariant-loop decreases-loop
+chained c = c.before.before
 
-abbrev laid : tie.After-has-shortest Inv-loop μ-loop → tie.After-lay Inv-loop μ-loop
+abbrev laid : tie.After-has_shortest-even invariant-loop decreases-loop → tie.After-lay invariant-loop decreases-loop
 laid c = linking (chained c)
 
 -- the arrays that are laid out
-abbrev arrays : tie.After-chain Inv-loop μ-loop → Laid
+abbrev arrays : tie.After-chain invariant-loop decreases-loop → Laid
 arrays c =
-    let l = linking c .lay .last in
-    let k = c .chain .last in
+    let l = (linking c).lay.new in
+    let k = c.chain.new in
     record {
-      tail = l .1 .1 .1 .0;
-      head = l .1 .1 .1 .1 .0;
-      out = l .1 .1 .1 .1 .1 .0;
-      into = l .1 .1 .1 .1 .1 .1 .0;
-      heads = k .1 .1 .0;
-      next = k .1 .1 .1 .0;
+      tail = l.tail;
+      head = l.head;
+      out = l.out;
+      into = l.into;
+      heads = k.head;
+      next = k.next;
     }
 
-inverse-of-requires : tie.Need-inverse-of-requires Inv-loop μ-loop
-inverse-of-requires c κs = let A = entry (laid c) .pre .3 .accepted in (hyper-positive A, hyper-short A)
+inverse-of-requires : tie.Need-inverse_of-inverse-requires invariant-loop decreases-loop
+inverse-of-requires c κs = let A = (entry (laid c)).requires.3.accepted in (hyper_positive A, hyper_short A)
 
 -- ---- where the loop begins
 
 -- where all is set
 abbrev Set : Type 0
-Set = tie.After-inverse-of Inv-loop μ-loop
+Set = tie.After-inverse_of-inverse invariant-loop decreases-loop
 
-abbrev entered : Set → tie.Start Inv-loop μ-loop
-entered c = entry (laid (c .before))
+abbrev entered : Set → tie.Start invariant-loop decreases-loop
+entered c = entry (laid c.before)
 
-loop-holds : tie.Need-loop-holds Inv-loop μ-loop
-loop-holds c = (refl, refl, λ t k m P. planning-start (entered c .args .plan .now) P)
+loop-holds : tie.Need-loop-slot-init invariant-loop decreases-loop
+loop-holds c = (refl, refl, λ t k m P. planning_start (entered c).args.plan.now P)
 
 -- ---- a turn: an interval of the table begins, and there is room for it
 
-abbrev chaining : tie.In-loop Inv-loop μ-loop → tie.After-chain Inv-loop μ-loop
-chaining c = chained (c .before .before .before)
+abbrev chaining : tie.In-loop-slot invariant-loop decreases-loop → tie.After-chain invariant-loop decreases-loop
+chaining c = chained c.before.before.before
 
-abbrev laying : tie.In-loop Inv-loop μ-loop → tie.After-lay Inv-loop μ-loop
+abbrev laying : tie.In-loop-slot invariant-loop decreases-loop → tie.After-lay invariant-loop decreases-loop
 laying c = linking (chaining c)
 
-abbrev begun : tie.In-loop Inv-loop μ-loop → tie.Start Inv-loop μ-loop
+abbrev begun : tie.In-loop-slot invariant-loop decreases-loop → tie.Start invariant-loop decreases-loop
 begun c = entry (laying c)
 
 -- t is a table that is given to be planned
-abbrev Given : tie.Start Inv-loop μ-loop → Table → ℕ → ℕ → Type 0
-Given S t k m = Plannable t (S .args .t1) k m (S .args .from) (S .args .until) (S .args .totals) (length (S .args .plan .now))
+abbrev Given : tie.Start invariant-loop decreases-loop → Table → ℕ → ℕ → Type 0
+Given S t k m = Plannable t S.args.table k m S.args.from S.args.until S.args.totals (length S.args.plan.now)
 
 -- the one that the call was made with
-abbrev given : (c : tie.In-loop Inv-loop μ-loop) → Given (begun c) (begun c .pre .0) (begun c .pre .1) (begun c .pre .2)
-given c = begun c .pre .3
+abbrev given : (c : tie.In-loop-slot invariant-loop decreases-loop) → Given (begun c) (begun c).requires.0 (begun c).requires.1 (begun c).requires.2
+given c = (begun c).requires.3
 
-end-of-requires : tie.Need-end-of-requires Inv-loop μ-loop
+end-of-requires : tie.Need-end_of-end-requires invariant-loop decreases-loop
 end-of-requires c κs =
-    let d = c .before .before in
+    let d = c.before in
     let P = given d in
-    let L = d .before .loop .inv .2 _ _ _ P in (
+    let L = d.loop-slot.invariant.2 _ _ _ P in (
       (
-        begun d .pre .0,
-        L .number,
-        begun d .args .t1 .outline .time .hyper,
-        timed (P .accepted),
-        planning-begins (begun d .args .plan .now) P L (d .loop-test .taken),
+        (begun d).requires.0,
+        L.number,
+        (begun d).args.table.outline.time.hyper,
+        timed P.accepted,
+        planning_begins (begun d).args.plan.now P L d.loop-slot-test.true,
       ),
-      d .before .before .before .has-shortest .ensures,
+      d.has_shortest-even.ensures,
     )
 
 -- where the turn begins, from where its end is found
-abbrev turned : tie.After-end-of Inv-loop μ-loop → tie.In-loop Inv-loop μ-loop
-turned c = c .before .before .before
+abbrev turned : tie.After-end_of-end invariant-loop decreases-loop → tie.In-loop-slot invariant-loop decreases-loop
+turned c = c.before.before
 
-module _ (c : tie.After-end-of Inv-loop μ-loop) {t : Table} {k m : ℕ} (P : Given (begun (turned c)) t k m) where
-  abbrev done : Planning t k m (begun (turned c) .args .totals) (begun (turned c) .args .plan .now) (turned c .before .loop .slot)
-      (turned c .before .loop .at) (turned c .before .loop .after) (turned c .before .loop .plan)
-  done = turned c .before .loop .inv .2 t k m P
+module _ (c : tie.After-end_of-end invariant-loop decreases-loop) {t : Table} {k m : ℕ} (P : Given (begun (turned c)) t k m) where
+  abbrev done : Planning t k m (begun (turned c)).args.totals (begun (turned c)).args.plan.now (turned c).before.loop-slot.slot
+      (turned c).before.loop-slot.at (turned c).before.loop-slot.after (turned c).before.loop-slot.plan
+  done = (turned c).before.loop-slot.invariant.2 t k m P
 
-  ends : c .end-of .result ≡ end t (done .number)
+  ends : c.end_of-end.result ≡ end t done.number
   ends =
-      c .end-of .ensures t (done .number) (begun (turned c) .args .t1 .outline .time .hyper) (timed (P .accepted))
-      (planning-begins (begun (turned c) .args .plan .now) P done (turned c .loop-test .taken))
+      c.end_of-end.ensures t done.number (begun (turned c)).args.table.outline.time.hyper (timed P.accepted)
+      (planning_begins (begun (turned c)).args.plan.now P done (turned c).loop-slot-test.true)
 
-  due : Due t (done .number) (turned c .before .loop .slot) (c .end-of .result) (turned c .before .loop .after)
-  due = planning-due (begun (turned c) .args .plan .now) P done (turned c .loop-test .taken) _ ends
+  due : Due t done.number (turned c).before.loop-slot.slot c.end_of-end.result (turned c).before.loop-slot.after
+  due = planning_due (begun (turned c)).args.plan.now P done (turned c).loop-slot-test.true _ ends
 
-  ends-low : c .end-of .result ≤ max-slots
-  ends-low = planning-low (begun (turned c) .args .plan .now) P done (turned c .loop-test .taken) _ ends
+  ends_low : c.end_of-end.result ≤ max_slots
+  ends_low = planning_low (begun (turned c)).args.plan.now P done (turned c).loop-slot-test.true _ ends
 
-  roomy : (turned c .before .loop .slot < c .end-of .result)
-      × (turned c .before .loop .at + (c .end-of .result - turned c .before .loop .slot) ≤ length (begun (turned c) .args .plan .now))
-      × (length (turned c .before .loop .plan) ≡ length (begun (turned c) .args .plan .now))
-  roomy = planning-room (begun (turned c) .args .plan .now) P done (turned c .loop-test .taken) _ ends
+  roomy : ((turned c).before.loop-slot.slot < c.end_of-end.result)
+      × ((turned c).before.loop-slot.at + (c.end_of-end.result - (turned c).before.loop-slot.slot) ≤ length (begun (turned c)).args.plan.now)
+      × (length (turned c).before.loop-slot.plan ≡ length (begun (turned c)).args.plan.now)
+  roomy = planning_room (begun (turned c)).args.plan.now P done (turned c).loop-slot-test.true _ ends
 
   -- what it stands on
-  ready : let a = begun (turned c) .args .t1 in let L = laying (turned c) in let F = folding L .fold-sets in
-      Ready t (record { rows = a .outline .rows; sets = F .result .sets; hyper = a .outline .time .hyper }) (a .outline .top)
-      (a .outline .first) (a .outline .second) (a .rate) (F .result .upper) (F .last .1 .1 .1 .1 .0)
+  ready : let a = (begun (turned c)).args.table in let L = laying (turned c) in let F = (folding L).fold_sets-folded in
+      Ready t (record { rows = a.outline.rows; sets = F.result.sets; hyper = a.outline.time.hyper }) a.outline.top
+      a.outline.first a.outline.second a.rate F.result.upper F.new.words
       (arrays (chaining (turned c)))
   ready =
       let h = chaining (turned c) in
-      ready-of (P .accepted) (folding (laying (turned c)) .fold-sets .ensures) {L = arrays h} (linking h .lay .ensures)
-      (h .chain .ensures)
+      ready_of P.accepted (folding (laying (turned c))).fold_sets-folded.ensures {L = arrays h} (linking h).lay.ensures
+      h.chain.ensures
 
-  place-low : turned c .before .loop .at ≤ max-slots
-  place-low = omega (arith, done .place, ends-low, roomy .0)
+  place-low : (turned c).before.loop-slot.at ≤ max_slots
+  place-low = omega (arith, done.place, ends_low, roomy.0)
 
-sub-slots : tie.Need-sub-slots Inv-loop μ-loop
+sub-slots : tie.Need-overflow_sub-slots invariant-loop decreases-loop
 sub-slots c = omega (arith, roomy c (given (turned c)))
 
 -- ---- its pieces
 
-part-shares-requires : tie.Need-part-shares-requires Inv-loop μ-loop
+part-shares-requires : tie.Need-part_shares-parted-requires invariant-loop decreases-loop
 part-shares-requires c κs =
-    let I = c .before .before .before .before in
-    let A = given (turned I) .accepted in
-    let l = turned I .before in (
-      few-rows A,
-      hyper-positive A,
-      hyper-short A,
-      l .before .inverse-of .ensures,
-      shares-fit (ready I (given (turned I))) (due I (given (turned I))),
-      l .loop .inv .0,
-      l .loop .inv .1,
+    let I = c.before.before.before in
+    let A = (given (turned I)).accepted in
+    let l = (turned I) in (
+      few_rows A,
+      hyper_positive A,
+      hyper_short A,
+      l.inverse_of-inverse.ensures,
+      shares_fit (ready I (given (turned I))) (due I (given (turned I))),
+      l.loop-slot.invariant.0,
+      l.loop-slot.invariant.1,
     )
 
 -- the turn, from where the shares are had and from where the loads are given
 abbrev Parted : Type 0
-Parted = tie.After-part-shares Inv-loop μ-loop
+Parted = tie.After-part_shares-parted invariant-loop decreases-loop
 
-abbrev parting : Parted → tie.After-end-of Inv-loop μ-loop
-parting p = p .before .before .before .before .before
+abbrev parting : Parted → tie.After-end_of-end invariant-loop decreases-loop
+parting p = p.before.before.before.before
 
-abbrev rounding : tie.After-round-rows Inv-loop μ-loop → Parted
-rounding r = r .before .before .before .before .before .before
+abbrev rounding : tie.After-round_rows-rounded invariant-loop decreases-loop → Parted
+rounding r = r.before.before.before.before.before.before
 
-abbrev giving : tie.After-give Inv-loop μ-loop → tie.After-round-rows Inv-loop μ-loop
-giving g = g .before .before .before
+abbrev giving : tie.After-give invariant-loop decreases-loop → tie.After-round_rows-rounded invariant-loop decreases-loop
+giving g = g.before.before.before
 
-abbrev turn : tie.After-give Inv-loop μ-loop → tie.After-end-of Inv-loop μ-loop
+abbrev turn : tie.After-give invariant-loop decreases-loop → tie.After-end_of-end invariant-loop decreases-loop
 turn g = parting (rounding (giving g))
 
 -- the whole slots of the shares, and the parts above them
 abbrev whole : Parted → List ℕ
-whole p = p .part-shares .last .1 .1 .1 .1 .0
+whole p = p.part_shares-parted.new.whole
 
 abbrev part : Parted → List ℕ
-part p = p .part-shares .last .1 .1 .1 .1 .1 .0
+part p = p.part_shares-parted.new.part
 
 -- the loads, and the totals with them
-abbrev load : tie.After-give Inv-loop μ-loop → List ℕ
-load g = g .give .last .1 .1 .0
+abbrev load : tie.After-give invariant-loop decreases-loop → List ℕ
+load g = g.give.new.load
 
-abbrev totals : tie.After-give Inv-loop μ-loop → List ℕ
-totals g = g .give .last .1 .1 .1 .0
+abbrev totals : tie.After-give invariant-loop decreases-loop → List ℕ
+totals g = g.give.new.totals
 
-round-rows-requires : tie.Need-round-rows-requires Inv-loop μ-loop
+round-rows-requires : tie.Need-round_rows-rounded-requires invariant-loop decreases-loop
 round-rows-requires c κs =
-    let p = c .before .before .before .before .before in
+    let p = c.before.before.before.before.before in
     let I = parting p in
     let R = ready I (given (turned I)) in
-    let S = p .part-shares .ensures in
-    (all-laid R, are-parts R (due I (given (turned I))) (whole p) (part p) (S .2), S .3)
+    let S = p.part_shares-parted.ensures in
+    (all_laid R, are_parts R (due I (given (turned I))) (whole p) (part p) S.2, S.3)
 
-give-requires : tie.Need-give-requires Inv-loop μ-loop
+give-requires : tie.Need-give-requires invariant-loop decreases-loop
 give-requires c κs =
-    let p = rounding (c .before .before) in
+    let p = rounding c.before.before in
     let I = parting p in
     let P = given (turned I) in (
-      few-rows (P .accepted),
-      whole-fit (ready I P) (due I P) (whole p) (part p) (p .part-shares .ensures .2),
-      p .part-shares .ensures .0,
-      done I P .size,
+      few_rows P.accepted,
+      whole_fit (ready I P) (due I P) (whole p) (part p) p.part_shares-parted.ensures.2,
+      p.part_shares-parted.ensures.0,
+      (done I P).size,
     )
 
 -- the slots can be filled
-module _ (g : tie.After-give Inv-loop μ-loop) where
-  abbrev here : tie.In-loop Inv-loop μ-loop
+module _ (g : tie.After-give invariant-loop decreases-loop) where
+  abbrev here : tie.In-loop-slot invariant-loop decreases-loop
   here = turned (turn g)
 
-  at-low : here .before .loop .at ≤ max-slots
-  at-low = place-low (turn g) (given here)
+  at_low : here.before.loop-slot.at ≤ max_slots
+  at_low = place-low (turn g) (given here)
 
-  at-in : here .before .loop .at ≤ length (here .before .loop .plan)
-  at-in = omega (arith, roomy (turn g) (given here))
+  at_in : here.before.loop-slot.at ≤ length here.before.loop-slot.plan
+  at_in = omega (arith, roomy (turn g) (given here))
 
-  short : turn g .end-of .result - here .before .loop .slot ≤ max-slots
-  short = interval-short (ready (turn g) (given here)) (due (turn g) (given here))
+  short : (turn g).end_of-end.result - here.before.loop-slot.slot ≤ max_slots
+  short = interval_short (ready (turn g) (given here)) (due (turn g) (given here))
 
   -- the part of the plan that is lent, and the plan with it back
   abbrev lent : List ℕ
-  lent = take (length (here .before .loop .plan) - here .before .loop .at) (drop (here .before .loop .at) (here .before .loop .plan))
+  lent = take (length here.before.loop-slot.plan - here.before.loop-slot.at) (drop here.before.loop-slot.at here.before.loop-slot.plan)
 
-  room : turn g .end-of .result - here .before .loop .slot ≤ length lent
+  room : (turn g).end_of-end.result - here.before.loop-slot.slot ≤ length lent
   room = simp (length-take, length-drop) (omega (arith, roomy (turn g) (given here)))
 
   abbrev joined : List ℕ → List ℕ
   joined ys =
-      take (here .before .loop .at) (here .before .loop .plan)
+      take here.before.loop-slot.at here.before.loop-slot.plan
       ++ (ys
-      ++ drop (length (here .before .loop .plan) - here .before .loop .at) (drop (here .before .loop .at) (here .before .loop .plan)))
+      ++ drop (length here.before.loop-slot.plan - here.before.loop-slot.at) (drop here.before.loop-slot.at here.before.loop-slot.plan))
 
   -- however they are filled, the interval is done
-  next : (ys : List ℕ) → FilledSlots (begun here .args .t1 .outline .rows) (at (begun here .args .t1 .outline .first))
-      (at (begun here .args .t1 .outline .second)) (at (load g)) (turn g .end-of .result - here .before .loop .slot) lent ys
+  next : (ys : List ℕ) → FilledSlots (begun here).args.table.outline.rows (at (begun here).args.table.outline.first)
+      (at (begun here).args.table.outline.second) (at (load g)) ((turn g).end_of-end.result - here.before.loop-slot.slot) lent ys
       → (t : Table) (k m : ℕ) → Given (begun here) t k m
-      → Planning t k m (begun here .args .totals) (begun here .args .plan .now) (turn g .end-of .result)
-      (here .before .loop .at + (turn g .end-of .result - here .before .loop .slot)) (totals g) (joined ys)
+      → Planning t k m (begun here).args.totals (begun here).args.plan.now (turn g).end_of-end.result
+      (here.before.loop-slot.at + ((turn g).end_of-end.result - here.before.loop-slot.slot)) (totals g) (joined ys)
   next ys F t k m P =
       let p = rounding (giving g) in
-      planning-next (begun here .args .plan .now) P (done (turn g) P) (here .loop-test .taken) _ (ends (turn g) P) (totals g) ys
-      (advanced-of (ready (turn g) P) (due (turn g) P) (whole p) (part p) (p .part-shares .ensures .2) (giving g .round-rows .result)
-      (at (load g)) (at (totals g)) (giving g .round-rows .ensures) (g .give .ensures .2) (λ i. refl) (g .give .ensures .1) F)
+      planning_next (begun here).args.plan.now P (done (turn g) P) here.loop-slot-test.true _ (ends (turn g) P) (totals g) ys
+      (advanced_of (ready (turn g) P) (due (turn g) P) (whole p) (part p) p.part_shares-parted.ensures.2 (giving g).round_rows-rounded.result
+      (at (load g)) (at (totals g)) (giving g).round_rows-rounded.ensures g.give.ensures.2 (λ i. refl) g.give.ensures.1 F)
 
-mul-fill-plain : tie.Need-mul-fill-plain Inv-loop μ-loop
-mul-fill-plain c = omega (arith, at-low (c .before .before .before .before .before .before .before))
+mul-fill-plain : tie.Need-offset_bounds-plan-at invariant-loop decreases-loop
+mul-fill-plain c = omega (arith, at_low c.before.before.before.before.before.before)
 
-sub-fill-plain : tie.Need-sub-fill-plain Inv-loop μ-loop
-sub-fill-plain c = omega (arith, at-in (c .before .before .before .before .before .before .before))
+sub-fill-plain : tie.Need-slice_bounds-fill_plain-count invariant-loop decreases-loop
+sub-fill-plain c = omega (arith, at_in c.before.before.before.before.before.before)
 
-part-fill-plain-start : tie.Need-part-fill-plain-start Inv-loop μ-loop
-part-fill-plain-start c = omega (arith, at-in (c .before .before .before .before .before .before .before))
+part-fill-plain-start : tie.Need-slice_bounds-fill_plain-start invariant-loop decreases-loop
+part-fill-plain-start c = omega (arith, at_in c.before.before.before.before.before.before)
 
-part-fill-plain-end : tie.Need-part-fill-plain-end Inv-loop μ-loop
-part-fill-plain-end c = omega (arith, at-in (c .before .before .before .before .before .before .before))
+part-fill-plain-end : tie.Need-slice_bounds-fill_plain-end invariant-loop decreases-loop
+part-fill-plain-end c = omega (arith, at_in c.before.before.before.before.before.before)
 
-fill-plain-requires : tie.Need-fill-plain-requires Inv-loop μ-loop
+fill-plain-requires : tie.Need-fill_plain-requires invariant-loop decreases-loop
 fill-plain-requires c κs =
-    let g = c .before .before .before .before .before .before .before .before in
-    ((_, rows-chained (ready (turn g) (given (here g)))), room g)
+    let g = c.before.before.before.before.before.before.before in
+    ((_, rows_chained (ready (turn g) (given (here g)))), room g)
 
-mul-fill : tie.Need-mul-fill Inv-loop μ-loop
-mul-fill c = omega (arith, at-low (c .before .before .before .before .before .before))
+mul-fill : tie.Need-offset_bounds-plan-at-else-plain invariant-loop decreases-loop
+mul-fill c = omega (arith, at_low c.before.before.before.before.before)
 
-sub-fill : tie.Need-sub-fill Inv-loop μ-loop
-sub-fill c = omega (arith, at-in (c .before .before .before .before .before .before))
+sub-fill : tie.Need-slice_bounds-fill-count invariant-loop decreases-loop
+sub-fill c = omega (arith, at_in c.before.before.before.before.before)
 
-part-fill-start : tie.Need-part-fill-start Inv-loop μ-loop
-part-fill-start c = omega (arith, at-in (c .before .before .before .before .before .before))
+part-fill-start : tie.Need-slice_bounds-fill-start invariant-loop decreases-loop
+part-fill-start c = omega (arith, at_in c.before.before.before.before.before)
 
-part-fill-end : tie.Need-part-fill-end Inv-loop μ-loop
-part-fill-end c = omega (arith, at-in (c .before .before .before .before .before .before))
+part-fill-end : tie.Need-slice_bounds-fill-end invariant-loop decreases-loop
+part-fill-end c = omega (arith, at_in c.before.before.before.before.before)
 
-fill-requires : tie.Need-fill-requires Inv-loop μ-loop
+fill-requires : tie.Need-fill-requires invariant-loop decreases-loop
 fill-requires c κs =
-    let g = c .before .before .before .before .before .before .before in
-    ((_, _, rows-chained (ready (turn g) (given (here g)))), short g, room g)
+    let g = c.before.before.before.before.before.before in
+    ((_, _, rows_chained (ready (turn g) (given (here g)))), short g, room g)
 
 -- ---- on to the next
 
-add-at : tie.Need-add-at Inv-loop μ-loop
-add-at c = omega (arith, at-low (c .before), short (c .before))
+add_at : tie.Need-overflow_add-at invariant-loop decreases-loop
+add_at c = omega (arith, at_low c.before, short c.before)
 
-loop-less : tie.Need-loop-less Inv-loop μ-loop
-loop-less c = let I = turn (c .before) in omega (arith, turned I .loop-test .taken, roomy I (given (turned I)) .0)
+loop-less : tie.Need-loop-slot-smaller invariant-loop decreases-loop
+loop-less c = let I = turn c.before in omega (arith, (turned I).loop-slot-test.true, (roomy I (given (turned I))).0)
 
-loop-again : tie.Need-loop-again Inv-loop μ-loop
+loop-again : tie.Need-loop-slot-preserved invariant-loop decreases-loop
 loop-again c =
-    let g = c .before in
-    let O = rows-chained (ready (turn g) (given (here g))) in
-    let l = g .give .ensures .0 in
-    let S = rounding (giving g) .part-shares .ensures in
-    ⊎-elim
-    (λ w. rw (w .11) (l, S .1, next g (w .8 .last .1 .1 .1 .1 .1 .1 .1 .0) (w .8 .ensures _ O)))
-    (λ w. rw (w .10) (l, S .1, next g (w .7 .last .1 .1 .1 .1 .1 .1 .0) (w .7 .ensures _ _ O)))
-    (c .if1 .came)
+    let g = c.before in
+    let O = rows_chained (ready (turn g) (given (here g))) in
+    let l = g.give.ensures.0 in
+    let S = (rounding (giving g)).part_shares-parted.ensures in
+    elim c.if-plain.branch [
+      | then-plain w ↦ rw w.plan-is (l, S.1, next g w.fill_plain.new.words (w.fill_plain.ensures _ O))
+      | else-plain w ↦ rw w.plan-is (l, S.1, next g w.fill.new.words (w.fill.ensures _ _ O))
+    ]
 
 -- ---- the end
 
-same-length : tie.Need-same-length Inv-loop μ-loop
-same-length c = let S = entered (c .before .before) in c .before .loop .inv .2 _ _ _ (S .pre .3) .filled .same
+same_length : tie.Need-shape_of-plan invariant-loop decreases-loop
+same_length c = let S = entered c.before.before in (c.loop-slot.invariant.2 _ _ _ S.requires.3).filled.same
 
-returns : tie.Need-returns Inv-loop μ-loop
+returns : tie.Need-returns invariant-loop decreases-loop
 returns c t k m P =
-    let S = entered (c .before .before) in
-    planning-end (S .args .plan .now) P (c .before .loop .inv .2 t k m P) (c .loop-test .left)
+    let S = entered c.before.before in
+    planning_end S.args.plan.now P (c.loop-slot.invariant.2 t k m P) c.loop-slot-test.false
 
-pub plan-intervals-spec : {M : Type 1} → statement M
-plan-intervals-spec =
+pub plan_intervals_spec : {M : Type 1} → statement M
+plan_intervals_spec =
     tie.close
     (tie.spec
-    Inv-loop
-    μ-loop
+    invariant-loop
+    decreases-loop
     fold-sets-requires
     lay-requires
     chain-requires
@@ -370,8 +369,8 @@ plan-intervals-spec =
     part-fill-start
     part-fill-end
     fill-requires
-    add-at
+    add_at
     loop-less
     loop-again
-    same-length
+    same_length
     returns)

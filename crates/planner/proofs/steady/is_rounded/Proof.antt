@@ -1,43 +1,43 @@
 -- is_rounded: by products.
-use Prim.Native.Nat.{_+_, _*_, _≤_}
+use Prim.Native.Nat.{◌+◌, ◌*◌, ◌≤◌}
 use native.Mathlib.Nat.{mul-le-mul}
 use native.Mathlib.Omega.{arith}
-use borrow.Author.Needs.{needs}
+use borrow.Author.Rules.{rules}
 use borrow.Author.Tests.{ltb-true, ltb-false, le-ltb}
-use Rattle·numbers.proofs.Rounding.{rounded-is, rounded-of}
-use Rattle·numbers.proofs.Truth.{decides-no}
-use Rattle·rules.specs.Bounds.{max-rows, max-slots}
-use Rattle·planner·proofs.proofs.steady.is_rounded.Statement.{statement}
-use Rattle·planner·proofs.proofs.steady.is_rounded.Tie as tie
+use Rattle.numbers.proofs.Rounding.{rounded_is, rounded_of}
+use Rattle.numbers.proofs.Truth.{decides_no}
+use Rattle.rules.specs.Bounds.{max_rows, max_slots}
+use Rattle.planner.proofs.steady.is_rounded.Statement.{statement}
+use Rattle.planner.proofs.steady.is_rounded.Tie as tie
 
-add-if1 : tie.Need-add-if1
-add-if1 c = search needs
+add-if1 : tie.Need-overflow_add-total
+add-if1 c = search rules
 
-mul-if1 : tie.Need-mul-if1
+mul-if1 : tie.Need-overflow_mul-total
 mul-if1 c =
-    let l : c .args .total + 1 ≤ max-rows * max-slots + 1 = omega arith in
-    omega (arith, mul-le-mul l (c .pre .3))
+    let l : c.args.total + 1 ≤ max_rows * max_slots + 1 = omega arith in
+    omega (arith, mul-le-mul l c.requires.3)
 
-mul-result : tie.Need-mul-result
-mul-result c = omega (arith, mul-le-mul (c .before .pre .0) (c .before .pre .3))
+mul-result : tie.Need-overflow_mul-result
+mul-result c = omega (arith, mul-le-mul c.requires.0 c.requires.3)
 
-add-result : tie.Need-add-result
-add-result c = search needs
+add-result : tie.Need-overflow_add-result
+add-result c = search rules
 
-returns : tie.Need-returns
+returns : tie.Need-returns-then-share-total
 returns c =
-    let n = c .before .args .total in
-    let a = c .before .args .share in
-    let h = c .before .args .hyper in
+    let n = c.args.total in
+    let a = c.args.share in
+    let h = c.args.hyper in
     record {
-      holds = λ e. rounded-of a h (c .before .pre .2) n (c .if1 .taken) (ltb-true (n * h) (a + h) e);
-      fails = λ e r. omega (arith, ltb-false (n * h) (a + h) e, rounded-is a h (c .before .pre .2) n r .1);
+      holds = λ e. rounded_of a h c.requires.2 n c.if-share-total.true (ltb-true (n * h) (a + h) e);
+      fails = λ e r. omega (arith, ltb-false (n * h) (a + h) e, (rounded_is a h c.requires.2 n r).1);
     }
 
-returns-2 : tie.Need-returns-2
+returns-2 : tie.Need-returns-else-share-total
 returns-2 c =
-    rw (le-ltb _ _ (c .if1 .left))
-    (decides-no (λ r. omega (arith, c .if1 .left, rounded-is _ _ (c .before .pre .2) _ r .0)))
+    rw (le-ltb _ _ c.if-share-total.false)
+    (decides_no (λ r. omega (arith, c.if-share-total.false, (rounded_is _ _ c.requires.2 _ r).0)))
 
-pub is-rounded-spec : {M : Type 1} → statement M
-is-rounded-spec = tie.close (tie.spec add-if1 mul-if1 mul-result add-result returns returns-2)
+pub is_rounded_spec : {M : Type 1} → statement M
+is_rounded_spec = tie.close (tie.spec add-if1 mul-if1 mul-result add-result returns returns-2)

@@ -1,28 +1,27 @@
 -- keeps_step: rows first, then sets.
-use borrow.Author.Needs.{needs}
-use borrow.Author.Tests.{not-true, not-false}
-use Rattle·numbers.proofs.Truth.{decides-no}
-use Rattle·planner·proofs.proofs.steady.keeps_step.Statement.{statement}
-use Rattle·planner·proofs.proofs.steady.keeps_step.Tie as tie
+use borrow.Author.Rules.{rules}
+use Rattle.numbers.proofs.Truth.{decides_no}
+use Rattle.planner.proofs.steady.keeps_step.Statement.{statement}
+use Rattle.planner.proofs.steady.keeps_step.Tie as tie
 
-rows-keep-step-requires : tie.Need-rows-keep-step-requires
-rows-keep-step-requires c κs = search needs
+rows-keep-step-requires : tie.Need-rows_keep_step-requires
+rows-keep-step-requires c κs = search rules
 
-returns : tie.Need-returns
-returns c = decides-no (λ k. c .before .rows-keep-step .ensures .fails (not-true _ (c .if1 .taken)) (k .rows))
+returns : tie.Need-returns-then-not-rows_keep_step
+returns c = decides_no (λ k. c.rows_keep_step.ensures.fails c.if-not-rows_keep_step.true k.rows)
 
-sets-keep-step-requires : tie.Need-sets-keep-step-requires
+sets-keep-step-requires : tie.Need-sets_keep_step-requires
 sets-keep-step-requires c κs =
-    let z = c .before .before in
-    (z .pre .0, z .pre .1, c .before .rows-keep-step .ensures .holds (not-false _ (c .if1 .left)))
+    let z = c in
+    (z.requires.0, z.requires.1, c.rows_keep_step.ensures.holds c.if-not-rows_keep_step.false)
 
-returns-2 : tie.Need-returns-2
+returns-2 : tie.Need-returns
 returns-2 c =
-    let rows = c .before .before .rows-keep-step .ensures .holds (not-false _ (c .before .if1 .left)) in
+    let rows = c.rows_keep_step.ensures.holds c.if-not-rows_keep_step.false in
     record {
-      holds = λ e. record { rows = rows; sets = c .sets-keep-step .ensures .holds e };
-      fails = λ e k. c .sets-keep-step .ensures .fails e (k .sets);
+      holds = λ e. record { rows = rows; sets = c.sets_keep_step.ensures.holds e };
+      fails = λ e k. c.sets_keep_step.ensures.fails e k.sets;
     }
 
-pub keeps-step-spec : {M : Type 1} → statement M
-keeps-step-spec = tie.close (tie.spec rows-keep-step-requires returns sets-keep-step-requires returns-2)
+pub keeps_step_spec : {M : Type 1} → statement M
+keeps_step_spec = tie.close (tie.spec rows-keep-step-requires returns sets-keep-step-requires returns-2)

@@ -1,68 +1,69 @@
 -- `meetings::put_members` meets its contract. The loop's invariant: the lines of the first k bits are put.
-use mathlib.Core.Path.{_≡_}
-use mathlib.Core.Logic.{⊎-elim}
-use Prim.Native.Nat.{_+_, _-_, _≤_}
+use mathlib.Core.Path.{◌≡◌}
+use Prim.Native.Nat.{◌+◌, ◌-◌, ◌≤◌}
 use native.Mathlib.Omega.{arith}
-use Rattle·numbers.specs.Word.{bit}
-use Rattle·decimal.specs.Puts.{PutsLines}
-use Rattle·decimal.proofs.Text.{lines-none, lines-next, lines-skip}
-use Rattle·report·specs.specs.MeetLines.{numbered, memberLines}
-use Rattle·report·proofs.proofs.Members.{member-line, no-line}
-use Rattle·report·proofs.proofs.meetings.put_members.Statement.{statement}
-use Rattle·report·proofs.proofs.meetings.put_members.Tie as tie
+use Rattle.decimal.specs.Puts.{PutsLines}
+use Rattle.decimal.proofs.Text.{lines_none, lines_next, lines_skip}
+use Rattle.report.specs.MeetLines.{numbered, member_lines}
+use Rattle.report.proofs.Members.{member_line, no_line}
+use Rattle.report.proofs.meetings.put_members.Statement.{statement}
+use Rattle.report.proofs.meetings.put_members.Lts.{then-word-k-eq1, else-word-k-eq1}
+use Rattle.report.proofs.meetings.put_members.Tie as tie
 
-abbrev Inv-loop : tie.InvT-loop
-Inv-loop name word first bits out₀ at next₀ k₀ out next k =
-    (k ≤ bits) × PutsLines (memberLines (λ i. numbered name (first + i)) k word) k out₀ at out next
+abbrev invariant-loop : tie.invariant-loop-k
+invariant-loop name word first bits out₀ at next₀ k₀ out next k =
+    (k ≤ bits) × PutsLines (member_lines (λ i. numbered name (first + i)) k word) k out₀ at out next
 
-abbrev μ-loop : tie.MeasureT-loop
-μ-loop name word first bits out₀ at next₀ k₀ out next k = bits - k
+abbrev decreases-loop : tie.decreases-loop-k
+decreases-loop name word first bits out₀ at next₀ k₀ out next k = bits - k
 
-loop-holds : tie.Need-loop-holds Inv-loop μ-loop
-loop-holds c = (omega arith, lines-none _ _ _)
+loop-holds : tie.Need-loop-k-init invariant-loop decreases-loop
+loop-holds c = (omega arith, lines_none _ _ _)
 
-shr-if1 : tie.Need-shr-if1 Inv-loop μ-loop
+shr-if1 : tie.Need-overflow_shr-word invariant-loop decreases-loop
 shr-if1 c = omega arith
 
-add-put-value : tie.Need-add-put-value Inv-loop μ-loop
+add-put-value : tie.Need-overflow_add-first invariant-loop decreases-loop
 add-put-value c = omega arith
 
-put-value-requires : tie.Need-put-value-requires Inv-loop μ-loop
+put-value-requires : tie.Need-put_value-next-requires invariant-loop decreases-loop
 put-value-requires c κs = omega arith
 
-add-k : tie.Need-add-k Inv-loop μ-loop
+add-k : tie.Need-overflow_add-k invariant-loop decreases-loop
 add-k c = omega arith
 
-loop-less : tie.Need-loop-less Inv-loop μ-loop
+loop-less : tie.Need-loop-k-smaller invariant-loop decreases-loop
 loop-less c = omega arith
 
-loop-again : tie.Need-loop-again Inv-loop μ-loop
+loop-again : tie.Need-loop-k-preserved invariant-loop decreases-loop
 loop-again c =
-    let u = c .before .before in
-    let z = u .before .before .before .args in
-    let k = u .loop .k in
-    let line = numbered (z .name .now) (z .first + k) in (
+    let z = c.args in
+    let k = c.loop-k.k in
+    let line = numbered z.name.now (z.first + k) in (
       omega arith,
-      ⊎-elim
-          (λ w. rw (w .5, w .6) (lines-next _ k (u .loop .inv .1) line (member-line line (z .word) k (w .0 .taken)) (w .2 .ensures)))
-          (λ w. rw (w .1, w .2) (lines-skip _ k (u .loop .inv .1) (no-line line (z .word) k (w .0 .left))))
-          (c .if1 .came),
+      elim c.if-word-k-eq1.branch [
+        | then-word-k-eq1 w ↦
+            rw (w.out-is, w.next-is)
+            (lines_next _ k c.loop-k.invariant.1 line (member_line line z.word k w.if-word-k-eq1.true) w.put_value-next.ensures)
+        | else-word-k-eq1 w ↦
+            rw (w.out-is, w.next-is) (lines_skip _ k c.loop-k.invariant.1 (no_line line z.word k w.if-word-k-eq1.false))
+      ],
     )
 
-same-length : tie.Need-same-length Inv-loop μ-loop
-same-length c = c .before .loop .inv .1 .0 .same
+same_length : tie.Need-shape_of-out invariant-loop decreases-loop
+same_length c = c.loop-k.invariant.1.0.same
 
-returns : tie.Need-returns Inv-loop μ-loop
+returns : tie.Need-returns invariant-loop decreases-loop
 returns c =
-    let all : c .before .loop .k ≡ c .before .before .before .before .args .bits = omega arith in
-    rw all at (c .before .loop .inv .1)
+    let all : c.loop-k.k ≡ c.args.bits = omega arith in
+    rw all at c.loop-k.invariant.1
 
-pub put-members-spec : {M : Type 1} → statement M
-put-members-spec =
+pub put_members_spec : {M : Type 1} → statement M
+put_members_spec =
     tie.close
     (tie.spec
-    Inv-loop
-    μ-loop
+    invariant-loop
+    decreases-loop
     loop-holds
     shr-if1
     add-put-value
@@ -70,5 +71,5 @@ put-members-spec =
     add-k
     loop-less
     loop-again
-    same-length
+    same_length
     returns)

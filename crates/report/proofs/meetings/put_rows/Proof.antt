@@ -1,27 +1,27 @@
 -- `meetings::put_rows` meets its contract.
 use mathlib.Core.Path.{ap}
-use Prim.Native.Nat.{_+_}
+use Prim.Native.Nat.{◌+◌}
 use native.Mathlib.Nat.{zero-add}
-use borrow.Author.Needs.{needs}
-use Rattle·rules.specs.Bounds.{max-rows}
-use Rattle·rules.specs.Program.{row}
-use Rattle·report·proofs.proofs.Members.{put-same}
-use Rattle·report·proofs.proofs.meetings.put_rows.Statement.{statement}
-use Rattle·report·proofs.proofs.meetings.put_rows.Tie as tie
+use borrow.Author.Rules.{rules}
+use Rattle.rules.specs.Bounds.{max_rows}
+use Rattle.rules.specs.Program.{row}
+use Rattle.report.proofs.Members.{put_same}
+use Rattle.report.proofs.meetings.put_rows.Statement.{statement}
+use Rattle.report.proofs.meetings.put_rows.Tie as tie
 
-slice-aggregate-put-members : tie.Need-slice-aggregate-put-members
-slice-aggregate-put-members c = search needs
+put-members-requires : tie.Need-put_members-requires
+put-members-requires c κs = search rules
 
-put-members-requires : tie.Need-put-members-requires
-put-members-requires c κs = search needs
-
-same-length : tie.Need-same-length
-same-length c = search needs
+same_length : tie.Need-shape_of-out
+same_length c = search rules
 
 returns : tie.Need-returns
 returns c =
-    put-same (λ k. row (0 + k)) row max-rows _ (λ k. ap row (zero-add k))
-    (c .before .before .put-members .ensures)
+    put_same (λ k. row (0 + k)) row max_rows _ (λ k. ap row (zero-add k))
+    c.put_members.ensures
 
-pub put-rows-spec : {M : Type 1} → statement M
-put-rows-spec = tie.close (tie.spec slice-aggregate-put-members put-members-requires same-length returns)
+pub put_rows_spec : {M : Type 1} → statement M
+put_rows_spec = tie.close (tie.spec
+    put-members-requires
+    same_length
+    returns)

@@ -1,35 +1,34 @@
 -- `meetings::rows` meets its contract: the answer's line, then those of the segments.
 use mathlib.Core.Path.{refl}
 use native.Mathlib.Omega.{arith}
-use borrow.Author.Needs.{needs}
-use Rattle·decimal.proofs.Puts.{puts-more}
-use Rattle·decimal.proofs.Text.{text-first}
-use Rattle·report·proofs.proofs.meetings.rows.Statement.{statement}
-use Rattle·report·proofs.proofs.meetings.rows.Tie as tie
+use borrow.Author.Rules.{rules}
+use Rattle.decimal.proofs.Puts.{puts_more}
+use Rattle.decimal.proofs.Text.{text_first}
+use Rattle.report.proofs.meetings.rows.Statement.{statement}
+use Rattle.report.proofs.meetings.rows.Tie as tie
 
-meet-requires : tie.Need-meet-requires
-meet-requires c κs = search needs
+meet-requires : tie.Need-meet-found-requires
+meet-requires c κs = search rules
 
-put-answer-requires : tie.Need-put-answer-requires
-put-answer-requires c κs = search needs
+put-answer-requires : tie.Need-put_answer-next-requires
+put-answer-requires c κs = search rules
 
-put-segments-requires : tie.Need-put-segments-requires
-put-segments-requires c κs = search needs
+put-segments-requires : tie.Need-put_segments-requires
+put-segments-requires c κs = search rules
 
-same-length : tie.Need-same-length
-same-length c = search needs
+same_length : tie.Need-shape_of-out
+same_length c = search rules
 
 returns : tie.Need-returns
 returns c =
-    let S = c .before .before .put-segments .ensures in
-    let a = c .before .before .before .before .before .before in
-    let A = a .put-answer .ensures in
+    let S = c.put_segments.ensures in
+    let A = c.put_answer-next.ensures in
     record {
       lines = _;
-      printed = record { number = _; place = _; word = _; met = a .before .before .meet .ensures; lines = refl };
-      puts = rw text-first (puts-more (A .0) (S .0));
-      fits = omega (arith, A .1, S .1);
+      printed = record { number = _; place = _; word = _; met = c.meet-found.ensures; lines = refl };
+      puts = rw text_first (puts_more A.0 S.0);
+      fits = omega (arith, A.1, S.1);
     }
 
-pub rows-spec : {M : Type 1} → statement M
-rows-spec = tie.close (tie.spec meet-requires put-answer-requires put-segments-requires same-length returns)
+pub rows_spec : {M : Type 1} → statement M
+rows_spec = tie.close (tie.spec meet-requires put-answer-requires put-segments-requires same_length returns)

@@ -1,29 +1,28 @@
 -- `raised::put_raise` meets its contract.
 use native.Mathlib.Omega.{arith}
-use borrow.Author.Needs.{needs}
-use Rattle·report·proofs.proofs.RaisedShort.{raise-short}
-use Rattle·report·proofs.proofs.raised.put_raise.Statement.{statement}
-use Rattle·report·proofs.proofs.raised.put_raise.Tie as tie
+use borrow.Author.Rules.{rules}
+use Rattle.report.proofs.RaisedShort.{raise_short}
+use Rattle.report.proofs.raised.put_raise.Statement.{statement}
+use Rattle.report.proofs.raised.put_raise.Tie as tie
 
-slice-aggregate-put-line : tie.Need-slice-aggregate-put-line
-slice-aggregate-put-line c = search needs
+slice-aggregate-put-line : tie.Need-slice_bounds-put_line-end-2
+slice-aggregate-put-line c = search rules
 
-slice-aggregate-put-line-2 : tie.Need-slice-aggregate-put-line-2
-slice-aggregate-put-line-2 c = search needs
+put-line-requires : tie.Need-put_line-requires
+put-line-requires c κs = search rules
 
-put-line-requires : tie.Need-put-line-requires
-put-line-requires c κs = search needs
-
-same-length : tie.Need-same-length
-same-length c = search needs
+same_length : tie.Need-shape_of-out
+same_length c = search rules
 
 returns : tie.Need-returns
 returns c =
-    let l = c .before .before in
-    let z = l .before .before .before .before .before in
-    let P = l .put-line .ensures .0 in
-    let p = z .pre in
-    (P, omega (arith, P .after, raise-short (z .args .row) (z .args .old) (z .args .new) (p .0) (p .1) (p .2)))
+    let P = c.put_line.ensures.0 in
+    let p = c.requires in
+    (P, omega (arith, P.after, raise_short c.args.row c.args.old c.args.new p.0 p.1 p.2))
 
-pub put-raise-spec : {M : Type 1} → statement M
-put-raise-spec = tie.close (tie.spec slice-aggregate-put-line slice-aggregate-put-line-2 put-line-requires same-length returns)
+pub put_raise_spec : {M : Type 1} → statement M
+put_raise_spec = tie.close (tie.spec
+    slice-aggregate-put-line
+    put-line-requires
+    same_length
+    returns)

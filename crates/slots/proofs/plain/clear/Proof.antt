@@ -1,64 +1,64 @@
 -- `clear` meets its contract: the words of the slots below s are 0.
-use mathlib.Core.Path.{_≡_}
-use Prim.Native.Nat.{ℕ, _-_, _≤_, _<_}
+use mathlib.Core.Path.{◌≡◌}
+use Prim.Native.Nat.{ℕ, ◌-◌, ◌≤◌, ◌<◌}
 use native.Mathlib.Omega.{arith}
 use lib.ListN.{length}
-use Rattle·numbers.specs.Lists.{at}
-use Rattle·placing.specs.Filled.{Kept}
-use Rattle·placing.proofs.Kept.{kept-none, kept-set}
-use Rattle·slots·proofs.proofs.PlainWalk.{cleared-more}
-use Rattle·slots·proofs.proofs.plain.clear.Statement.{statement}
-use Rattle·slots·proofs.proofs.plain.clear.Tie as tie
+use Rattle.numbers.specs.Lists.{at}
+use Rattle.placing.specs.Filled.{Kept}
+use Rattle.placing.proofs.Kept.{kept_none, kept_set}
+use Rattle.slots.proofs.PlainWalk.{cleared_more}
+use Rattle.slots.proofs.plain.clear.Statement.{statement}
+use Rattle.slots.proofs.plain.clear.Tie as tie
 
-abbrev Inv-loop : tie.InvT-loop
-Inv-loop slots words₀ s₀ words s = (s ≤ slots) × ((u : ℕ) → u < s → at words u ≡ 0) × Kept slots words₀ words
+abbrev invariant-loop : tie.invariant-loop-s
+invariant-loop slots words₀ s₀ words s = (s ≤ slots) × ((u : ℕ) → u < s → at words u ≡ 0) × Kept slots words₀ words
 
-abbrev μ-loop : tie.MeasureT-loop
-μ-loop slots words₀ s₀ words s = slots - s
+abbrev decreases-loop : tie.decreases-loop-s
+decreases-loop slots words₀ s₀ words s = slots - s
 
-loop-holds : tie.Need-loop-holds Inv-loop μ-loop
-loop-holds c = (omega arith, (λ u h. absurd (omega arith)), kept-none _ _)
+loop-holds : tie.Need-loop-s-init invariant-loop decreases-loop
+loop-holds c = (omega arith, (λ u h. absurd (omega arith)), kept_none _ _)
 
 -- there is room for the slot
-room : (c : tie.In-loop Inv-loop μ-loop) → c .before .loop .s < length (c .before .loop .words)
-room c = omega (arith, c .before .loop .inv .2 .long)
+room : (c : tie.In-loop-s invariant-loop decreases-loop) → c.loop-s.s < length c.loop-s.words
+room c = omega (arith, c.loop-s.invariant.2.long)
 
-mul-words : tie.Need-mul-words Inv-loop μ-loop
-mul-words c = omega (arith, room c)
+mul_words : tie.Need-offset_bounds-words-s invariant-loop decreases-loop
+mul_words c = omega (arith, room c)
 
-slice-write-words : tie.Need-slice-write-words Inv-loop μ-loop
+slice-write-words : tie.Need-bounds-words-s invariant-loop decreases-loop
 slice-write-words c = room c
 
-add-s : tie.Need-add-s Inv-loop μ-loop
+add-s : tie.Need-overflow_add-s invariant-loop decreases-loop
 add-s c = omega arith
 
-loop-less : tie.Need-loop-less Inv-loop μ-loop
+loop-less : tie.Need-loop-s-smaller invariant-loop decreases-loop
 loop-less c = omega arith
 
-loop-again : tie.Need-loop-again Inv-loop μ-loop
+loop-again : tie.Need-loop-s-preserved invariant-loop decreases-loop
 loop-again c =
-    let l = c .before .loop in
-    (omega arith, cleared-more (l .words) (l .s) (room c) (l .inv .1), kept-set (l .s) 0 (l .inv .2) (omega arith))
+    let l = c.loop-s in
+    (omega arith, cleared_more l.words l.s (room c) l.invariant.1, kept_set l.s 0 l.invariant.2 (omega arith))
 
-same-length : tie.Need-same-length Inv-loop μ-loop
-same-length c = c .before .loop .inv .2 .long
+same_length : tie.Need-shape_of-words invariant-loop decreases-loop
+same_length c = c.loop-s.invariant.2.long
 
-returns : tie.Need-returns Inv-loop μ-loop
+returns : tie.Need-returns invariant-loop decreases-loop
 returns c =
-    let l = c .before .loop in
-    record { none = λ s m. l .inv .1 s (omega arith); kept = l .inv .2 }
+    let l = c.loop-s in
+    record { none = λ s m. l.invariant.1 s (omega arith); kept = l.invariant.2 }
 
-pub clear-spec : {M : Type 1} → statement M
-clear-spec =
+pub clear_spec : {M : Type 1} → statement M
+clear_spec =
     tie.close
     (tie.spec
-    Inv-loop
-    μ-loop
+    invariant-loop
+    decreases-loop
     loop-holds
-    mul-words
+    mul_words
     slice-write-words
     add-s
     loop-less
     loop-again
-    same-length
+    same_length
     returns)

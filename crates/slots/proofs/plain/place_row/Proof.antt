@@ -1,103 +1,103 @@
 -- `place_row` meets its contract: `Placing` says what its loop keeps.
-use mathlib.Core.Path.{sym, ap, _∙_}
-use mathlib.Core.Logic.{inl, inr, ⊎-elim}
-use Prim.Native.Nat.{_-_, _<_}
+use mathlib.Core.Path.{sym, ap, ◌∙◌}
+use mathlib.Core.Logic.{inl, inr}
+use Prim.Native.Nat.{◌-◌, ◌<◌}
 use native.Mathlib.Omega.{arith}
-use lib.Bits.{bitOr}
+use lib.Bits.{bit_or}
 use lib.ListN.{length}
-use Rattle·numbers.specs.Lists.{at}
-use Rattle·numbers.proofs.Word.{one-shl}
-use Rattle·slots·proofs.proofs.PlainWalk.{Placing, placing-start, placing-skip, placing-take, placing-end}
-use Rattle·slots·proofs.proofs.plain.place_row.Statement.{statement}
-use Rattle·slots·proofs.proofs.plain.place_row.Tie as tie
+use Rattle.numbers.specs.Lists.{at}
+use Rattle.numbers.proofs.Word.{one_shl}
+use Rattle.slots.proofs.PlainWalk.{Placing, placing_start, placing_skip, placing_take, placing_end}
+use Rattle.slots.proofs.plain.place_row.Statement.{statement}
+use Rattle.slots.proofs.plain.place_row.Tie as tie
+use Rattle.slots.proofs.plain.place_row.Lts.{then-is_free, else-is_free}
 
-abbrev Inv-slots : tie.InvT-slots
-Inv-slots first second i load slots words₀ row left₀ s₀ words left s =
+abbrev invariant-slots : tie.invariant-slots
+invariant-slots first second i load slots words₀ row left₀ s₀ words left s =
     Placing (at first) (at second) i load slots words₀ s left words
 
-abbrev μ-slots : tie.MeasureT-slots
-μ-slots first second i load slots words₀ row left₀ s₀ words left s = slots - s
+abbrev decreases-slots : tie.decreases-slots
+decreases-slots first second i load slots words₀ row left₀ s₀ words left s = slots - s
 
-shl-row : tie.Need-shl-row Inv-slots μ-slots
+shl-row : tie.Need-overflow_shl-row invariant-slots decreases-slots
 shl-row c = omega arith
 
-slots-holds : tie.Need-slots-holds Inv-slots μ-slots
-slots-holds c = placing-start
+slots-holds : tie.Need-slots-init invariant-slots decreases-slots
+slots-holds c = placing_start
 
 -- there is room for the slot
-room : (c : tie.In-slots Inv-slots μ-slots) → c .before .slots .s < length (c .before .slots .words)
-room c = omega (arith, c .before .slots .inv .kept .long, c .slots-test .taken, c .before .before .before .pre .1)
+room : (c : tie.In-slots invariant-slots decreases-slots) → c.slots.s < length c.slots.words
+room c = omega (arith, c.slots.invariant.kept.long, c.slots-test.true, c.requires.1)
 
-mul-is-free : tie.Need-mul-is-free Inv-slots μ-slots
-mul-is-free c = record { fits = omega (arith, room (c .before)) }
+mul-is-free : tie.Need-offset_bounds-words-s invariant-slots decreases-slots
+mul-is-free c = record { fits = omega (arith, room c.before) }
 
-slice-read-is-free : tie.Need-slice-read-is-free Inv-slots μ-slots
-slice-read-is-free c = room (c .before .before)
+slice-read-is-free : tie.Need-bounds-words-s invariant-slots decreases-slots
+slice-read-is-free c = room c.before.before
 
-is-free-requires : tie.Need-is-free-requires Inv-slots μ-slots
-is-free-requires c κs = c .before .before .before .before .before .pre .0
+is-free-requires : tie.Need-is_free-requires invariant-slots decreases-slots
+is-free-requires c κs = c.requires.0
 
-mul-words : tie.Need-mul-words Inv-slots μ-slots
-mul-words c = record { fits = omega (arith, room (c .before .before .before .before)) }
+mul_words : tie.Need-offset_bounds-words-s-then-is_free invariant-slots decreases-slots
+mul_words c = record { fits = omega (arith, room c.before.before.before.before) }
 
-slice-read-words : tie.Need-slice-read-words Inv-slots μ-slots
-slice-read-words c = room (c .before .before .before .before .before)
+slice-read-words : tie.Need-bounds-words-s-then-is_free invariant-slots decreases-slots
+slice-read-words c = room c.before.before.before.before.before
 
-mul-words-2 : tie.Need-mul-words-2 Inv-slots μ-slots
-mul-words-2 c = record { fits = omega (arith, room (c .before .before .before .before .before)) }
+mul-words-2 : tie.Need-offset_bounds-words-s-then-is_free-2 invariant-slots decreases-slots
+mul-words-2 c = record { fits = omega (arith, room c.before.before.before.before.before) }
 
-slice-write-words : tie.Need-slice-write-words Inv-slots μ-slots
-slice-write-words c = room (c .before .before .before .before .before)
+slice-write-words : tie.Need-bounds-words-s-then-is_free-2 invariant-slots decreases-slots
+slice-write-words c = room c.before.before.before.before.before
 
-sub-left : tie.Need-sub-left Inv-slots μ-slots
-sub-left c = omega (arith, c .before .before .before .before .if1 .left)
+sub-left : tie.Need-overflow_sub-left invariant-slots decreases-slots
+sub-left c = omega (arith, c.if-left-eq0.false)
 
-add-s : tie.Need-add-s Inv-slots μ-slots
-add-s c = omega (arith, c .before .before .before .before .slots-test .taken)
+add-s : tie.Need-overflow_add-s invariant-slots decreases-slots
+add-s c = omega (arith, c.slots-test.true)
 
-slots-less : tie.Need-slots-less Inv-slots μ-slots
-slots-less c = omega (arith, c .before .before .before .before .slots-test .taken)
+slots-less : tie.Need-slots-smaller invariant-slots decreases-slots
+slots-less c = omega (arith, c.slots-test.true)
 
-slots-again : tie.Need-slots-again Inv-slots μ-slots
+slots-again : tie.Need-slots-preserved invariant-slots decreases-slots
 slots-again c =
-    let e = c .before .before .before in
-    let I = e .before in
-    let l = I .before .slots in
-    let z = I .before .before .before .args in
-    let opens = sym (c .before .is-free .ensures) in
-    ⊎-elim
-    (λ w.
-    rw (w .2, w .3)
-    (placing-take (l .inv) (I .slots-test .taken)
-    (omega (arith, l .inv .kept .long, I .before .before .before .pre .1)) (opens ∙ w .0 .taken) (omega (arith, e .if1 .left))
-    (ap (bitOr (at (l .words) (l .s))) (one-shl (z .i) (I .before .before .before .pre .0)))))
-    (λ w. rw (w .1, w .2) (placing-skip (l .inv) (I .slots-test .taken) (opens ∙ w .0 .left)))
-    (c .if2 .came)
+    let e = c in
+    let I = e in
+    let l = I.slots in
+    let z = I.args in
+    let opens = sym c.is_free.ensures in
+    elim c.if-is_free.branch [
+      | then-is_free w ↦ rw (w.words-is, w.left-is)
+          (placing_take l.invariant I.slots-test.true
+          (omega (arith, l.invariant.kept.long, I.requires.1)) (opens ∙ w.if-is_free.true) (omega (arith, e.if-left-eq0.false))
+          (ap (bit_or (at l.words l.s)) (one_shl z.i I.requires.0)))
+      | else-is_free w ↦ rw (w.words-is, w.left-is) (placing_skip l.invariant I.slots-test.true (opens ∙ w.if-is_free.false))
+    ]
 
-same-length : tie.Need-same-length Inv-slots μ-slots
-same-length c = c .before .slots .inv .kept .long
+same_length : tie.Need-shape_of-words-after-slots invariant-slots decreases-slots
+same_length c = c.slots.invariant.kept.long
 
-returns : tie.Need-returns Inv-slots μ-slots
-returns c = placing-end (c .before .slots .inv) (inl (c .slots-test .left))
+returns : tie.Need-returns-after-slots invariant-slots decreases-slots
+returns c = placing_end c.slots.invariant (inl c.slots-test.false)
 
-same-length-2 : tie.Need-same-length-2 Inv-slots μ-slots
-same-length-2 c = c .before .before .slots .inv .kept .long
+same-length-2 : tie.Need-shape_of-words-then-left-eq0 invariant-slots decreases-slots
+same-length-2 c = c.slots.invariant.kept.long
 
-returns-2 : tie.Need-returns-2 Inv-slots μ-slots
-returns-2 c = placing-end (c .before .before .slots .inv) (inr (c .if1 .taken))
+returns-2 : tie.Need-returns-then-left-eq0 invariant-slots decreases-slots
+returns-2 c = placing_end c.slots.invariant (inr c.if-left-eq0.true)
 
-pub place-row-spec : {M : Type 1} → statement M
-place-row-spec =
+pub place_row_spec : {M : Type 1} → statement M
+place_row_spec =
     tie.close
     (tie.spec
-    Inv-slots
-    μ-slots
+    invariant-slots
+    decreases-slots
     shl-row
     slots-holds
     mul-is-free
     slice-read-is-free
     is-free-requires
-    mul-words
+    mul_words
     slice-read-words
     mul-words-2
     slice-write-words
@@ -105,7 +105,7 @@ place-row-spec =
     add-s
     slots-less
     slots-again
-    same-length
+    same_length
     returns
     same-length-2
     returns-2)

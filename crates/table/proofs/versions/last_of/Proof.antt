@@ -1,17 +1,17 @@
 -- `table::versions::last_of` meets its contract.
-use borrow.Author.Tests.{eq-eqb, ne-eqb}
-use Rattle·rules.specs.Bounds.{max-rings}
-use Rattle·rules.specs.TableFile.{lastOf}
-use Rattle·table·proofs.proofs.versions.last_of.Statement.{statement}
-use Rattle·table·proofs.proofs.versions.last_of.Tie as tie
+use borrow.Author.Tests.{eq-eqb, ne_eqb}
+use Rattle.rules.specs.Bounds.{max_rings}
+use Rattle.rules.specs.TableFile.{last_of}
+use Rattle.table.proofs.versions.last_of.Statement.{statement}
+use Rattle.table.proofs.versions.last_of.Tie as tie
 
-returns : tie.Need-returns
-unfolding lastOf
-returns c = rw (eq-eqb (c .before .args .rings) max-rings (c .if1 .taken))
+returns : tie.Need-returns-then-rings-eq-RINGS
+unfolding last_of
+returns c = rw (eq-eqb c.before.args.rings max_rings c.if-rings-eq-RINGS.true)
 
-returns-2 : tie.Need-returns-2
-unfolding lastOf
-returns-2 c = rw (ne-eqb (c .before .args .rings) max-rings (c .if1 .left))
+returns-2 : tie.Need-returns-else-rings-eq-RINGS
+unfolding last_of
+returns-2 c = rw (ne_eqb c.before.args.rings max_rings c.if-rings-eq-RINGS.false)
 
-pub last-of-spec : {M : Type 1} → statement M
-last-of-spec = tie.close (tie.spec returns returns-2)
+pub last_of_spec : {M : Type 1} → statement M
+last_of_spec = tie.close (tie.spec returns returns-2)

@@ -1,17 +1,17 @@
 -- `table::versions::way_in` meets its contract.
-use borrow.Author.Tests.{eq-eqb, ne-eqb}
-use Rattle·rules.specs.Bounds.{max-rings}
-use Rattle·rules.specs.TableFile.{wayIn}
-use Rattle·table·proofs.proofs.versions.way_in.Statement.{statement}
-use Rattle·table·proofs.proofs.versions.way_in.Tie as tie
+use borrow.Author.Tests.{eq-eqb, ne_eqb}
+use Rattle.rules.specs.Bounds.{max_rings}
+use Rattle.rules.specs.TableFile.{way_in}
+use Rattle.table.proofs.versions.way_in.Statement.{statement}
+use Rattle.table.proofs.versions.way_in.Tie as tie
 
-returns : tie.Need-returns
-unfolding wayIn
-returns c = rw (eq-eqb (c .before .args .rings) max-rings (c .if1 .taken))
+returns : tie.Need-returns-then-rings-eq-RINGS
+unfolding way_in
+returns c = rw (eq-eqb c.before.args.rings max_rings c.if-rings-eq-RINGS.true)
 
-returns-2 : tie.Need-returns-2
-unfolding wayIn
-returns-2 c = rw (ne-eqb (c .before .args .rings) max-rings (c .if1 .left))
+returns-2 : tie.Need-returns-else-rings-eq-RINGS
+unfolding way_in
+returns-2 c = rw (ne_eqb c.before.args.rings max_rings c.if-rings-eq-RINGS.false)
 
-pub way-in-spec : {M : Type 1} → statement M
-way-in-spec = tie.close (tie.spec returns returns-2)
+pub way_in_spec : {M : Type 1} → statement M
+way_in_spec = tie.close (tie.spec returns returns-2)

@@ -1,16 +1,16 @@
 -- `fields::is_blank` meets its contract.
-use borrow.Author.Tests.{ne-eqb}
-use Rattle·text_reader·proofs.proofs.fields.is_blank.Statement.{statement}
-use Rattle·text_reader·proofs.proofs.fields.is_blank.Tie as tie
+use borrow.Author.Tests.{ne_eqb}
+use Rattle.text_reader.proofs.fields.is_blank.Statement.{statement}
+use Rattle.text_reader.proofs.fields.is_blank.Tie as tie
 
-returns : tie.Need-returns
-returns c = rw (c .if1 .taken)
+returns : tie.Need-returns-then-b-eq32
+returns c = rw c.if-b-eq32.true
 
-returns-2 : tie.Need-returns-2
-returns-2 c = rw (c .if2 .taken)
+returns-2 : tie.Need-returns-then-b-eq9
+returns-2 c = rw c.if-b-eq9.true
 
-returns-3 : tie.Need-returns-3
-returns-3 c = rw (ne-eqb _ _ (c .before .if1 .left), ne-eqb _ _ (c .if2 .left))
+returns-3 : tie.Need-returns
+returns-3 c = rw (ne_eqb _ _ c.if-b-eq32.false, ne_eqb _ _ c.if-b-eq9.false)
 
-pub is-blank-spec : {M : Type 1} → statement M
-is-blank-spec = tie.close (tie.spec returns returns-2 returns-3)
+pub is_blank_spec : {M : Type 1} → statement M
+is_blank_spec = tie.close (tie.spec returns returns-2 returns-3)

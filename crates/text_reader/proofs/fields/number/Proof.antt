@@ -1,77 +1,74 @@
 -- `fields::number` meets its contract. The loop's invariant: the bytes passed are digits, and `x` is what they show.
-use Prim.Native.Nat.{_-_}
+use Prim.Native.Nat.{◌-◌}
 use native.Mathlib.Omega.{arith}
 use lib.ListN.{length}
-use borrow.Author.Needs.{needs}
-use Rattle·numbers.proofs.Truth.{denied, granted}
-use Rattle·text_reader·proofs.proofs.Numbers.{Summed, summed-start, summed-next, cell-word, cell-large, cell-value}
-use Rattle·text_reader·proofs.proofs.fields.number.Statement.{statement}
-use Rattle·text_reader·proofs.proofs.fields.number.Tie as tie
+use borrow.Author.Rules.{rules}
+use Rattle.numbers.proofs.Truth.{denied, granted}
+use Rattle.text_reader.proofs.Numbers.{Summed, summed_start, summed_next, cell_word, cell_large, cell_value}
+use Rattle.text_reader.proofs.fields.number.Statement.{statement}
+use Rattle.text_reader.proofs.fields.number.Tie as tie
 
-abbrev Inv-loop : tie.InvT-loop
-Inv-loop digits place x₀ i₀ x i = Summed digits i x
+abbrev invariant-loop : tie.invariant-loop-i
+invariant-loop digits place x₀ i₀ x i = Summed digits i x
 
-abbrev μ-loop : tie.MeasureT-loop
-μ-loop digits place x₀ i₀ x i = length digits - i
+abbrev decreases-loop : tie.decreases-loop-i
+decreases-loop digits place x₀ i₀ x i = length digits - i
 
-loop-holds : tie.Need-loop-holds Inv-loop μ-loop
-loop-holds c = summed-start _
+loop-holds : tie.Need-loop-i-init invariant-loop decreases-loop
+loop-holds c = summed_start _
 
-shared-slice-read-is-digit : tie.Need-shared-slice-read-is-digit Inv-loop μ-loop
+shared-slice-read-is-digit : tie.Need-bounds-digits-i invariant-loop decreases-loop
 shared-slice-read-is-digit c = omega arith
 
-is-digit-requires : tie.Need-is-digit-requires Inv-loop μ-loop
-is-digit-requires c κs = search needs
+is-digit-requires : tie.Need-is_digit-requires invariant-loop decreases-loop
+is-digit-requires c κs = search rules
 
-refuse-requires : tie.Need-refuse-requires Inv-loop μ-loop
-refuse-requires c κs = search needs
+refuse-requires : tie.Need-refuse-requires invariant-loop decreases-loop
+refuse-requires c κs = search rules
 
-returns : tie.Need-returns Inv-loop μ-loop
+returns : tie.Need-returns-then-not-is_digit invariant-loop decreases-loop
 returns c =
-    let d = c .before .before in
-    let e = c .refuse .ensures in
-    cell-word _ (d .before .before .before .loop .inv) _ (omega arith) (denied (d .is-digit .ensures) (c .before .if1 .taken)) (e .0) (e .1)
+    let e = c.refuse.ensures in
+    cell_word _ c.loop-i.invariant _ (omega arith) (denied c.is_digit.ensures c.if-not-is_digit.true) e.0 e.1
 
-shared-slice-read-grow : tie.Need-shared-slice-read-grow Inv-loop μ-loop
+shared-slice-read-grow : tie.Need-bounds-digits-i-in-loop-i invariant-loop decreases-loop
 shared-slice-read-grow c = omega arith
 
-grow-requires : tie.Need-grow-requires Inv-loop μ-loop
+grow-requires : tie.Need-grow-x-requires invariant-loop decreases-loop
 grow-requires c κs =
-    let d = c .before .before in
-    (omega (arith, d .before .before .before .loop .inv .sum), granted (d .is-digit .ensures) (c .before .if1 .left))
+    (omega (arith, c.loop-i.invariant.sum), granted c.is_digit.ensures c.if-not-is_digit.false)
 
-add-i : tie.Need-add-i Inv-loop μ-loop
+add-i : tie.Need-overflow_add-i invariant-loop decreases-loop
 add-i c = omega arith
 
-loop-less : tie.Need-loop-less Inv-loop μ-loop
+loop-less : tie.Need-loop-i-smaller invariant-loop decreases-loop
 loop-less c = omega arith
 
-loop-again : tie.Need-loop-again Inv-loop μ-loop
+loop-again : tie.Need-loop-i-preserved invariant-loop decreases-loop
 loop-again c =
-    let d = c .before .before .before in
-    summed-next (d .before .before .before .loop .inv) _ (omega arith) (granted (d .is-digit .ensures) (c .before .before .if1 .left))
-    (c .grow .ensures)
+    summed_next c.loop-i.invariant _ (omega arith) (granted c.is_digit.ensures c.if-not-is_digit.false)
+    c.grow-x.ensures
 
-refuse-requires-2 : tie.Need-refuse-requires-2 Inv-loop μ-loop
-refuse-requires-2 c κs = search needs
+refuse-requires-2 : tie.Need-refuse-requires-then-x-gt65535 invariant-loop decreases-loop
+refuse-requires-2 c κs = search rules
 
-returns-2 : tie.Need-returns-2 Inv-loop μ-loop
+returns-2 : tie.Need-returns-then-x-gt65535 invariant-loop decreases-loop
 returns-2 c =
-    let e = c .refuse2 .ensures in
-    cell-large _ (c .before .before .before .loop .inv) (omega arith) _ (omega arith) (e .0) (e .1)
+    let e = c.refuse-then-x-gt65535.ensures in
+    cell_large _ c.loop-i.invariant (omega arith) _ (omega arith) e.0 e.1
 
-cast-t12 : tie.Need-cast-t12 Inv-loop μ-loop
+cast-t12 : tie.Need-overflow_cast-result invariant-loop decreases-loop
 cast-t12 c = omega arith
 
-returns-3 : tie.Need-returns-3 Inv-loop μ-loop
-returns-3 c = cell-value _ (c .before .before .loop .inv) (omega arith) (omega arith)
+returns-3 : tie.Need-returns invariant-loop decreases-loop
+returns-3 c = cell_value _ c.loop-i.invariant (omega arith) (omega arith)
 
-pub number-spec : {M : Type 1} → statement M
-number-spec =
+pub number_spec : {M : Type 1} → statement M
+number_spec =
     tie.close
     (tie.spec
-    Inv-loop
-    μ-loop
+    invariant-loop
+    decreases-loop
     loop-holds
     shared-slice-read-is-digit
     is-digit-requires

@@ -1,53 +1,53 @@
 -- `fields::stop` meets its contract. The loop's invariant: none of the places passed has such a byte.
-use mathlib.Core.Path.{sym, _∙_}
-use Prim.Native.Nat.{_-_}
+use mathlib.Core.Path.{sym, ◌∙◌}
+use Prim.Native.Nat.{◌-◌}
 use native.Mathlib.Omega.{arith}
 use lib.ListN.{length}
-use borrow.Author.Needs.{needs}
-use Rattle·text_reader·specs.specs.Walk.{blankIs}
-use Rattle·text_reader·proofs.proofs.Parts.{Going, going-start, going-on, going-stops, going-ends}
-use Rattle·text_reader·proofs.proofs.fields.stop.Statement.{statement}
-use Rattle·text_reader·proofs.proofs.fields.stop.Tie as tie
+use borrow.Author.Rules.{rules}
+use Rattle.text_reader.specs.Walk.{blank_is}
+use Rattle.text_reader.proofs.Parts.{Going, going_start, going_on, going_stops, going_ends}
+use Rattle.text_reader.proofs.fields.stop.Statement.{statement}
+use Rattle.text_reader.proofs.fields.stop.Tie as tie
 
-abbrev Inv-loop : tie.InvT-loop
-Inv-loop line at blank i₀ i = Going (blankIs blank) line at i
+abbrev invariant-loop : tie.invariant-loop-i
+invariant-loop line at blank i₀ i = Going (blank_is blank) line at i
 
-abbrev μ-loop : tie.MeasureT-loop
-μ-loop line at blank i₀ i = length line - i
+abbrev decreases-loop : tie.decreases-loop-i
+decreases-loop line at blank i₀ i = length line - i
 
-loop-holds : tie.Need-loop-holds Inv-loop μ-loop
-loop-holds c = going-start (omega arith)
+loop-holds : tie.Need-loop-i-init invariant-loop decreases-loop
+loop-holds c = going_start (omega arith)
 
-shared-slice-read-is-stop : tie.Need-shared-slice-read-is-stop Inv-loop μ-loop
+shared-slice-read-is-stop : tie.Need-bounds-line-i invariant-loop decreases-loop
 shared-slice-read-is-stop c = omega arith
 
-is-stop-requires : tie.Need-is-stop-requires Inv-loop μ-loop
-is-stop-requires c κs = search needs
+is-stop-requires : tie.Need-is_stop-requires invariant-loop decreases-loop
+is-stop-requires c κs = search rules
 
-returns : tie.Need-returns Inv-loop μ-loop
+returns : tie.Need-returns-then-is_stop invariant-loop decreases-loop
 returns c =
-    let z = c .before .before .before .before .loop in
-    (going-stops (z .inv) (omega arith) (sym (c .before .is-stop .ensures) ∙ c .if1 .taken), z .inv .inside)
+    let z = c.loop-i in
+    (going_stops z.invariant (omega arith) (sym c.is_stop.ensures ∙ c.if-is_stop.true), z.invariant.inside)
 
-add-i : tie.Need-add-i Inv-loop μ-loop
+add-i : tie.Need-overflow_add-i invariant-loop decreases-loop
 add-i c = omega arith
 
-loop-less : tie.Need-loop-less Inv-loop μ-loop
+loop-less : tie.Need-loop-i-smaller invariant-loop decreases-loop
 loop-less c = omega arith
 
-loop-again : tie.Need-loop-again Inv-loop μ-loop
+loop-again : tie.Need-loop-i-preserved invariant-loop decreases-loop
 loop-again c =
-    going-on (c .before .before .before .before .loop .inv) (omega arith) (sym (c .before .is-stop .ensures) ∙ c .if1 .left)
+    going_on c.loop-i.invariant (omega arith) (sym c.is_stop.ensures ∙ c.if-is_stop.false)
 
-returns-2 : tie.Need-returns-2 Inv-loop μ-loop
-returns-2 c = (going-ends (c .before .loop .inv) (omega arith), c .before .loop .inv .inside)
+returns-2 : tie.Need-returns invariant-loop decreases-loop
+returns-2 c = (going_ends c.loop-i.invariant (omega arith), c.loop-i.invariant.inside)
 
-pub stop-spec : {M : Type 1} → statement M
-stop-spec =
+pub stop_spec : {M : Type 1} → statement M
+stop_spec =
     tie.close
     (tie.spec
-    Inv-loop
-    μ-loop
+    invariant-loop
+    decreases-loop
     loop-holds
     shared-slice-read-is-stop
     is-stop-requires

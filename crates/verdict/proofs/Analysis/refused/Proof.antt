@@ -1,18 +1,17 @@
 -- Analysis::refused: the outline is refused, and all else is 0.
 use mathlib.Core.Path.{ap}
 use lib.ListN.{replicate}
-use borrow.Author.Needs.{needs}
-use Rattle·rules.specs.Bounds.{max-rows}
-use Rattle·outline.specs.declared.Outline.{Outline}
-use Rattle·verdict·specs.specs.declared.Analysis.{Analysis}
-use Rattle·verdict·proofs.proofs.Analysis.refused.Statement.{statement}
-use Rattle·verdict·proofs.proofs.Analysis.refused.Tie as tie
+use borrow.Author.Rules.{rules}
+use Rattle.rules.specs.Bounds.{max_rows}
+use Rattle.outline.specs.declared.Outline.{Outline}
+use Rattle.verdict.proofs.Analysis.refused.Statement.{statement}
+use Rattle.verdict.proofs.Analysis.refused.Tie as tie
 
 refused-requires : tie.Need-refused-requires
-refused-requires c κs = search needs
+refused-requires c κs = search rules
 
 returns : tie.Need-returns
-returns c = ap (λ (o : Outline). record { outline = o; load = 0; rate = replicate max-rows 0 }) (c .refused .ensures)
+returns c = ap (λ (o : Outline). record { outline = o; load = 0; rate = replicate max_rows 0 }) c.refused.ensures
 
-pub refused-spec : {M : Type 1} → statement M
-refused-spec = tie.close (tie.spec refused-requires returns)
+pub refused_spec : {M : Type 1} → statement M
+refused_spec = tie.close (tie.spec refused-requires returns)

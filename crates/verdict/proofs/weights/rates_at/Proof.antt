@@ -1,126 +1,126 @@
 -- rates_at: row after row is added to the sums at its ends.
-use Prim.Native.Nat.{_-_, _≤_, _<_}
+use Prim.Native.Nat.{◌-◌, ◌≤◌, ◌<◌}
 use native.Mathlib.Omega.{arith}
-use Rattle·numbers.specs.Lists.{at}
-use Rattle·rules.specs.Bounds.{max-slots}
-use Rattle·sets.specs.Walk.{line-size}
-use Rattle·verdict·specs.specs.Weights.{SumsAt}
-use Rattle·verdict·proofs.proofs.Line.{sums-start, sums-next, sums-end, sums-small}
-use Rattle·verdict·proofs.proofs.weights.rates_at.Statement.{statement}
-use Rattle·verdict·proofs.proofs.weights.rates_at.Tie as tie
+use Rattle.numbers.specs.Lists.{at}
+use Rattle.rules.specs.Bounds.{max_slots}
+use Rattle.sets.specs.Walk.{line_size}
+use Rattle.verdict.specs.Weights.{SumsAt}
+use Rattle.verdict.proofs.Line.{sums_start, sums_next, sums_end, sums_small}
+use Rattle.verdict.proofs.weights.rates_at.Statement.{statement}
+use Rattle.verdict.proofs.weights.rates_at.Tie as tie
 
-abbrev Inv-loop : tie.InvT-loop
-Inv-loop first second rows rate joining₀ leaving₀ i₀ joining leaving i =
+abbrev invariant-loop : tie.invariant-loop-i
+invariant-loop first second rows rate joining₀ leaving₀ i₀ joining leaving i =
     (i ≤ rows) × SumsAt i (at first) (at rate) joining × SumsAt i (at second) (at rate) leaving
 
-abbrev μ-loop : tie.MeasureT-loop
-μ-loop first second rows rate joining₀ leaving₀ i₀ joining leaving i = rows - i
+abbrev decreases-loop : tie.decreases-loop-i
+decreases-loop first second rows rate joining₀ leaving₀ i₀ joining leaving i = rows - i
 
-abbrev start : tie.After-slots-at Inv-loop μ-loop → tie.Start Inv-loop μ-loop
-start c = c .before .before .before .before .before
+abbrev start : tie.After-slots_at-more invariant-loop decreases-loop → tie.Start invariant-loop decreases-loop
+start c = c.before.before.before.before.before
 
 -- the row's ends are on the line
-on-line : (c : tie.After-slots-at Inv-loop μ-loop)
-    → (c .before .before .end-at .result < line-size) × (c .before .end-at2 .result < line-size)
-on-line c =
-    let d = c .before .before in
-    let z = start c .pre .1 (d .before .before .loop .i) (omega arith) in
-    (omega (arith, d .end-at .ensures, z .0), omega (arith, c .before .end-at2 .ensures, z .1))
+on_line : (c : tie.After-slots_at-more invariant-loop decreases-loop)
+    → (c.end_at-from.result < line_size) × (c.end_at-to.result < line_size)
+on_line c =
+    let d = c in
+    let z = (start c).requires.1 d.loop-i.i (omega arith) in
+    (omega (arith, d.end_at-from.ensures, z.0), omega (arith, c.end_at-to.ensures, z.1))
 
 -- its rate is small
-small : (c : tie.After-slots-at Inv-loop μ-loop) → c .slots-at .result ≤ max-slots
-small c = omega (arith, c .slots-at .ensures, start c .pre .0 .small (c .before .before .before .before .loop .i) (omega arith))
+small : (c : tie.After-slots_at-more invariant-loop decreases-loop) → c.slots_at-more.result ≤ max_slots
+small c = omega (arith, c.slots_at-more.ensures, (start c).requires.0.small c.loop-i.i (omega arith))
 
-loop-holds : tie.Need-loop-holds Inv-loop μ-loop
-loop-holds c = (omega arith, rw (c .pre .2) (sums-start _ _), rw (c .pre .3) (sums-start _ _))
+loop-holds : tie.Need-loop-i-init invariant-loop decreases-loop
+loop-holds c = (omega arith, rw c.requires.2 (sums_start _ _), rw c.requires.3 (sums_start _ _))
 
-end-at-requires : tie.Need-end-at-requires Inv-loop μ-loop
-end-at-requires c κs = omega (arith, c .before .before .pre .0 .few)
+end-at-requires : tie.Need-end_at-from-requires invariant-loop decreases-loop
+end-at-requires c κs = omega (arith, c.requires.0.few)
 
-end-at-requires-2 : tie.Need-end-at-requires-2 Inv-loop μ-loop
-end-at-requires-2 c κs = omega (arith, c .before .before .before .pre .0 .few)
+end-at-requires-2 : tie.Need-end_at-to-requires invariant-loop decreases-loop
+end-at-requires-2 c κs = omega (arith, c.requires.0.few)
 
-slots-at-requires : tie.Need-slots-at-requires Inv-loop μ-loop
-slots-at-requires c κs = omega (arith, c .before .before .before .before .pre .0 .few)
+slots-at-requires : tie.Need-slots_at-more-requires invariant-loop decreases-loop
+slots-at-requires c κs = omega (arith, c.requires.0.few)
 
-cast-more : tie.Need-cast-more Inv-loop μ-loop
+cast-more : tie.Need-overflow_cast-more invariant-loop decreases-loop
 cast-more c = omega (arith, small c)
 
-mul-joining : tie.Need-mul-joining Inv-loop μ-loop
-mul-joining c = omega (arith, on-line c)
+mul-joining : tie.Need-offset_bounds-joining-from invariant-loop decreases-loop
+mul-joining c = omega (arith, on_line c)
 
-element-copy-out-joining : tie.Need-element-copy-out-joining Inv-loop μ-loop
-element-copy-out-joining c = omega (arith, on-line c, c .before .before .before .before .loop .inv .1 .size)
+element-copy-out-joining : tie.Need-bounds-joining-from invariant-loop decreases-loop
+element-copy-out-joining c = omega (arith, on_line c.before, c.loop-i.invariant.1.size)
 
-add-joining : tie.Need-add-joining Inv-loop μ-loop
+add-joining : tie.Need-overflow_add-joining invariant-loop decreases-loop
 add-joining c =
-    let d = c .before in
-    let u = d .before .before .before .before in
-    let R = start d .pre .0 in
+    let d = c.before.before in
+    let u = d in
+    let R = (start d).requires.0 in
     omega (
       arith,
-      sums-small (u .loop .inv .1) (λ j m. R .small j (omega arith)) (d .before .before .end-at .result) (on-line d .0),
+      sums_small u.loop-i.invariant.1 (λ j m. R.small j (omega arith)) d.end_at-from.result (on_line d).0,
       small d,
-      R .few,
+      R.few,
     )
 
-mul-joining-2 : tie.Need-mul-joining-2 Inv-loop μ-loop
-mul-joining-2 c = omega (arith, on-line (c .before))
+mul-joining-2 : tie.Need-offset_bounds-joining-from-in-loop-i invariant-loop decreases-loop
+mul-joining-2 c = omega (arith, on_line c.before.before)
 
-element-write-joining : tie.Need-element-write-joining Inv-loop μ-loop
-element-write-joining c = let d = c .before in omega (arith, on-line d, d .before .before .before .before .loop .inv .1 .size)
+element-write-joining : tie.Need-bounds-joining-from-in-loop-i invariant-loop decreases-loop
+element-write-joining c = let d = c.before.before in omega (arith, on_line d, d.loop-i.invariant.1.size)
 
-mul-leaving : tie.Need-mul-leaving Inv-loop μ-loop
-mul-leaving c = omega (arith, on-line (c .before))
+mul-leaving : tie.Need-offset_bounds-leaving-to invariant-loop decreases-loop
+mul-leaving c = omega (arith, on_line c.before.before)
 
-element-copy-out-leaving : tie.Need-element-copy-out-leaving Inv-loop μ-loop
-element-copy-out-leaving c = let d = c .before in omega (arith, on-line d, d .before .before .before .before .loop .inv .2 .size)
+element-copy-out-leaving : tie.Need-bounds-leaving-to invariant-loop decreases-loop
+element-copy-out-leaving c = let d = c.before.before.before in omega (arith, on_line d, d.loop-i.invariant.2.size)
 
-add-leaving : tie.Need-add-leaving Inv-loop μ-loop
+add-leaving : tie.Need-overflow_add-leaving invariant-loop decreases-loop
 add-leaving c =
-    let d = c .before .before in
-    let u = d .before .before .before .before in
-    let R = start d .pre .0 in
+    let d = c.before.before.before.before in
+    let u = d in
+    let R = (start d).requires.0 in
     omega (
       arith,
-      sums-small (u .loop .inv .2) (λ j m. R .small j (omega arith)) (d .before .end-at2 .result) (on-line d .1),
+      sums_small u.loop-i.invariant.2 (λ j m. R.small j (omega arith)) d.end_at-to.result (on_line d).1,
       small d,
-      R .few,
+      R.few,
     )
 
-mul-leaving-2 : tie.Need-mul-leaving-2 Inv-loop μ-loop
-mul-leaving-2 c = omega (arith, on-line (c .before .before))
+mul-leaving-2 : tie.Need-offset_bounds-leaving-to-in-loop-i invariant-loop decreases-loop
+mul-leaving-2 c = omega (arith, on_line c.before.before.before.before)
 
-element-write-leaving : tie.Need-element-write-leaving Inv-loop μ-loop
+element-write-leaving : tie.Need-bounds-leaving-to-in-loop-i invariant-loop decreases-loop
 element-write-leaving c =
-    let d = c .before .before in
-    omega (arith, on-line d, d .before .before .before .before .loop .inv .2 .size)
+    let d = c.before.before.before.before in
+    omega (arith, on_line d, d.loop-i.invariant.2.size)
 
-add-i : tie.Need-add-i Inv-loop μ-loop
+add-i : tie.Need-overflow_add-i invariant-loop decreases-loop
 add-i c = omega arith
 
-loop-less : tie.Need-loop-less Inv-loop μ-loop
+loop-less : tie.Need-loop-i-smaller invariant-loop decreases-loop
 loop-less c = omega arith
 
-loop-again : tie.Need-loop-again Inv-loop μ-loop
+loop-again : tie.Need-loop-i-preserved invariant-loop decreases-loop
 loop-again c =
-    let d = c .before .before in
-    let e = d .before .before in
-    let u = e .before .before .loop in (
+    let d = c.before.before.before.before in
+    let e = d in
+    let u = e.loop-i in (
       omega arith,
-      sums-next _ _ (u .inv .1) (e .end-at .ensures) (d .slots-at .ensures) (on-line d .0),
-      sums-next _ _ (u .inv .2) (d .before .end-at2 .ensures) (d .slots-at .ensures) (on-line d .1),
+      sums_next _ _ u.invariant.1 e.end_at-from.ensures d.slots_at-more.ensures (on_line d).0,
+      sums_next _ _ u.invariant.2 d.end_at-to.ensures d.slots_at-more.ensures (on_line d).1,
     )
 
-returns : tie.Need-returns Inv-loop μ-loop
-returns c = let u = c .before .loop in (sums-end (omega arith) (u .inv .1), sums-end (omega arith) (u .inv .2))
+returns : tie.Need-returns invariant-loop decreases-loop
+returns c = let u = c.loop-i in (sums_end (omega arith) u.invariant.1, sums_end (omega arith) u.invariant.2)
 
-pub rates-at-spec : {M : Type 1} → statement M
-rates-at-spec =
+pub rates_at_spec : {M : Type 1} → statement M
+rates_at_spec =
     tie.close
     (tie.spec
-    Inv-loop
-    μ-loop
+    invariant-loop
+    decreases-loop
     loop-holds
     end-at-requires
     end-at-requires-2

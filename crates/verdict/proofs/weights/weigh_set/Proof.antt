@@ -1,34 +1,34 @@
 -- weigh_set: a set that closes is one more, else nothing changes.
-use mathlib.Core.Path.{refl, ap, _∙_}
+use mathlib.Core.Path.{refl, ap, ◌∙◌}
 use native.Mathlib.Omega.{arith}
-use borrow.Author.Needs.{needs}
-use Rattle·verdict·specs.specs.Weights.{nextLowest}
-use Rattle·verdict·proofs.proofs.weights.weigh_set.Statement.{statement}
-use Rattle·verdict·proofs.proofs.weights.weigh_set.Tie as tie
+use borrow.Author.Rules.{rules}
+use Rattle.verdict.specs.Weights.{next_lowest}
+use Rattle.verdict.proofs.weights.weigh_set.Statement.{statement}
+use Rattle.verdict.proofs.weights.weigh_set.Tie as tie
 
-add-sets : tie.Need-add-sets
-add-sets c = omega (arith, c .before .before .pre .0 (c .before .if1 .taken))
+add-sets : tie.Need-overflow_add-sets
+add-sets c = omega (arith, c.requires.0 c.if-closes.true)
 
-is-over-requires : tie.Need-is-over-requires
-is-over-requires c κs = search needs
+is-over-requires : tie.Need-is_over-passes-requires
+is-over-requires c κs = search rules
 
-lowest-next-requires : tie.Need-lowest-next-requires
-lowest-next-requires c κs = c .before .before .before .pre .0 (c .before .before .if1 .taken)
+lowest-next-requires : tie.Need-lowest_next-requires
+lowest-next-requires c κs = c.requires.0 c.if-closes.true
 
 larger-requires : tie.Need-larger-requires
-larger-requires c κs = search needs
+larger-requires c κs = search rules
 
-returns : tie.Need-returns
+returns : tie.Need-returns-then-closes
 returns c =
-    let t = c .before .before .before .before in
-    let z = t .before .args .found in
-    rw (t .if1 .taken)
-    (refl, c .before .lowest-next .ensures ∙ ap (nextLowest (z .over) (z .sets)) (c .before .before .is-over .ensures), c .larger .ensures)
+    let t = c in
+    let z = t.args.found in
+    rw t.if-closes.true
+    (refl, c.lowest_next.ensures ∙ ap (next_lowest z.over z.sets) c.is_over-passes.ensures, c.larger.ensures)
 
-returns-2 : tie.Need-returns-2
-returns-2 c = rw (c .if1 .left) (refl, refl, refl)
+returns-2 : tie.Need-returns
+returns-2 c = rw c.if-closes.false (refl, refl, refl)
 
-pub weigh-set-spec : {M : Type 1} → statement M
-weigh-set-spec =
+pub weigh_set_spec : {M : Type 1} → statement M
+weigh_set_spec =
     tie.close
     (tie.spec add-sets is-over-requires lowest-next-requires larger-requires returns returns-2)
