@@ -231,6 +231,9 @@ module _ (f : List ℕ) where
 abbrev pub Uncounted : Columns → Type 0
 Uncounted c = (c.elements ≡ 0) × (c.rows ≡ 0) × (c.rings ≡ 0)
 
+pub uncounted : {c : Columns} → c ≡ no_columns → Uncounted c
+uncounted e = (ap (λ (c : Columns). c.elements) e, ap (λ (c : Columns). c.rows) e, ap (λ (c : Columns). c.rings) e)
+
 module _ (f : List ℕ) where
   -- the header is refused
   pub into_header : (r : Reason) {c : Columns} → Answers (header_checks f) (number_of r) 0 → Uncounted c

@@ -4,11 +4,10 @@ use Rattle.rules.proofs.Answers.{None, none_of}
 use Rattle.rules.specs.Refusals.{Answers, header_checks}
 use Rattle.rules.specs.TableFile.{file_table}
 use Rattle.table.proofs.Reasons.{handed}
-use Rattle.table.specs.Columns.{Whole, HoldsLabels, no_columns}
-use Rattle.table.specs.declared.columns.Columns.{Columns}
+use Rattle.table.specs.Columns.{Whole, HoldsLabels}
 use Rattle.decoding.specs.Decoded.{DecodingTo}
 use Rattle.table.proofs.Faults.{header_numbered, header_whole}
-use Rattle.decoding.proofs.Decoding.{Uncounted, decoding_start, decoding_end, into_header, into_row, into_all}
+use Rattle.decoding.proofs.Decoding.{uncounted, decoding_start, decoding_end, into_header, into_row, into_all}
 use Rattle.decoding.proofs.decode_into.Goals as goal
 
 -- the header has passed
@@ -17,9 +16,6 @@ none f a = none_of _ 0 (header_numbered f) a
 
 whole : (f : List ℕ) → Answers (header_checks f) 0 0 → Whole f
 whole f a = header_whole f (none f a)
-
-uncounted : {c : Columns} → c ≡ no_columns → Uncounted c
-uncounted e = (ap (λ (c : Columns). c.elements) e, ap (λ (c : Columns). c.rows) e, ap (λ (c : Columns). c.rings) e)
 
 pub returns-in_err-header_fault : goal.returns-in_err-header_fault
 returns-in_err-header_fault c =
