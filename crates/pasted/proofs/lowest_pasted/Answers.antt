@@ -1,5 +1,5 @@
 -- lowest_pasted: row after row has no earlier one with its ends and period.
-use Rattle.std.proofs.Common.{◌≡◌, ℕ, ◌+◌, ◌<◌, Bool, ◌&&◌, List, arith, sym, ap, ◌∙◌}
+use Rattle.std.proofs.Common.{◌≡◌, ℕ, ◌+◌, ◌<◌, Bool, ◌&&◌, eqb, List, arith, sym, ap, ◌∙◌}
 use Rattle.numbers.specs.Lists.{at}
 use Rattle.numbers.specs.Word.{bit, word}
 use Rattle.numbers.specs.Finite.{any}
