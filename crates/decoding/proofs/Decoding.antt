@@ -301,7 +301,7 @@ labels_only {g} {xs} {ys} X Y =
     ext_get_or 0 xs ys (X.size ∙ sym Y.size) (λ i l. ap (λ (h : ℕ → ℕ). h i) (X.labels ∙ sym Y.labels))
 
 -- a refusal is no pass
-refused_not : {A : Type 0} (cs : List Check) (r : Refusal) (n p : ℕ) → n ≡ 0 → Answers cs n p → Answers cs (number_of r.reason) r.place → A
+pub refused_not : {A : Type 0} (cs : List Check) (r : Refusal) (n p : ℕ) → n ≡ 0 → Answers cs n p → Answers cs (number_of r.reason) r.place → A
 refused_not cs r n p z a b = absurd (not_done r.reason ((answers_only cs _ _ _ _ b a).0 ∙ z))
 
 pub decodes_only : {cs : List Check} {t : Labelled} {r s : Result Decoded Refusal} → Decodes cs t r → Decodes cs t s → r ≡ s

@@ -108,22 +108,7 @@ module _ (n : ℕ) (p : ℕ → Bool) where
   pub no_row : {i : ℕ} → Sought n p i → n ≤ i → true ≡ not (any n p)
   no_row S l = sym (ap not (any_none n p (λ j m. S.none j (omega arith))))
 
--- ---- a cut as the board's own number, of a ring that is there: whether it is idle is tested
-
-module _ {a : Bool} (b : Bool) (x : ℕ) where
-  pub board_idle : a ≡ true → b ≡ true → 1 ≡ cond a (cond b 1 x) 0
-  board_idle e f = rw (e, f)
-
-  pub board_busy : a ≡ true → b ≡ false → x ≡ cond a (cond b 1 x) 0
-  board_busy e f = rw (e, f)
-
--- ---- the searches: a ring that is there is searched, and of two cuts the first past the last element is looked for
-
-pub searched_there : {d r x y : ℕ} → d < r → x ≡ y → x ≡ cond (ltb d r) y 1
-searched_there {d} {r} l e = rw (there l) e
-
-pub searched_not : {d r : ℕ} (y : ℕ) → r ≤ d → 1 ≡ cond (ltb d r) y 1
-searched_not {d} {r} y l = rw (not_there l)
+-- ---- the search: of two cuts the first past the last element is looked for
 
 module _ (M c q : ℕ) where
   abbrev past : ℕ → Bool
