@@ -24,7 +24,7 @@ use Rattle.outline.specs.Layout.{LaidOut}
 use Rattle.outline.proofs.Outlined.{line_numbered, found_count}
 use Rattle.verdict.specs.declared.Loaded.{Loaded}
 use Rattle.verdict.specs.declared.Admitted.{Admitted}
-use Rattle.verdict.specs.Weighing.{Weighs}
+use Rattle.verdict.specs.Weighing.{RowsWeighed, Weighable, Weighs}
 use Rattle.verdict.specs.declared.Analysis.{Analysis}
 use Rattle.verdict.specs.Analysed.{table_checks, Accepted, Analysed}
 use Rattle.verdict.specs.Verdict.{JudgedBy, IsVerdict, VerdictOn}
@@ -43,6 +43,20 @@ judged_first t r a =
     judged_refused r (stopped (line_checks t) (bound_checks t) (number_of r.reason) r.place (not_done r.reason) a)
 
 module _ {t : Table} {l : Layout} (A : LaidOut t (Ok l)) where
+  -- what is weighed
+  pub laid_weighable : {i : ℕ} {xs : List ℕ} → RowsWeighed t i xs → Weighable t t.rows i l.time l.top l.line.first l.line.second xs
+  laid_weighable w =
+      let L = A.found in
+      record {
+        rows_is = refl;
+        weighed = w;
+        timed = L.timed;
+        clear = L.clear;
+        top_is = L.top;
+        first = L.first;
+        second = L.second;
+      }
+
   none_line : None (line_checks t)
   none_line = none_of (line_checks t) 0 (line_numbered t) A.answers
 

@@ -1,5 +1,5 @@
 -- weigh: each return answers 13 and 14, and the last has what is found of the sets.
-use Rattle.std.proofs.Common.{arith}
+use Rattle.std.proofs.Common.{arith, refl}
 use Rattle.lags.proofs.Intervals.{hyperperiod_positive, shortest_positive, shortest_le}
 use Rattle.verdict.proofs.Weighed.{weighable_on_line, weighable_rates, weighs_light, weighs_over, weighs_done}
 use Rattle.verdict.proofs.weigh.Goals as goal
@@ -44,4 +44,5 @@ thousandths-requires c =
 pub returns : goal.returns
 returns c t A =
     let v = c.weigh_line-found.ensures in
-    weighs_done A c.if-light-rows.false v.1 v.2 c.if-found.false refl c.thousandths.ensures
+    weighs_done A c.if-light-rows.false v.1 v.2 c.if-found.false {w = record { load = c.thousandths.result; sets = c.weigh_line-found.result.sets }} refl
+    c.thousandths.ensures
