@@ -8,7 +8,7 @@ use Rattle.rules.specs.Bus.{Table}
 use Rattle.rules.specs.TableFile.{file_table}
 use Rattle.rules.specs.Loads.{reported}
 use Rattle.rules.specs.Refusals.{Check, Answers, given_checks, line_checks, bound_checks, verdict_checks}
-use Rattle.rules.proofs.Answers.{None, none_of, stopped, joined, answered, answers_only, none_right}
+use Rattle.rules.proofs.Answers.{None, none_of, stopped, joined, answers_only}
 use Rattle.rules.proofs.Sets.{sets_only}
 use Rattle.table.specs.Refusal.{number_of, number, place}
 use Rattle.table.specs.declared.refusals.Refusal.{Refusal}
@@ -31,6 +31,9 @@ pub analysed_after : (cs ds : List Check) → None cs → {t : Table} {a : Resul
 analysed_after cs ds none {t} {a} A = record { answers = joined cs ds (number a) (place a) none A.answers; found = A.found }
 
 module _ (t : Table) where
+  pub bound_refused : (r : Refusal) → Answers (bound_checks t) (number_of r.reason) r.place → Analysed (bound_checks t) t (Err r)
+  bound_refused r a = record { answers = a; found = tt }
+
   -- 10 or 11
   pub analysed_first : (r : Refusal) → Answers (line_checks t) (number_of r.reason) r.place → Analysed (table_checks t) t (Err r)
   analysed_first r a = record {
@@ -41,6 +44,22 @@ module _ (t : Table) where
   module _ {o : Outline} {i : ℕ} {xs : List ℕ} (R : Rated t o i xs) where
     pub line_none : None (line_checks t)
     line_none = none_of (line_checks t) 0 (line_numbered t) R.outlined.answers
+
+    -- 13 and 14 alone
+    pub bound_passed : {w : Loaded} → Weighs t (Ok w) → Analysed (bound_checks t) t (Ok (record { outline = o; load = w.load; rate = xs }))
+    bound_passed W =
+        let F = R.outlined.found in
+        let s = F.timed.sound in
+        let v = W.done in
+        record {
+          answers = W.answers;
+          found = record {
+            outline = F;
+            admissible = table_admissible t s (table_none t line_none W.answers);
+            rate = R.weighed.rate;
+            load = v.3 ∙ ap (reported t) (sets_only s.rows_low v.1 F.list);
+          };
+        }
 
     pub rated_weighable : Weighable t t.rows i o.time o.top o.first o.second xs
     rated_weighable =
@@ -57,27 +76,11 @@ module _ (t : Table) where
 
     -- 13 or 14
     pub analysed_next : (r : Refusal) → Answers (bound_checks t) (number_of r.reason) r.place → Analysed (table_checks t) t (Err r)
-    analysed_next r a = record {
-      answers = joined (line_checks t) (bound_checks t) (number_of r.reason) r.place line_none a;
-      found = tt;
-    }
+    analysed_next r a = analysed_after (line_checks t) (bound_checks t) line_none (bound_refused r a)
 
     -- none
     pub analysed_done : {w : Loaded} → Weighs t (Ok w) → Analysed (table_checks t) t (Ok (record { outline = o; load = w.load; rate = xs }))
-    analysed_done W =
-        let F = R.outlined.found in
-        let s = F.timed.sound in
-        let v = W.done in
-        let none : None (table_checks t) = table_none t line_none W.answers in
-        record {
-          answers = answered (table_checks t) none;
-          found = record {
-            outline = F;
-            admissible = table_admissible t s none;
-            rate = R.weighed.rate;
-            load = v.3 ∙ ap (reported t) (sets_only s.rows_low v.1 F.list);
-          };
-        }
+    analysed_done W = analysed_after (line_checks t) (bound_checks t) line_none (bound_passed W)
 
 -- ---- of a file
 
