@@ -29,10 +29,7 @@ puts_more {a} {b} {was} {mid} {now} {at} {next} {last} P Q =
     (rw (sym (sets_append was a b at), sym P.holds, sym P.after) Q.holds)
     (omega (arith, P.after, Q.after, length-append a b))
 
--- the byte is written where there is a place for it, and else nothing
-pub puts_byte : (was : List ℕ) (at b : ℕ) → Puts (b ∷ []) was at (set was at b) (at + 1)
-puts_byte was at b = puts_of (b ∷ []) was (set was at b) at (at + 1) refl refl
-
+-- a byte is written nowhere where there is no place for it
 pub puts_past : (was : List ℕ) (at b : ℕ) → length was ≤ at → Puts (b ∷ []) was at was (at + 1)
 puts_past was at b l = puts_of (b ∷ []) was was at (at + 1) (sym (set_out was at b l)) refl
 

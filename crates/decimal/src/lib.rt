@@ -24,10 +24,8 @@ pub fn put_bytes(text: &[u8], out: &mut [u8], at: usize) -> usize
     ensures { Puts text.now out.old at out.new result }
 {
     let mut next = at;
-    let mut i: usize = 0;
-    while i < text.len() {
-        next = put_byte(text[i], out, next);
-        i += 1;
+    for b in text {
+        next = put_byte(*b, out, next);
     }
     next
 }
@@ -58,10 +56,8 @@ fn put_fields(numbers: &[u64], out: &mut [u8], at: usize) -> usize
         × (result ≤ at + field_most * length numbers.now) }
 {
     let mut next = at;
-    let mut k: usize = 0;
-    while k < numbers.len() {
-        next = put_field(numbers[k], out, next);
-        k += 1;
+    for x in numbers {
+        next = put_field(*x, out, next);
     }
     next
 }
