@@ -5,7 +5,7 @@ use Prim.Native.Nat.{ℕ, suc, ◌+◌, ◌/◌, ◌%◌, ◌^◌, ◌≤◌, �
 use native.Mathlib.Nat.{add-zero, pow-suc}
 use native.Mathlib.Omega.{arith}
 use lib.ListN.{length, set, length-append}
-use lib.Seq.{sets, length-sets, set_out}
+use lib.Seq.{sets, length-sets}
 use Rattle.rules.specs.Text.{digit, decimal}
 use Rattle.decimal.specs.Puts.{Puts}
 use Rattle.decimal.proofs.Decimal.{decimal_one, decimal_more, decimal_short}
@@ -28,10 +28,6 @@ puts_more {a} {b} {was} {mid} {now} {at} {next} {last} P Q =
     puts_of (a ++ b) was now at last
     (rw (sym (sets_append was a b at), sym P.holds, sym P.after) Q.holds)
     (omega (arith, P.after, Q.after, length-append a b))
-
--- a byte is written nowhere where there is no place for it
-pub puts_past : (was : List ℕ) (at b : ℕ) → length was ≤ at → Puts (b ∷ []) was at was (at + 1)
-puts_past was at b l = puts_of (b ∷ []) was was at (at + 1) (sym (set_out was at b l)) refl
 
 -- ---- a number, digit by digit
 
