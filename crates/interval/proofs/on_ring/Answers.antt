@@ -1,15 +1,10 @@
 -- `on_ring` goes by the ring.
-use mathlib.Core.Path.{◌≡◌, refl, ap, ◌∙◌}
-use mathlib.Core.Bool.{Bool, true, false, not, ◌&&◌, cond}
-use native.Mathlib.Omega.{arith}
-use lib.Bits.{bit_and}
-use lib.Dec.{eqb}
+use Rattle.std.proofs.Common.{◌≡◌, Bool, true, false, not, ◌&&◌, cond, bit_and, eqb, refl, ap, ◌∙◌, arith}
 use Rattle.numbers.specs.Finite.{only}
 use Rattle.numbers.specs.Word.{bit}
 use Rattle.numbers.proofs.Word.{bit_and_lem}
 use Rattle.loads.proofs.Words.{bit_xor_lem}
-use Rattle.interval.proofs.on_ring.Statement.{statement}
-use Rattle.interval.proofs.on_ring.Tie as tie
+use Rattle.interval.proofs.on_ring.Goals as goal
 
 -- a row is in neither word, in one, or in both
 low : (r u : Bool) → cond (r && u) (not r) r ≡ (r && eqb (only u 1) 0)
@@ -24,8 +19,8 @@ high true true = refl
 high true false = refl
 high false u = refl
 
-returns : tie.Need-returns-then-d-eq0
-returns c i =
+pub returns-then-d-eq0 : goal.returns-then-d-eq0
+returns-then-d-eq0 c i =
     let a = c.args in
     rw c.if-d-eq0.true (
     bit_xor_lem a.rows (bit_and a.rows a.upper) i
@@ -33,11 +28,8 @@ returns c i =
     ∙ low (bit a.rows i) (bit a.upper i)
     )
 
-returns-2 : tie.Need-returns
-returns-2 c i =
+pub returns : goal.returns
+returns c i =
     let a = c.args in
     let e : a.d ≡ 1 = omega (arith, c.requires, c.if-d-eq0.false) in
     rw e (bit_and_lem a.rows a.upper i ∙ high (bit a.rows i) (bit a.upper i))
-
-pub on_ring_spec : {M : Type 1} → statement M
-on_ring_spec = tie.close (tie.spec returns returns-2)

@@ -1,11 +1,8 @@
 -- `merge` toggles the rows that differ, where they are in `upper`.
-use mathlib.Core.Path.{◌≡◌, refl, ap, ◌∙◌}
-use mathlib.Core.Bool.{Bool, true, false, not, ◌&&◌, cond}
-use lib.Bits.{bit_and, bit_xor}
+use Rattle.std.proofs.Common.{◌≡◌, Bool, true, false, not, ◌&&◌, cond, bit_and, bit_xor, refl, ap, ◌∙◌}
 use Rattle.numbers.specs.Word.{bit}
 use Rattle.numbers.proofs.Word.{bit_and_lem, bit_xor_lem}
-use Rattle.interval.proofs.fold.merge.Statement.{statement}
-use Rattle.interval.proofs.fold.merge.Tie as tie
+use Rattle.interval.proofs.fold.merge.Goals as goal
 
 toggled : (l h u : Bool) → cond l (not (cond l (not h) h && u)) (cond l (not h) h && u) ≡ cond u h l
 toggled true true true = refl
@@ -17,13 +14,10 @@ toggled false true false = refl
 toggled false false true = refl
 toggled false false false = refl
 
-returns : tie.Need-returns
+pub returns : goal.returns
 returns c i =
     let a = c.args in
     bit_xor_lem a.low (bit_and (bit_xor a.low a.high) a.upper) i
     ∙ ap (λ (q : Bool). cond (bit a.low i) (not q) q)
     (bit_and_lem (bit_xor a.low a.high) a.upper i ∙ ap (λ (p : Bool). p && bit a.upper i) (bit_xor_lem a.low a.high i))
     ∙ toggled (bit a.low i) (bit a.high i) (bit a.upper i)
-
-pub merge_spec : {M : Type 1} → statement M
-merge_spec = tie.close (tie.spec returns)
