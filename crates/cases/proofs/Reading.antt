@@ -45,9 +45,6 @@ pub record Front (text was : List ℕ) (i : ℕ) (o : Bool) (x : ℕ) (out : Lis
   pub puts : Puts read was 0 out k
   pub rest : read ++ numbers_from o x (drop i text) ≡ numbers_in text
 
-pub front_start : (text was : List ℕ) → Front text was 0 false 0 was 0
-front_start text was = record { low = omega arith; few = omega arith; read = []; puts = puts_none was 0; rest = refl }
-
 module _ {text was out : List ℕ} {i x k : ℕ} {o : Bool} (F : Front text was i o x out k) where
   front_next : {now : List ℕ} {next : ℕ} → i < length text → Puts (ended (o && not (is_digit (at text i))) x) out k now next
       → Front text was (i + 1) (is_digit (at text i)) (grown x (at text i)) now next
