@@ -144,10 +144,8 @@ fn rows_split(given: Columns, relay: usize) -> usize
     ensures { result ≡ (rules.split (table_of given) relay).rows }
 {
     let mut rows: usize = 0;
-    let mut i: usize = 0;
-    while i < given.rows {
+    for i in 0..given.rows {
         rows += parts(goes(given, i, relay));
-        i += 1;
     }
     rows
 }
@@ -158,12 +156,10 @@ fn split_at(given: Columns, relay: usize) -> Columns
     ensures { Holds (rules.split (table_of given) relay) result }
 {
     let mut split = no_rows(given.elements, given.rings);
-    let mut i: usize = 0;
-    while i < given.rows {
+    for i in 0..given.rows {
         let row = row_of(given, i);
         let through = goes(given, i, relay);
         split = with_parts(split, row, relay as u16, through);
-        i += 1;
     }
     split
 }
