@@ -7,7 +7,7 @@ ghost use Rattle.decimal.specs.Puts.{limit, Puts};
 ghost use Rattle.cases.specs.Tables.{low, high, row_numbers, row_bytes, way_bytes, row_at, file_bytes};
 ghost use Rattle.cases.specs.Reading.{FoundAt, largest, grown, ended_number, numbers_in};
 
-use decimal::put_bytes;
+use decimal::{put, put_bytes};
 use table::Table;
 
 // ---- the text
@@ -35,19 +35,7 @@ fn grow(x: u64, byte: u8) -> u64
     }
 }
 
-// A number is written to place `k`, where there is room; the place after it.
-fn put(x: u64, out: &mut [u64], k: usize) -> usize
-    requires { k < largest }
-    ensures { Puts (x ∷ []) out.old k out.new result }
-{
-    if k >= out.len() {
-        return k + 1;
-    }
-    out[k] = x;
-    k + 1
-}
-
-// The same, of a number that has ended, if one has.
+// A number that has ended, if one has, is written to place `k`, where there is room; the place after it.
 #[tactic(auto, unfolding(crate::specs::Reading::ended))]
 fn put_ended(ended: Option<u64>, out: &mut [u64], k: usize) -> usize
     requires { k < largest }

@@ -29,6 +29,10 @@ puts_more {a} {b} {was} {mid} {now} {at} {next} {last} P Q =
     (rw (sym (sets_append was a b at), sym P.holds, sym P.after) Q.holds)
     (omega (arith, P.after, Q.after, length-append a b))
 
+-- what is written at one place
+pub puts_byte : {was now : List ℕ} {at b next : ℕ} → (now ≡ set was at b) × (next ≡ at + 1) → Puts (b ∷ []) was at now next
+puts_byte {was} {now} {at} {b} {next} p = puts_of (b ∷ []) was now at next p.0 p.1
+
 -- ---- a number, digit by digit
 
 module _ {was now : List ℕ} {n at next : ℕ} where
