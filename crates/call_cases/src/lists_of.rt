@@ -9,8 +9,7 @@
 ghost use Rattle.std.specs.Prelude.{◌+◌, ◌*◌, ◌≤◌, ◌<◌};
 ghost use Rattle.rules.specs.Bounds.{max_slots};
 
-use crate::tables::print_numbers;
-use crate::{KEPT, MOST, print_answer, print_number, room};
+use crate::{KEPT, MOST, print_answer, print_number, print_numbers, room};
 use cases::number_at;
 use lists::{Entry, Head};
 use table::Answer;
@@ -38,8 +37,7 @@ fn row_of(k: usize, place: usize, row: u64) -> u16
 fn fill(entries: usize, place: usize, row: u64, out: &mut [u8])
     requires { entries ≤ 2 * max_slots + 1 }
 {
-    let mut k: usize = 0;
-    while k < entries {
+    for k in 0..entries {
         let at = Head::BYTES + Head::ENTRY_BYTES * k;
         if out.len() < at + Head::ENTRY_BYTES {
             return;
@@ -50,7 +48,6 @@ fn fill(entries: usize, place: usize, row: u64, out: &mut [u8])
             way: (k % 2) as u16,
         };
         lists::put_bytes(entry, at, out);
-        k += 1;
     }
 }
 

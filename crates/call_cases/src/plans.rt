@@ -5,7 +5,7 @@
 // A call is plan, step or standings, or step_finished or standings_finished of a planner that has finished; or list. It is lent `room`
 // words. For each is printed: number and place, then what the call left: the stage, the first four totals, and all of the lent words; or
 // the first four standings; of a list how many sets there are, and the words.
-use crate::{KEPT, MOST, byte_at, print, print_answer, print_number, print_word};
+use crate::{KEPT, MOST, byte_at, print_answer, print_number, print_numbers, print_word};
 use cases::{find, number_at};
 use planner::{MovedOn, Planner, Stage, Standings};
 use table::{Answer, Table};
@@ -27,11 +27,7 @@ fn print_stage(rt: &impl Print, stage: Stage) {
 
 fn print_totals(rt: &impl Print, totals: [u64; Table::ROWS]) {
     print_word(rt, b" totals");
-    let mut i: usize = 0;
-    while i < 4 {
-        print_number(rt, totals[i]);
-        i += 1;
-    }
+    print_numbers(rt, &totals[..4]);
 }
 
 fn print_moved(rt: &impl Print, r: MovedOn) {
@@ -45,11 +41,7 @@ fn print_moved(rt: &impl Print, r: MovedOn) {
 
 // How far a standing is from 0, where h is at most 64.
 fn distance(x: i64) -> u64 {
-    let mut n: u64 = 0;
-    while n < 64 && numbers::less(n, 0) != x && numbers::less(0, n) != x {
-        n += 1;
-    }
-    n
+    x.unsigned_abs().min(64)
 }
 
 // So many ahead, or behind.
@@ -64,11 +56,8 @@ fn print_standing(rt: &impl Print, x: i64) {
 
 fn print_standings(rt: &impl Print, r: Standings) {
     print_answer(rt, r.answer);
-    let values = r.values;
-    let mut i: usize = 0;
-    while i < 4 {
-        print_standing(rt, values[i]);
-        i += 1;
+    for value in &r.values[..4] {
+        print_standing(rt, *value);
     }
 }
 
@@ -129,7 +118,8 @@ fn call_and_print(
     words: &mut [u64],
 ) {
     call(rt, letter, planner, relay, file, words);
-    print(rt, b" words", words);
+    print_word(rt, b" words");
+    print_numbers(rt, words);
 }
 
 fn stage_of(heading: &[u8], k: u64) -> Stage {
@@ -141,10 +131,9 @@ fn stage_of(heading: &[u8], k: u64) -> Stage {
 
 fn planner_of(heading: &[u8], given: &[u64]) -> Planner {
     let mut totals = [0u64; Table::ROWS];
-    totals[0] = number_at(given, 2);
-    totals[1] = number_at(given, 3);
-    totals[2] = number_at(given, 4);
-    totals[3] = number_at(given, 5);
+    for i in 0..4 {
+        totals[i] = number_at(given, 2 + i);
+    }
     Planner {
         stage: stage_of(heading, number_at(given, 1)),
         totals: totals,

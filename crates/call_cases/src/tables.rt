@@ -9,54 +9,25 @@
 //
 // For each is printed: number and place, what the reader returned of the mark, the version, M and the row count, or of the element, the
 // hyperperiod and the entry count, and then all of the lent memory.
-ghost use Rattle.std.specs.Prelude.{◌+◌, ◌≤◌};
+ghost use Rattle.std.specs.Prelude.{◌+◌, ◌^◌, ◌≤◌, ◌<◌, length};
 
-use crate::{KEPT, MOST, print_answer, print_number, room};
+use crate::{KEPT, MOST, print_answer, print_number, print_numbers, room};
 use cases::number_at;
 use reader::Reading;
 use table::Answer;
-
-fn wide(x: u16) -> u64 {
-    x as u64
-}
-
-fn wide_byte(x: u8) -> u64 {
-    x as u64
-}
-
-pub(crate) fn print_numbers(rt: &impl Print, numbers: &[u16]) {
-    let mut i: usize = 0;
-    while i < numbers.len() {
-        print_number(rt, wide(numbers[i]));
-        i += 1;
-    }
-}
-
-fn print_bytes(rt: &impl Print, bytes: &[u8]) {
-    let mut i: usize = 0;
-    while i < bytes.len() {
-        print_number(rt, wide_byte(bytes[i]));
-        i += 1;
-    }
-}
 
 // How many numbers stand from place `k` on.
 fn after(given: &[u64], k: usize) -> usize
     ensures { result ≤ 540 }
 {
-    if given.len() < k {
-        return 0;
-    }
-    let size = given.len() - k;
-    if size < MOST { size } else { MOST }
+    given.len().saturating_sub(k).min(MOST)
 }
 
 // ---- the reader
 
 fn print_table(rt: &impl Print, r: Reading) {
     print_answer(rt, r.answer);
-    let mark = r.mark;
-    print_bytes(rt, &mark);
+    print_numbers(rt, &r.mark);
     print_number(rt, r.version);
     print_number(rt, r.table.elements as u64);
     print_number(rt, r.table.rows as u64);
@@ -82,17 +53,19 @@ fn read(rt: &impl Print, letter: u8, file: &[u8], out: &mut [u16]) {
     print_numbers(rt, out);
 }
 
-fn put_bytes(given: &[u64], out: &mut [u8]) {
-    let mut i: usize = 0;
-    while i < out.len() {
-        out[i] = (number_at(given, i + 1) % 256) as u8;
-        i += 1;
+// What `of` makes of each number from place `first` on.
+fn put_each<T: Drop, F: Fn(u64) -> T>(given: &[u64], first: usize, out: &mut [T], of: F)
+    requires few { first + length out.old < 2 ^ 64 }
+    requires callable { F.IsAlwaysCallable of }
+{
+    for (i, x) in out.iter_mut().enumerate() {
+        *x = of(number_at(given, first + i));
     }
 }
 
 pub(crate) fn read_case(rt: &impl Print, letter: u8, given: &[u64]) {
     let mut file = [0u8; MOST];
-    put_bytes(given, &mut file);
+    put_each(given, 1, &mut file, |x| (x % 256) as u8);
     let size = after(given, 1);
     let mut out = [KEPT as u16; MOST];
     let lent = room(given, 0, MOST);
@@ -135,20 +108,12 @@ fn write(
     out: &mut [u8],
 ) {
     print_answer(rt, write_by(letter, lead, given, numbers, out));
-    print_bytes(rt, out);
-}
-
-fn put_numbers(given: &[u64], out: &mut [u16]) {
-    let mut i: usize = 0;
-    while i < out.len() {
-        out[i] = (number_at(given, i + 4) % 65536) as u16;
-        i += 1;
-    }
+    print_numbers(rt, out);
 }
 
 pub(crate) fn write_case(rt: &impl Print, letter: u8, lead: &[u64], given: &[u64]) {
     let mut numbers = [0u16; MOST];
-    put_numbers(given, &mut numbers);
+    put_each(given, 4, &mut numbers, |x| (x % 65536) as u16);
     let size = after(given, 4);
     let mut out = [KEPT; MOST];
     let lent = room(given, 3, MOST);

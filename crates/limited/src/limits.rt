@@ -60,12 +60,10 @@ fn load_on<'a>(
         × (result ≤ max_rows * max_slots) }
 {
     let mut sum: u64 = 0;
-    let mut i: usize = 0;
-    while i < rows {
+    for i in 0..rows {
         if counts(table::slots_at(label, i), theirs, segments[i], s) {
             sum += table::slots_at(rate, i);
         }
-        i += 1;
     }
     sum
 }
@@ -86,14 +84,12 @@ fn lowest_over<'a>(
         (λ s. ltb (limit * hyper) (1000 * weight_on rows rate.now segments.now label.now theirs s)) }
 {
     let most = limit as u64 * hyper;
-    let mut s: usize = 0;
-    while s < elements {
+    for s in 0..elements {
         if most < 1000 * load_on(rows, rate, segments, label, theirs, s) {
             return s;
         }
-        s += 1;
     }
-    s
+    elements
 }
 
 // The refusal of a party that is over its limit on segment `s`, counted from 0; none where `s` is no segment.

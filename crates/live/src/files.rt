@@ -23,8 +23,7 @@ fn put_present<'a>(
         out.old out.new result }
 {
     let mut rows: usize = 0;
-    let mut i: usize = 0;
-    while i < Table::ROWS {
+    for i in 0..Table::ROWS {
         if table::slots_at(period, i) != 0 {
             reader::put_numbers(
                 table::row_at(cost, period, first, second, i, 0, label[i]),
@@ -33,7 +32,6 @@ fn put_present<'a>(
             );
             rows += 1;
         }
-        i += 1;
     }
     rows
 }

@@ -66,31 +66,18 @@ pub struct Changed {
     pub live: Live,
 }
 
+#[tactic(auto, using(crate::proofs::Seated::same_decided))]
 fn are_same<'a>(a: &'a [u64; Table::ELEMENTS], b: &'a [u64; Table::ELEMENTS]) -> bool
     ensures { Decides ((s : ℕ) → s < max_elements → at a.now s ≡ at b.now s) result }
 {
-    let mut s: usize = 0;
-    while s < Table::ELEMENTS {
-        if a[s] != b[s] {
-            return false;
-        }
-        s += 1;
-    }
-    true
+    a == b
 }
 
 // The lowest free place, 64 where all hold rows.
 fn lowest_free(period: &[u16; Table::ROWS]) -> usize
     ensures { result ≡ lowest max_rows (λ i. not (ltb 0 (at period.now i))) }
 {
-    let mut i: usize = 0;
-    while i < Table::ROWS {
-        if table::slots_at(period, i) == 0 {
-            return i;
-        }
-        i += 1;
-    }
-    i
+    period.iter().position(|p| *p == 0).unwrap_or(Table::ROWS)
 }
 
 // The number of the first of two refusals that applies, else 0.

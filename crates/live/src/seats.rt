@@ -56,17 +56,12 @@ fn are_seats<'a>(
         (column_live elements cost.now period.now first.now second.now label.now) i)
         result }
 {
-    let mut i: usize = 0;
-    while i < Table::ROWS {
-        if !is_seat(
+    (0..Table::ROWS).all(|i| {
+        is_seat(
             elements,
             table::row_at(cost, period, first, second, i, 0, label[i]),
-        ) {
-            return false;
-        }
-        i += 1;
-    }
-    true
+        )
+    })
 }
 
 // Place `j` has the row's ends and period.
@@ -100,14 +95,7 @@ pub fn has_row<'a>(
     requires { count ≤ max_rows }
     ensures { result ≡ any count (equal (at period.now) (at first.now) (at second.now) row) }
 {
-    let mut j: usize = 0;
-    while j < count {
-        if is_equal(period, first, second, j, row) {
-            return true;
-        }
-        j += 1;
-    }
-    false
+    (0..count).any(|j| is_equal(period, first, second, j, row))
 }
 
 // Place `i` holds a row that stands in an earlier place too.
@@ -147,14 +135,7 @@ fn are_single<'a>(
         (column_places elements cost.now period.now first.now second.now) i) → ⊥)
         result }
 {
-    let mut i: usize = 0;
-    while i < Table::ROWS {
-        if is_repeated(cost, period, first, second, i) {
-            return false;
-        }
-        i += 1;
-    }
-    true
+    (0..Table::ROWS).all(|i| !is_repeated(cost, period, first, second, i))
 }
 
 // The ring and the rows keep the live table's rules.

@@ -31,12 +31,10 @@ fn common(segments: &[u32; Table::ROWS], rows: usize, set: u64, elements: usize)
     ensures { result ≡ word elements (λ s. every rows (λ i. not (bit set i) || bit (at segments.now i) s)) }
 {
     let mut left = all_segments(elements);
-    let mut i: usize = 0;
-    while i < rows {
+    for i in 0..rows {
         if (set >> i) % 2 == 1 {
-            left = left & segments[i];
+            left &= segments[i];
         }
-        i += 1;
     }
     left
 }

@@ -29,12 +29,10 @@ fn is_idle(rows: usize, way: &[u8; Table::ROWS], d: usize) -> bool
     requires { rows ≤ max_rows }
     ensures { result ≡ not (any rows (λ i. eqb (at way.now i) d)) }
 {
-    let mut i: usize = 0;
-    while i < rows {
+    for i in 0..rows {
         if table::end_at(way, i) == d {
             return false;
         }
-        i += 1;
     }
     true
 }
@@ -166,13 +164,12 @@ fn outline_file(file: &[u8]) -> Result<Outline, Refusal>
 }
 
 // The words, written to the front of `out`.
+#[tactic(auto, unfolding(rules::specs::Calls::lent))]
 fn write_front(words: &[u64], out: &mut [u64])
     requires { length words.now ≤ length out.old }
     ensures { out.new ≡ lent words.now out.old }
 {
-    for k in 0..words.len() {
-        out[k] = words[k];
-    }
+    out[..words.len()].copy_from_slice(words);
 }
 
 // How many overlap sets a table in outline has. Their list is written to the front of `out`, or 17 where it is too short.

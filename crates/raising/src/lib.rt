@@ -18,11 +18,7 @@ fn raised_cost(cost: u64, period: u64, interval: u64) -> u64
     requires { (1 ≤ interval) × (interval ≤ max_slots) × (period ≤ max_slots) }
     ensures { result ≡ max cost (up period interval) }
 {
-    let least = (period + (interval - 1)) / interval;
-    if cost < least {
-        return least;
-    }
-    cost
+    cost.max(period.div_ceil(interval))
 }
 
 // The costs of all rows, raised; 0 past the last row.
@@ -36,14 +32,12 @@ fn raised_costs<'a>(
     ensures { ByRow rows (λ i. max (at cost.now i) (up (at period.now i) interval)) result }
 {
     let mut raised = [0u16; Table::ROWS];
-    let mut i: usize = 0;
-    while i < rows {
+    for i in 0..rows {
         raised[i] = raised_cost(
             table::slots_at(cost, i),
             table::slots_at(period, i),
             interval,
         ) as u16;
-        i += 1;
     }
     raised
 }

@@ -6,7 +6,7 @@
 pub mod meetings;
 pub mod raised;
 
-ghost use Rattle.std.specs.Prelude.{◌≡◌, List, [], ◌∷◌, ℕ, ◌+◌, ◌*◌, ◌≤◌, min, length};
+ghost use Rattle.std.specs.Prelude.{◌≡◌, List, [], ◌∷◌, ℕ, ◌+◌, ◌*◌, ◌≤◌, length};
 ghost use Rattle.numbers.specs.Lists.{at as item, each};
 ghost use Rattle.rules.specs.Bounds.{max_rows, max_slots};
 ghost use Rattle.rules.specs.Bus as bus;
@@ -86,10 +86,8 @@ fn put_words(slots: bool, words: &[u64], out: &mut [u8], at: usize) -> usize
         (length words.now) out.old at out.new result }
 {
     let mut next = at;
-    let mut k: usize = 0;
-    while k < words.len() {
-        next = put_word(slots, k as u64, words[k], out, next);
-        k += 1;
+    for (k, word) in words.iter().enumerate() {
+        next = put_word(slots, k as u64, *word, out, next);
     }
     next
 }
@@ -144,17 +142,11 @@ fn put_analysis(table: Analysis, out: &mut [u8]) -> usize
     put_plan(table, false, out, listed)
 }
 
-fn least(a: usize, b: usize) -> usize
-    ensures { result ≡ min a b }
-{
-    if a < b { a } else { b }
-}
-
 // What the program prints for its input.
 pub fn render(input: &[u8], out: &mut [u8]) -> usize
     ensures { Rendered input.now out.old out.new result }
 {
-    let read = least(input.len(), INPUT);
+    let read = input.len().min(INPUT);
     put_analysis(verdict::analyse(&input[..read]), out)
 }
 
@@ -162,7 +154,7 @@ pub fn render(input: &[u8], out: &mut [u8]) -> usize
 pub fn render_relayed(input: &[u8], relay: usize, out: &mut [u8]) -> usize
     ensures { RelayRendered input.now relay out.old out.new result }
 {
-    let read = least(input.len(), INPUT);
+    let read = input.len().min(INPUT);
     put_analysis(relayed::analyse(&input[..read], relay), out)
 }
 

@@ -27,12 +27,10 @@ fn put_members(name: &[u8], word: u64, first: u64, bits: u64, out: &mut [u8], at
         out.new result }
 {
     let mut next = at;
-    let mut k: u64 = 0;
-    while k < bits {
+    for k in 0..bits {
         if (word >> k) % 2 == 1 {
             next = put_value(name, first + k, out, next);
         }
-        k += 1;
     }
     next
 }

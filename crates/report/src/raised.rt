@@ -30,10 +30,10 @@ fn put_raise(row: usize, old: u64, new: u64, out: &mut [u8], at: usize) -> usize
 }
 
 // A line for each row whose cost grew.
-fn put_raises<'a>(
+fn put_raises(
     rows: usize,
-    old: &'a [u16; Table::ROWS],
-    new: &'a [u16; Table::ROWS],
+    old: &[u16; Table::ROWS],
+    new: &[u16; Table::ROWS],
     out: &mut [u8],
 ) -> usize
     requires { Costs rows (at old.now) (at new.now) }
@@ -41,14 +41,12 @@ fn put_raises<'a>(
         out.new result }
 {
     let mut next: usize = 0;
-    let mut i: usize = 0;
-    while i < rows {
+    for i in 0..rows {
         let was = table::slots_at(old, i);
         let is = table::slots_at(new, i);
         if was < is {
             next = put_raise(i, was, is, out, next);
         }
-        i += 1;
     }
     next
 }

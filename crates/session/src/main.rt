@@ -30,51 +30,14 @@ const LINE: usize = 12 + 6 * 21 + 1;
 
 // ---- a line of the input
 
-fn is_same(a: &[u8], b: &[u8]) -> bool {
-    if a.len() != b.len() {
-        return false;
-    }
-    let mut i: usize = 0;
-    while i < a.len() {
-        if i < b.len() {
-            if a[i] != b[i] {
-                return false;
-            }
-        }
-        i += 1;
-    }
-    true
-}
-
-fn is_plain(byte: u8) -> bool {
-    if byte == b' ' {
-        return true;
-    }
-    byte >= b'0' && byte <= b'9'
-}
-
 // Nothing but digits and spaces.
 fn are_numbers(text: &[u8]) -> bool {
-    let mut i: usize = 0;
-    while i < text.len() {
-        if !is_plain(text[i]) {
-            return false;
-        }
-        i += 1;
-    }
-    true
+    text.iter().all(|b| *b == b' ' || b.is_ascii_digit())
 }
 
 // All of the numbers fit 16 bits.
 fn are_small(given: &[u64]) -> bool {
-    let mut i: usize = 0;
-    while i < given.len() {
-        if given[i] > LARGEST {
-            return false;
-        }
-        i += 1;
-    }
-    true
+    given.iter().all(|x| *x <= LARGEST)
 }
 
 fn small_at(given: &[u64], k: usize) -> u16 {
@@ -91,49 +54,23 @@ fn print_line(rt: &impl Print, word: &[u8], numbers: &[u64])
     let _ = rt.write_all(&line[..size]);
 }
 
-fn print_row(rt: &impl Print, live: Live, i: usize) {
-    if i >= Table::ROWS {
-        return;
-    }
-    if table::slots_at(&live.period, i) == 0 {
-        return;
-    }
-    print_line(
-        rt,
-        b"row",
-        &[
-            i as u64,
-            table::slots_at(&live.cost, i),
-            table::slots_at(&live.period, i),
-            table::end_at(&live.first, i) as u64,
-            table::end_at(&live.second, i) as u64,
-            table::slots_at(&live.label, i),
-        ],
-    );
-}
-
-fn print_sum(rt: &impl Print, live: Live, s: usize) {
-    if s >= live.elements {
-        return;
-    }
-    if s >= Table::ELEMENTS {
-        return;
-    }
-    let sums = live.sums;
-    print_line(rt, b"segment", &[s as u64 + 1, sums[s]]);
-}
-
-fn show(rt: &impl Print, live: Live) {
+fn show(rt: &impl Print, live: &Live) {
     print_line(rt, b"denominator", &[live.denominator]);
-    let mut i: usize = 0;
-    while i < Table::ROWS {
-        print_row(rt, live, i);
-        i += 1;
+    for i in 0..Table::ROWS {
+        if live.period[i] != 0 {
+            let row = [
+                i as u64,
+                u64::from(live.cost[i]),
+                u64::from(live.period[i]),
+                u64::from(live.first[i]),
+                u64::from(live.second[i]),
+                u64::from(live.label[i]),
+            ];
+            print_line(rt, b"row", &row);
+        }
     }
-    let mut s: usize = 0;
-    while s < Table::ELEMENTS {
-        print_sum(rt, live, s);
-        s += 1;
+    for (s, sum) in live.sums.iter().enumerate().take(live.elements) {
+        print_line(rt, b"segment", &[s as u64 + 1, *sum]);
     }
 }
 
@@ -198,34 +135,31 @@ fn remove(rt: &impl Print, live: Live, given: &[u64]) -> Live {
 
 // The live table after a line with this word and these numbers.
 fn call(rt: &impl Print, live: Live, word: &[u8], given: &[u64]) -> Live {
-    let count = given.len();
-    if is_same(word, b"new") && count == 1 {
-        return make(rt, given);
+    match (word, given) {
+        (b"new", [_]) => make(rt, given),
+        (b"add", [_, _, _, _, _]) if are_small(given) => add(rt, live, given),
+        (b"remove", [_]) => remove(rt, live, given),
+        (b"show", []) => {
+            show(rt, &live);
+            live
+        }
+        (b"verdict", []) => {
+            verdict(rt, live);
+            live
+        }
+        _ => {
+            print_line(rt, b"no such line", &[]);
+            live
+        }
     }
-    if is_same(word, b"add") && count == MOST && are_small(given) {
-        return add(rt, live, given);
-    }
-    if is_same(word, b"remove") && count == 1 {
-        return remove(rt, live, given);
-    }
-    if is_same(word, b"show") && count == 0 {
-        show(rt, live);
-        return live;
-    }
-    if is_same(word, b"verdict") && count == 0 {
-        verdict(rt, live);
-        return live;
-    }
-    print_line(rt, b"no such line", &[]);
-    live
 }
 
 fn one(rt: &impl Print, live: Live, line: &[u8]) -> Live {
-    let end = find(line, 0, b' ');
+    let (word, text) = line.split_at(find(line, 0, b' '));
     let mut given = [0u64; MOST];
-    let count = cases::numbers(&line[end..], &mut given);
-    if count <= MOST && are_numbers(&line[end..]) {
-        return call(rt, live, &line[..end], &given[..count]);
+    let count = cases::numbers(text, &mut given);
+    if count <= MOST && are_numbers(text) {
+        return call(rt, live, word, &given[..count]);
     }
     print_line(rt, b"no such line", &[]);
     live
@@ -234,11 +168,8 @@ fn one(rt: &impl Print, live: Live, line: &[u8]) -> Live {
 fn each(rt: &impl Print, text: &[u8]) {
     let nothing = Live::new(0);
     let mut live = nothing.live;
-    let mut at: usize = 0;
-    while at < text.len() {
-        let end = find(text, at, b'\n');
-        live = one(rt, live, &text[at..end]);
-        at = end + 1;
+    for line in text.split_inclusive(|b| *b == b'\n') {
+        live = one(rt, live, line.strip_suffix(b"\n").unwrap_or(line));
     }
 }
 

@@ -5,7 +5,7 @@
 
 mod fields;
 
-ghost use Rattle.std.specs.Prelude.{◌≡◌, ◌||◌, [], ◌∷◌, ℕ, ◌+◌, ◌*◌, ◌≤◌, ◌<◌, length};
+ghost use Rattle.std.specs.Prelude.{◌≡◌, [], ◌∷◌, ℕ, ◌+◌, ◌*◌, ◌≤◌, ◌<◌, length};
 ghost use Rattle.numbers.specs.Decides.{Decides};
 ghost use Rattle.rules.specs.Bounds.{max_rows};
 ghost use Rattle.rules.specs.TableFile.{row_numbers};
@@ -114,7 +114,7 @@ fn is_word(line: &[u8], word: &[u8]) -> bool
     let first = field(line, 0);
     let start = first.start;
     let end = first.end;
-    check::same(&line[start..end], word)
+    &line[start..end] == word
 }
 
 // Check 36.
@@ -186,8 +186,7 @@ fn first_cells(line: &[u8], from: usize) -> Cells
     ensures { AreCells (part from line.now) result }
 {
     let mut value = [0u16; 4];
-    let mut k: usize = 0;
-    while k < 4 {
+    for k in 0..4 {
         let cell = cell_at(line, from, k);
         if cell.number != 0 {
             return Cells {
@@ -197,7 +196,6 @@ fn first_cells(line: &[u8], from: usize) -> Cells
             };
         }
         value[k] = cell.value;
-        k += 1;
     }
     Cells {
         number: 0,
@@ -355,15 +353,6 @@ pub struct Rows {
     pub labelled: bool,
 }
 
-fn either(a: bool, b: bool) -> bool
-    ensures { result ≡ (a || b) }
-{
-    if a {
-        return true;
-    }
-    b
-}
-
 // The rows of a text from `from` on; their numbers stand at the front of `numbers`.
 fn read_rows(text: &[u8], from: usize, rings: usize, elements: usize, numbers: &mut [u16]) -> Rows
     requires { (length text.now ≤ max_text) × Rest text.now from × (rings ≡ text_rings text.now)
@@ -371,6 +360,7 @@ fn read_rows(text: &[u8], from: usize, rings: usize, elements: usize, numbers: &
     ensures { AreRows text.now numbers.old numbers.new result }
 {
     let mut labelled = false;
+    // It goes from line to line, not over a range: where the next line starts, only this one tells.
     let mut i: usize = 0;
     let mut line = next_line(text, from);
     while line.start < line.end {
@@ -386,7 +376,7 @@ fn read_rows(text: &[u8], from: usize, rings: usize, elements: usize, numbers: &
             };
         }
         reader::put_numbers(found.row, Table::ROW_NUMBERS * i, numbers);
-        labelled = either(labelled, has_field(&text[start..end], 4));
+        labelled |= has_field(&text[start..end], 4);
         i += 1;
         line = next_line(text, line.next);
     }
@@ -476,11 +466,7 @@ fn put_front(numbers: &[u16], out: &mut [u16])
     requires { length numbers.now ≤ length out.old }
     ensures { out.new ≡ lent numbers.now out.old }
 {
-    let mut k: usize = 0;
-    while k < numbers.len() {
-        out[k] = numbers[k];
-        k += 1;
-    }
+    out[..numbers.len()].copy_from_slice(numbers);
 }
 
 // A text has at most so many bytes.

@@ -68,10 +68,8 @@ fn put_rows(
         out.old at out.new result }
 {
     let mut next = at;
-    let mut i: usize = 0;
-    while i < rows {
+    for i in 0..rows {
         next = put_row(rings, version, row_of(1, numbers, i), out, next);
-        i += 1;
     }
     next
 }

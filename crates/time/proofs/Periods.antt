@@ -23,7 +23,7 @@ use Rattle.numbers.specs.Pairs.{IsGcd, IsLcm, LeastGcd}
 use Rattle.numbers.proofs.Truth.{is_true, le_or_lt}
 use Rattle.numbers.proofs.Finite.{any_of, any_none}
 use Rattle.numbers.proofs.Lists.{Filled, filled_start, filled_put, zeros_at}
-use Rattle.numbers.proofs.Pairs.{pair_gcd, pair_gcd_self, pair_gcd_swap, pair_gcd_only}
+use Rattle.numbers.proofs.Pairs.{pair_gcd, pair_gcd_self, pair_gcd_only}
 use Rattle.numbers.proofs.Divisors.{Positive, lcm_none, lcm_next, lcm_multiple, lcm_positive, lcm_grows, of_dvd}
 use Rattle.numbers.proofs.Divisors.{leads_any, leads_same, leading_none, leading_kept, leading_new, leading_leads, leading_few}
 use Rattle.numbers.proofs.Divisors.{least_gcd_only, least_gcd_led}
@@ -344,15 +344,6 @@ module _ {n : ℕ} {p : ℕ → ℕ} (P : Periods n p) where
               (eq-or-lt_of_le (let z : a ≤ i = omega arith in z));
           here = λ b d x D. absurd (omega arith);
         }
-
-pub nearing_end : {n : ℕ} {p : ℕ → ℕ} {i l : ℕ} → Nearing n p i 0 l → n ≤ i → LeastGcd n p l
-nearing_end N k = record {
-  some = N.some;
-  least = λ a b d x y D. ⊎_elim
-      (λ (h : b ≤ a). N.before a b d (omega arith) h D)
-      (λ (h : a < b). N.before b a d (omega arith) (omega arith) (pair_gcd_swap D))
-      (le_or_lt b a);
-}
 
 -- ---- only one time fits
 

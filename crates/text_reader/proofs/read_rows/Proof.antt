@@ -1,4 +1,5 @@
 -- `text_reader::read_rows` meets its contract. The loop's invariant: the lines before `line` are rows that pass.
+use mathlib.Core.Path.{refl}
 use Prim.Native.Nat.{◌+◌, ◌-◌}
 use native.Mathlib.Omega.{arith}
 use lib.ListN.{drop, length-take}
@@ -64,11 +65,8 @@ part-has-field-end : tie.Need-slice_bounds-has_field-end invariant-loop decrease
 part-has-field-end c =
     omega (arith, c.loop-line.invariant.next.high)
 
-has-field-requires : tie.Need-has_field-requires invariant-loop decreases-loop
+has-field-requires : tie.Need-has_field-labelled-requires invariant-loop decreases-loop
 has-field-requires c κs = search rules
-
-either-requires : tie.Need-either-labelled-requires invariant-loop decreases-loop
-either-requires c κs = search rules
 
 add-i : tie.Need-overflow_add-i invariant-loop decreases-loop
 add-i c =
@@ -92,7 +90,7 @@ loop-again c =
     let u = t in
     let z = u in
     reading_next u.loop-line.invariant t.loop-line-test.true (rw (z.requires.2, z.requires.3) at r.row_at-found.ensures) e.if-found-ne0.false _ _ _ _ z.requires.4
-    p.put_numbers.ensures (h.has_field.ensures u.loop-line.line.start) c.either-labelled.ensures c.next_line-line-in-loop-line.ensures
+    p.put_numbers.ensures (h.has_field-labelled.ensures u.loop-line.line.start) refl c.next_line-line-in-loop-line.ensures
 
 same-length-2 : tie.Need-shape_of-numbers invariant-loop decreases-loop
 same-length-2 c = c.loop-line.invariant.filled.same
@@ -120,7 +118,6 @@ read_rows_spec =
     part-has-field-start
     part-has-field-end
     has-field-requires
-    either-requires
     add-i
     next-line-requires-2
     loop-less
