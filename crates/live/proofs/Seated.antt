@@ -11,10 +11,12 @@ use lib.ListN.{length, get_or}
 use lib.Seq.{ext_get_or}
 use denote.Param.Members.{Mut}
 use Rattle.std.specs.Bool.{MatchBool}
+use Rattle.std.specs.Prelude.{Result, Ok, Err}
+use Rattle.std.specs.Result.{is_ok}
 use Rattle.std.specs.Fn.{Called}
 use Rattle.std.specs.Iterator.{YieldsThen}
 use Rattle.std.specs.List.{AllWithin, HoldsAt, FoldsTo, range_with_len, list_any}
-use Rattle.std.specs.Option.{MatchOption, unwrap_or}
+use Rattle.std.specs.Option.{MatchOption}
 use Rattle.std.specs.Cmp.Lexicographic.{pointwise, told_text}
 use Rattle.std.proofs.Common.{Option, None, Some}
 use Rattle.std.proofs.lemmas.Iterator.{YieldsList, cases_from_all}
@@ -31,6 +33,9 @@ use Rattle.rules.specs.Live.{Live, Blank, places}
 use Rattle.rules.proofs.Answers.{answers_only, answered, none_of}
 use Rattle.table.specs.declared.Row.{Row}
 use Rattle.table.specs.Rows.{IsRow, single}
+use Rattle.table.specs.Refusal.{number_of, why}
+use Rattle.table.specs.declared.refusals.Reason.{Reason}
+use Rattle.table.proofs.Reasons.{not_done}
 use Rattle.table.proofs.Faults.{faults_numbered, row_clean, row_sound, row_none}
 use Rattle.live.proofs.Sums.{row_alone, place_row}
 use Rattle.live.specs.Tally.{column_live}
@@ -47,13 +52,12 @@ zeros_decided {row} c p f s = record {
   fails = λ e z. of_false e (eqb_of row.label 0 z.label);
 }
 
--- a place that isn't free is right exactly if no number of 7 to 9 is found
-pub fault_decided : (M n : ℕ) (row : Row) → (Zeros row → ⊥) → Answers (faults (single M 1 row) 0) n 0
-    → Decides (Zeros row ⊎ Answers (faults (single M 1 row) 0) 0 0) (eqb n 0)
-fault_decided M n row z a = record {
-  holds = λ e. let q : n ≡ 0 = eqb→eq n 0 (of_true e) in inr (rw q at a);
-  fails = λ e. ⊎_elim z (λ b. of_false e (eqb_of n 0 (answers_only (faults (single M 1 row) 0) n 0 0 0 a b).0));
-}
+-- a place that isn't free is right exactly if no fault of 7 to 9 is found
+pub fault_decided : (M : ℕ) (row : Row) (a : Result Unit Reason) → (Zeros row → ⊥) → Answers (faults (single M 1 row) 0) (why a) 0
+    → Decides (Zeros row ⊎ Answers (faults (single M 1 row) 0) 0 0) (is_ok a)
+fault_decided M row (Ok _) z a = decides_yes (inr a)
+fault_decided M row (Err r) z a =
+    decides_no (λ w. ⊎_elim z (λ b. not_done r (answers_only (faults (single M 1 row) 0) (number_of r) 0 0 0 a b).0) w)
 
 -- what is found of a row is so of the place that holds it
 module _ {l : Live} {i : ℕ} {row : Row} (R : IsRow (record { table = places l; label = l.label }) i row) where
@@ -191,11 +195,13 @@ same_decided xs ys {n} r x y e = go r (told_text xs ys r e)
 pub first_zero : (xs : List ℕ) {n : ℕ} (r : Option ℕ) → length xs ≡ n
     → MatchOption r (AllWithin (λ x. 0 < x) xs 0 (length xs))
     (λ i. (i < length xs) × HoldsAt (λ x. x ≡ 0) xs i × AllWithin (λ x. 0 < x) xs 0 i)
-    → unwrap_or r n ≡ lowest n (λ i. not (ltb 0 (at xs i)))
+    → MatchOption r (lowest n (λ i. not (ltb 0 (at xs i))) ≡ n) (λ i. (i ≡ lowest n (λ j. not (ltb 0 (at xs j)))) × (i < n))
 first_zero xs {n} None e h =
-    sym (lowest_none n _ (λ i l t. refutes (ltb 0 (at xs i)) t (lt→ltb 0 (at xs i) (h i 0 zero-le (omega (arith, e))))))
+    lowest_none n _ (λ i l t. refutes (ltb 0 (at xs i)) t (lt→ltb 0 (at xs i) (h i 0 zero-le (omega (arith, e)))))
 first_zero xs {n} (Some i) e h =
-    let l : i < n = omega (arith, h.0, e) in
-    sym (lowest_is n (λ j. not (ltb 0 (at xs j))) i l
-    (refuted (ltb 0 (at xs i)) (λ t. omega (arith, h.1 0, ltb→lt 0 (at xs i) t)))
-    (λ j k t. refutes (ltb 0 (at xs j)) t (lt→ltb 0 (at xs j) (h.2 j 0 zero-le k))))
+    let l : i < n = omega (arith, h.0, e) in (
+      sym (lowest_is n (λ j. not (ltb 0 (at xs j))) i l
+          (refuted (ltb 0 (at xs i)) (λ t. omega (arith, h.1 0, ltb→lt 0 (at xs i) t)))
+          (λ j k t. refutes (ltb 0 (at xs j)) t (lt→ltb 0 (at xs j) (h.2 j 0 zero-le k)))),
+      l,
+    )

@@ -12,7 +12,7 @@ ghost use Rattle.table.specs.Rows.{single};
 ghost use Rattle.live.specs.Tally.{column_live, column_places};
 ghost use Rattle.live.specs.Seats.{Zeros, Seat, equal};
 
-use table::{Answer, Row, Table};
+use table::{Row, Table};
 
 // A free place holds zeros, the label too.
 fn is_free(row: Row) -> bool
@@ -39,7 +39,7 @@ fn is_seat(elements: usize, row: Row) -> bool
     if is_free(row) {
         return true;
     }
-    table::row_fault(elements, 1, row) == Answer::DONE
+    table::row_fault(elements, 1, row).is_ok()
 }
 
 // Each place is free, or holds a row that passes 7 to 9. A live table has one ring, so 26 never applies.
