@@ -1,10 +1,10 @@
 // What a table is on the line: its cuts, its rows' ends, its overlap sets, hyperperiod and interval, or a refusal of 1 to 11, 18 and 26.
 #![tactic(auto)]
 
-ghost use Rattle.std.specs.Prelude.{◌≡◌, not, cond, ℕ, ◌≤◌, ◌<◌, ltb, eqb, length, MatchOption};
-ghost use Rattle.numbers.specs.Finite.{any, lowest};
+ghost use Rattle.std.specs.Prelude.{◌≡◌, not, cond, ℕ, ◌+◌, ◌≤◌, ltb, eqb, length, MatchOption};
+ghost use Rattle.numbers.specs.Finite.{any};
 ghost use Rattle.numbers.specs.Lists.{at};
-ghost use Rattle.rules.specs.Bounds.{max_elements, max_rows, max_rings};
+ghost use Rattle.rules.specs.Bounds.{max_elements, max_rows};
 ghost use Rattle.rules.specs.Bus.{mirror};
 ghost use Rattle.rules.specs.Line as line;
 ghost use Rattle.rules.specs.TableFile.{file_table};
@@ -13,7 +13,7 @@ ghost use Rattle.rules.specs.Calls.{lent, line_ask, Listed};
 ghost use Rattle.table.specs.Refusal.{number, place};
 ghost use Rattle.table.specs.Sound.{Sound};
 ghost use Rattle.ring.specs.Route.{Element};
-ghost use Rattle.ring.specs.Rows.{cut_of, Routed, rings_of};
+ghost use Rattle.ring.specs.Rows.{Routed, rings_of};
 ghost use Rattle.outline.specs.Layout.{table_with, LaidOut};
 ghost use Rattle.outline.specs.Outlined.{outline_checks, Outlined};
 ghost use Rattle.outline.specs.Listed.{Traced, count, ListedOn};
@@ -37,29 +37,18 @@ fn is_idle(rows: usize, way: &[u8; Table::ROWS], d: usize) -> bool
     true
 }
 
-// The cut of ring `d` in its own numbers, 1 where the board has no such ring: a table with one ring is not walked twice.
-fn cut_on(table: &Columns, d: usize) -> usize
+// The cut of ring `d` in its own numbers, if it has one; 1 where the board has no such ring: a table with one ring is not walked twice.
+fn cut_on(table: &Columns, d: usize) -> Option<usize>
     requires { Routed table.now }
-    ensures { result ≡ cond (ltb d table.now.rings) (line.cut (rings_of table.now table.now.rows) d) 1 }
+    ensures { MatchOption result
+        (cond (ltb d table.now.rings) (line.cut (rings_of table.now table.now.rows) d) 1 ≡ table.now.elements + 1)
+        (λ e. (e ≡ cond (ltb d table.now.rings) (line.cut (rings_of table.now table.now.rows) d) 1)
+        × (1 ≤ table.now.elements → e ≤ table.now.elements)) }
 {
     if d < table.rings {
         return ring::find_cut(table, d);
     }
-    1
-}
-
-// The lowest of two rings whose cut is past the last element, so that it has none.
-fn lowest_uncut(elements: usize, cut: usize, other: usize) -> Option<usize>
-    ensures { MatchOption result (max_rings ≡ lowest max_rings (λ d. ltb elements (cut_of cut other d)))
-        (λ ring. (ring ≡ lowest max_rings (λ d. ltb elements (cut_of cut other d))) × (ring < max_rings)) }
-{
-    if cut > elements {
-        return Some(0);
-    }
-    if other > elements {
-        return Some(1);
-    }
-    None
+    Some(1)
 }
 
 // The cut of ring `d` as the board's own number: 1 where the ring is idle, 0 where there is no such ring.
@@ -95,11 +84,12 @@ pub fn layout_of(table: &Columns) -> Result<Layout, Refusal>
     requires { (cost : ℕ → ℕ) × Sound (table_with cost table.now) }
     ensures { (cost : ℕ → ℕ) → Sound (table_with cost table.now) → LaidOut (table_with cost table.now) result }
 {
-    let cut = cut_on(table, 0);
-    let other = cut_on(table, 1);
-    if let Some(ring) = lowest_uncut(table.elements, cut, other) {
-        return Err(Refusal::at(Reason::NoCut, ring));
-    }
+    let Some(cut) = cut_on(table, 0) else {
+        return Err(Refusal::at(Reason::NoCut, 0));
+    };
+    let Some(other) = cut_on(table, 1) else {
+        return Err(Refusal::at(Reason::NoCut, 1));
+    };
     let time = Time::of(table.rows, &table.period);
     if time.hyper == 0 {
         return Err(Refusal::from(Reason::LongHyperperiod));

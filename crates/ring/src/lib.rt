@@ -3,7 +3,7 @@
 // mirrored first, and then all is as on the other ring.
 #![tactic(auto)]
 
-ghost use Rattle.std.specs.Prelude.{◌≡◌, not, ◌&&◌, ℕ, ◌+◌, ◌*◌, ◌≤◌, ◌<◌, eqb};
+ghost use Rattle.std.specs.Prelude.{◌≡◌, not, ◌&&◌, ℕ, ◌+◌, ◌*◌, ◌≤◌, ◌<◌, eqb, MatchOption};
 ghost use Rattle.numbers.specs.Lists.{at};
 ghost use Rattle.numbers.specs.Word.{bit};
 ghost use Rattle.rules.specs.Bounds.{max_elements, max_rings};
@@ -131,18 +131,19 @@ fn through_rows(table: &Columns, d: usize) -> u64
     word | (word >> table.elements)
 }
 
-// The cut of ring `d` in its own numbers: the lowest element with no row through it; one past the last where there is none.
-pub fn find_cut(table: &Columns, d: usize) -> usize
+// The cut of ring `d` in its own numbers, if it has one: the lowest element with no row through it.
+pub fn find_cut(table: &Columns, d: usize) -> Option<usize>
     requires { Routed table.now }
-    ensures { result ≡ line.cut (rings_of table.now table.now.rows) d }
+    ensures { MatchOption result (line.cut (rings_of table.now table.now.rows) d ≡ table.now.elements + 1)
+        (λ e. (e ≡ line.cut (rings_of table.now table.now.rows) d) × (e ≤ table.now.elements)) }
 {
     let word = through_rows(table, d);
-    for e in 1..=table.elements {
+    for e in 1..table.elements + 1 {
         if (word >> e) % 2 == 0 {
-            return e;
+            return Some(e);
         }
     }
-    table.elements + 1
+    None
 }
 
 // The word of the board's segments that a row uses: what a route uses counterclockwise, the route back uses clockwise.

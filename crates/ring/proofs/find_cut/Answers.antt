@@ -3,7 +3,6 @@ use Rattle.numbers.specs.Word.{bit}
 use Rattle.ring.specs.Route.{Element}
 use Rattle.ring.proofs.Cut.{searched_next, searched_found, searched_all}
 use Rattle.ring.proofs.find_cut.Goals as goal
-use Rattle.ring.proofs.find_cut.Goals.{else-loop-e-test, then-loop-e-test+else-word-e-eq0+else-e-e-end}
 
 free : (w e : ℕ) {b : Bool} → w / 2 ^ e % 2 ≡ 0 → not (bit w e) ≡ b → b ≡ true
 unfolding bit
@@ -17,21 +16,13 @@ taken w e n s =
 
 pub returns-then-word-e-eq0 : goal.returns-then-word-e-eq0
 returns-then-word-e-eq0 c =
-    let x : Element c.args.table.now.elements c.loop-e.e = record { low = c.loop-e.invariant.low; high = c.loop-e-test.true } in
-    searched_found c.loop-e.invariant x.high (free _ _ c.if-word-e-eq0.true (c.through_rows-word.ensures _ x))
+    let x : Element c.args.table.now.elements c.loop-e.e = record { low = c.loop-e.invariant.low; high = omega arith } in
+    (searched_found c.loop-e.invariant x.high (free _ _ c.if-word-e-eq0.true (c.through_rows-word.ensures _ x)), x.high)
 
 pub loop-e-preserved : goal.loop-e-preserved
 loop-e-preserved c =
-    let x : Element c.args.table.now.elements c.loop-e.e = record { low = c.loop-e.invariant.low; high = c.loop-e-test.true } in
+    let x : Element c.args.table.now.elements c.loop-e.e = record { low = c.loop-e.invariant.low; high = omega arith } in
     searched_next c.loop-e.invariant x.high (taken _ _ c.if-word-e-eq0.false (c.through_rows-word.ensures _ x))
 
--- at the last element the loop ends without another turn
 pub returns : goal.returns
-returns c =
-    elim c.loop-e-test.branch [
-      | else-loop-e-test w ↦ searched_all c.loop-e.invariant w.loop-e-test.false
-      | then-loop-e-test+else-word-e-eq0+else-e-e-end w ↦
-          let x : Element c.args.table.now.elements c.loop-e.e = record { low = c.loop-e.invariant.low; high = w.loop-e-test.true } in
-          searched_all (searched_next c.loop-e.invariant x.high (taken _ _ w.if-word-e-eq0.false (c.through_rows-word.ensures _ x)))
-          (omega arith)
-    ]
+returns c = searched_all c.loop-e.invariant (omega arith)
