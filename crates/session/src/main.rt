@@ -15,7 +15,7 @@ ghost use Rattle.std.specs.Prelude.{◌≤◌, length};
 
 use cases::{find, number_at};
 use live::{Entry, Live};
-use table::{Answer, Table};
+use table::{Refusal, Table};
 
 // as many numbers as a line has at most
 const MOST: usize = 5;
@@ -74,6 +74,18 @@ fn show(rt: &impl Print, live: &Live) {
     }
 }
 
+// Number and place of a verdict, or of what is refused before it.
+fn print_verdict<T>(rt: &impl Print, answer: &Result<T, Refusal>) {
+    print_line(
+        rt,
+        b"verdict",
+        &[
+            u64::from(table::number(answer)),
+            u64::from(table::place(answer)),
+        ],
+    );
+}
+
 // The verdict on a file of version 2 with this many rows, at the front of `bytes`.
 fn judge(rt: &impl Print, bytes: &[u8], rows: usize) {
     if rows > Table::ROWS {
@@ -83,32 +95,29 @@ fn judge(rt: &impl Print, bytes: &[u8], rows: usize) {
     if size > bytes.len() {
         return;
     }
-    let found = verdict::judge(&bytes[..size]);
-    print_line(
-        rt,
-        b"verdict",
-        &[found.number() as u64, found.place() as u64],
-    );
+    print_verdict(rt, &verdict::judge(&bytes[..size]));
 }
 
-fn verdict(rt: &impl Print, live: Live) {
+fn verdict(rt: &impl Print, live: &Live) {
     let mut bytes = [0u8; Table::FILE_BYTES];
-    let answer = live::write_file(live, Table::VERSION_2, &mut bytes);
-    if answer.number != Answer::DONE {
-        print_line(rt, b"verdict", &[answer.number as u64, answer.place as u64]);
+    let written = live::write_file(live, Table::VERSION_2, &mut bytes);
+    if written.is_err() {
+        print_verdict(rt, &written);
         return;
     }
     let head = Table::of(&bytes);
     judge(rt, &bytes, head.rows);
 }
 
+// ---- the calls; where one is refused the live table stays as it was, but for a new one: nothing is there then
+
 fn make(rt: &impl Print, given: &[u64]) -> Live {
-    let after = Live::new(number_at(given, 0) as usize);
-    print_line(rt, b"new", &[after.answer.number as u64]);
-    after.live
+    let made = Live::new(number_at(given, 0) as usize);
+    print_line(rt, b"new", &[u64::from(table::number(&made))]);
+    made.unwrap_or(Live::nothing())
 }
 
-fn add(rt: &impl Print, live: Live, given: &[u64]) -> Live {
+fn add(rt: &impl Print, live: &mut Live, given: &[u64]) {
     let entry = Entry {
         cost: small_at(given, 0),
         period: small_at(given, 1),
@@ -116,60 +125,51 @@ fn add(rt: &impl Print, live: Live, given: &[u64]) -> Live {
         second: small_at(given, 3),
         label: small_at(given, 4),
     };
-    let after = Live::add(live, entry);
+    let added = live.add(entry);
     print_line(
         rt,
         b"add",
-        &[after.answer.number as u64, after.taken as u64],
+        &[
+            u64::from(table::number(&added)),
+            u64::from(added.unwrap_or(0)),
+        ],
     );
-    after.live
 }
 
-fn remove(rt: &impl Print, live: Live, given: &[u64]) -> Live {
-    let after = Live::remove(live, number_at(given, 0) as usize);
-    print_line(rt, b"remove", &[after.answer.number as u64]);
-    after.live
+fn remove(rt: &impl Print, live: &mut Live, given: &[u64]) {
+    let removed = live.remove(number_at(given, 0) as usize);
+    print_line(rt, b"remove", &[u64::from(table::number(&removed))]);
 }
 
 // ---- the session
 
-// The live table after a line with this word and these numbers.
-fn call(rt: &impl Print, live: Live, word: &[u8], given: &[u64]) -> Live {
+// What a line with this word and these numbers asks for.
+fn call(rt: &impl Print, live: &mut Live, word: &[u8], given: &[u64]) {
     match (word, given) {
-        (b"new", [_]) => make(rt, given),
+        (b"new", [_]) => *live = make(rt, given),
         (b"add", [_, _, _, _, _]) if are_small(given) => add(rt, live, given),
         (b"remove", [_]) => remove(rt, live, given),
-        (b"show", []) => {
-            show(rt, &live);
-            live
-        }
-        (b"verdict", []) => {
-            verdict(rt, live);
-            live
-        }
-        _ => {
-            print_line(rt, b"no such line", &[]);
-            live
-        }
+        (b"show", []) => show(rt, live),
+        (b"verdict", []) => verdict(rt, live),
+        _ => print_line(rt, b"no such line", &[]),
     }
 }
 
-fn one(rt: &impl Print, live: Live, line: &[u8]) -> Live {
+fn one(rt: &impl Print, live: &mut Live, line: &[u8]) {
     let (word, text) = line.split_at(find(line, 0, b' '));
     let mut given = [0u64; MOST];
     let count = cases::numbers(text, &mut given);
     if count <= MOST && are_numbers(text) {
-        return call(rt, live, word, &given[..count]);
+        call(rt, live, word, &given[..count]);
+        return;
     }
     print_line(rt, b"no such line", &[]);
-    live
 }
 
 fn each(rt: &impl Print, text: &[u8]) {
-    let nothing = Live::new(0);
-    let mut live = nothing.live;
+    let mut live = Live::nothing();
     for line in text.split_inclusive(|b| *b == b'\n') {
-        live = one(rt, live, line.strip_suffix(b"\n").unwrap_or(line));
+        one(rt, &mut live, line.strip_suffix(b"\n").unwrap_or(line));
     }
 }
 
