@@ -13,7 +13,7 @@ mod verdicts;
 ghost use Rattle.std.specs.Prelude.{◌≤◌, length};
 
 use cases::{find, number_at, table_file};
-use table::{Answer, Table};
+use table::{Refusal, Table};
 
 // as many numbers as a case has at most, and as much as a call is lent
 pub(crate) const MOST: usize = 540;
@@ -44,9 +44,9 @@ pub(crate) fn print_numbers<T: Copy + Into<u64>>(rt: &impl Print, numbers: &[T])
     }
 }
 
-pub(crate) fn print_answer(rt: &impl Print, answer: Answer) {
-    print_number(rt, answer.number as u64);
-    print_number(rt, answer.place as u64);
+pub(crate) fn print_answer<T>(rt: &impl Print, answer: &Result<T, Refusal>) {
+    print_number(rt, u64::from(table::number(answer)));
+    print_number(rt, u64::from(table::place(answer)));
 }
 
 // ---- a case's heading and numbers

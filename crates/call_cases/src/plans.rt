@@ -7,8 +7,8 @@
 // the first four standings; of a list how many sets there are, and the words.
 use crate::{KEPT, MOST, byte_at, print_answer, print_number, print_numbers, print_word};
 use cases::{find, number_at};
-use planner::{MovedOn, Planner, Stage, Standings};
-use table::{Answer, Table};
+use planner::{Planner, Stage};
+use table::{Refusal, Table};
 
 // room, interval and four totals
 pub(crate) const BEFORE_TABLE: usize = 6;
@@ -30,13 +30,12 @@ fn print_totals(rt: &impl Print, totals: [u64; Table::ROWS]) {
     print_numbers(rt, &totals[..4]);
 }
 
-fn print_moved(rt: &impl Print, r: MovedOn) {
-    print_answer(rt, r.answer);
-    let after = r.planner;
-    let stage = after.stage;
-    let totals = after.totals;
-    print_stage(rt, stage);
-    print_totals(rt, totals);
+// A refused step leaves the planner as it was.
+fn print_moved(rt: &impl Print, planner: Planner, r: Result<Planner, Refusal>) {
+    print_answer(rt, &r);
+    let after = r.unwrap_or(planner);
+    print_stage(rt, after.stage);
+    print_totals(rt, after.totals);
 }
 
 // How far a standing is from 0, where h is at most 64.
@@ -54,30 +53,31 @@ fn print_standing(rt: &impl Print, x: i64) {
     }
 }
 
-fn print_standings(rt: &impl Print, r: Standings) {
-    print_answer(rt, r.answer);
-    for value in &r.values[..4] {
+fn print_standings(rt: &impl Print, r: Result<[i64; Table::ROWS], Refusal>) {
+    print_answer(rt, &r);
+    let values = r.unwrap_or([0; Table::ROWS]);
+    for value in &values[..4] {
         print_standing(rt, *value);
     }
 }
 
 // ---- the calls, with the relay where there is one
 
-fn plan(relay: &[u64], file: &[u8], words: &mut [u64]) -> Answer {
+fn plan(relay: &[u64], file: &[u8], words: &mut [u64]) -> Result<(), Refusal> {
     if relay.len() == 0 {
         return planner::whole_plan(file, words);
     }
     relayed::whole_plan(file, number_at(relay, 0) as usize, words)
 }
 
-fn step(planner: Planner, relay: &[u64], file: &[u8], words: &mut [u64]) -> MovedOn {
+fn step(planner: Planner, relay: &[u64], file: &[u8], words: &mut [u64]) -> Result<Planner, Refusal> {
     if relay.len() == 0 {
         return planner.step(file, words);
     }
     relayed::step(planner, file, number_at(relay, 0) as usize, words)
 }
 
-fn standings(planner: Planner, relay: &[u64], file: &[u8]) -> Standings {
+fn standings(planner: Planner, relay: &[u64], file: &[u8]) -> Result<[i64; Table::ROWS], Refusal> {
     if relay.len() == 0 {
         return planner.standings(file);
     }
@@ -86,9 +86,9 @@ fn standings(planner: Planner, relay: &[u64], file: &[u8]) -> Standings {
 
 fn list(rt: &impl Print, relay: &[u64], file: &[u8], words: &mut [u64]) {
     let r = relayed::list_of_sets(file, number_at(relay, 0) as usize, words);
-    print_answer(rt, r.answer);
+    print_answer(rt, &r);
     print_word(rt, b" sets");
-    print_number(rt, r.sets as u64);
+    print_number(rt, u64::from(r.unwrap_or(0)));
 }
 
 // ---- a case
@@ -103,9 +103,9 @@ fn call(
     words: &mut [u64],
 ) {
     match letter {
-        b'p' => print_answer(rt, plan(relay, file, words)),
+        b'p' => print_answer(rt, &plan(relay, file, words)),
         b'l' => list(rt, relay, file, words),
-        _ => print_moved(rt, step(planner, relay, file, words)),
+        _ => print_moved(rt, planner, step(planner, relay, file, words)),
     }
 }
 

@@ -14,7 +14,24 @@ ghost use Rattle.std.specs.Prelude.{◌+◌, ◌^◌, ◌≤◌, ◌<◌, length
 use crate::{KEPT, MOST, print_answer, print_number, print_numbers, room};
 use cases::number_at;
 use reader::Reading;
-use table::Answer;
+use lists::Head;
+use table::{Refusal, Table};
+
+// what is printed beside a refusal
+const NO_TABLE: Reading = Reading {
+    mark: [0; 3],
+    version: 0,
+    table: Table {
+        elements: 0,
+        rows: 0,
+    },
+};
+
+const NO_LIST: Head = Head {
+    element: 0,
+    hyper: 0,
+    entries: 0,
+};
 
 // How many numbers stand from place `k` on.
 fn after(given: &[u64], k: usize) -> usize
@@ -25,19 +42,21 @@ fn after(given: &[u64], k: usize) -> usize
 
 // ---- the reader
 
-fn print_table(rt: &impl Print, r: Reading) {
-    print_answer(rt, r.answer);
+fn print_table(rt: &impl Print, answer: Result<Reading, Refusal>) {
+    print_answer(rt, &answer);
+    let r = answer.unwrap_or(NO_TABLE);
     print_numbers(rt, &r.mark);
     print_number(rt, r.version);
     print_number(rt, r.table.elements as u64);
     print_number(rt, r.table.rows as u64);
 }
 
-fn print_list(rt: &impl Print, r: lists::Reading) {
-    print_answer(rt, r.answer);
-    print_number(rt, r.head.element as u64);
-    print_number(rt, r.head.hyper as u64);
-    print_number(rt, r.head.entries as u64);
+fn print_list(rt: &impl Print, answer: Result<Head, Refusal>) {
+    print_answer(rt, &answer);
+    let head = answer.unwrap_or(NO_LIST);
+    print_number(rt, head.element as u64);
+    print_number(rt, head.hyper as u64);
+    print_number(rt, head.entries as u64);
 }
 
 fn read_by(rt: &impl Print, letter: u8, file: &[u8], out: &mut [u16]) {
@@ -81,7 +100,7 @@ fn mark_end(lead: &[u64]) -> u8 {
     (number_at(lead, 0) % 256) as u8
 }
 
-fn write_table(mark: u8, given: &[u64], numbers: &[u16], out: &mut [u8]) -> Answer {
+fn write_table(mark: u8, given: &[u64], numbers: &[u16], out: &mut [u8]) -> Result<(), Refusal> {
     writer::write(
         &[b'R', b'B', mark],
         number_at(given, 0),
@@ -92,7 +111,7 @@ fn write_table(mark: u8, given: &[u64], numbers: &[u16], out: &mut [u8]) -> Answ
     )
 }
 
-fn write_by(letter: u8, lead: &[u64], given: &[u64], numbers: &[u16], out: &mut [u8]) -> Answer {
+fn write_by(letter: u8, lead: &[u64], given: &[u64], numbers: &[u16], out: &mut [u8]) -> Result<(), Refusal> {
     if letter == b'f' {
         return lists::write(number_at(given, 1), number_at(given, 2), numbers, out);
     }
@@ -107,7 +126,7 @@ fn write(
     numbers: &[u16],
     out: &mut [u8],
 ) {
-    print_answer(rt, write_by(letter, lead, given, numbers, out));
+    print_answer(rt, &write_by(letter, lead, given, numbers, out));
     print_numbers(rt, out);
 }
 
