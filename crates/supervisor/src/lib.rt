@@ -78,10 +78,11 @@ pub extern "C" fn ring_shared(file: &[u8], i: usize, j: usize, word: &mut u32) -
     ensures { SharedToC file.now i j word.old word.new result }
 {
     let found = meeting::meet(file, i, j);
+    let answer = told(&found);
     if let Ok(shared) = found {
         *word = shared;
     }
-    told(&found)
+    answer
 }
 
 // ---- lists and plans
