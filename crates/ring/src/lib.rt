@@ -81,7 +81,7 @@ fn line_end(m: usize, cut: usize, e: usize) -> usize
     }
 }
 
-// Element `e` in the numbers of ring `d`, or an element of that ring in the board's.
+// Element `e` in the numbers of ring `d`, or an element of that ring in the board's. A direction stays a number: `on_both` counts with it.
 #[tactic(auto, unfolding(rules::specs::Bus::mirror))]
 pub fn mirrored(m: usize, d: usize, e: usize) -> usize
     requires { (m ≤ max_elements) × Element m e }
