@@ -79,8 +79,7 @@ fn put_all_bytes(rings: usize, version: u64, numbers: &[u16], rows: usize, out: 
         ++ row_bytes (last_size rings version) (memory_labelled_with rings 0 rows numbers.now))
         out.old }
 {
-    let mut i: usize = 0;
-    while i < rows {
+    for i in 0..rows {
         put_row(
             rings,
             version,
@@ -88,7 +87,6 @@ fn put_all_bytes(rings: usize, version: u64, numbers: &[u16], rows: usize, out: 
             row_place(rings, version, i),
             out,
         );
-        i += 1;
     }
 }
 
