@@ -30,12 +30,10 @@ pub fn ending_at(rows: usize, ends: &[u8; Table::ROWS], element: usize) -> u64
     ensures { result ≡ ending_at rows (at ends.now) element }
 {
     let mut word: u64 = 0;
-    let mut i: usize = 0;
-    while i < rows {
+    for i in 0..rows {
         if table::end_at(ends, i) == element {
-            word = word | (1u64 << i);
+            word |= 1u64 << i;
         }
-        i += 1;
     }
     word
 }
@@ -53,13 +51,6 @@ fn past_last(rows: usize, word: u64) -> bool
     word >> rows != 0
 }
 
-fn segments_at(routes: &[u32; Table::ROWS], i: usize) -> u32
-    requires { i < max_rows }
-    ensures { result ≡ at routes.now i }
-{
-    routes[i]
-}
-
 // Whether a word has overlapping rows, or a bit past the last row. `used` are the segments of its rows so far.
 fn is_bad(rows: usize, routes: &[u32; Table::ROWS], word: u64) -> bool
     requires { rows ≤ max_rows }
@@ -69,16 +60,14 @@ fn is_bad(rows: usize, routes: &[u32; Table::ROWS], word: u64) -> bool
         return true;
     }
     let mut used: u32 = 0;
-    let mut i: usize = 0;
-    while i < rows {
+    for i in 0..rows {
         if (word >> i) % 2 == 1 {
-            let segments = segments_at(routes, i);
+            let segments = routes[i];
             if used & segments != 0 {
                 return true;
             }
-            used = used | segments;
+            used |= segments;
         }
-        i += 1;
     }
     false
 }
@@ -88,15 +77,13 @@ pub fn lowest_bad(rows: usize, routes: &[u32; Table::ROWS], plan: &[u64], hyper:
     requires { rows ≤ max_rows }
     ensures { (t : bus.Table) → t.rows ≡ rows → Segmented t routes.now → LowestBad t plan.now hyper result }
 {
-    let mut slot: usize = 0;
-    while slot < hyper {
+    for slot in 0..hyper {
         if slot >= plan.len() {
             return hyper;
         }
         if is_bad(rows, routes, plan[slot]) {
             return slot;
         }
-        slot += 1;
     }
     hyper
 }
@@ -119,12 +106,9 @@ pub fn count(plan: &[u64], hyper: usize, into: u64, from: u64) -> usize
     ensures { (result ≡ length (plan_moves into from hyper plan.now)) × (result ≤ 2 * hyper) }
 {
     let mut n: usize = 0;
-    let mut slot: usize = 0;
-    while slot < hyper {
-        let word = plan[slot];
-        n += one(word & into);
-        n += one(word & from);
-        slot += 1;
+    for word in &plan[..hyper] {
+        n += one(*word & into);
+        n += one(*word & from);
     }
     n
 }
@@ -160,12 +144,9 @@ pub fn put_numbers(plan: &[u64], hyper: usize, into: u64, from: u64, out: &mut [
     ensures { out.new ≡ lent (flat in_memory (plan_moves into from hyper plan.now)) out.old }
 {
     let mut n: usize = 0;
-    let mut slot: usize = 0;
-    while slot < hyper {
-        let word = plan[slot];
-        n = put_number(word & into, slot, Entry::RECEIVE, out, n);
-        n = put_number(word & from, slot, Entry::SEND, out, n);
-        slot += 1;
+    for (slot, word) in plan[..hyper].iter().enumerate() {
+        n = put_number(*word & into, slot, Entry::RECEIVE, out, n);
+        n = put_number(*word & from, slot, Entry::SEND, out, n);
     }
 }
 
@@ -194,11 +175,8 @@ pub fn put_bytes(plan: &[u64], hyper: usize, into: u64, from: u64, out: &mut [u8
         lent (take list_header out.old ++ flat in_file (plan_moves into from hyper plan.now)) out.old }
 {
     let mut n: usize = 0;
-    let mut slot: usize = 0;
-    while slot < hyper {
-        let word = plan[slot];
-        n = put_byte(word & into, slot, Entry::RECEIVE, out, n);
-        n = put_byte(word & from, slot, Entry::SEND, out, n);
-        slot += 1;
+    for (slot, word) in plan[..hyper].iter().enumerate() {
+        n = put_byte(*word & into, slot, Entry::RECEIVE, out, n);
+        n = put_byte(*word & from, slot, Entry::SEND, out, n);
     }
 }
