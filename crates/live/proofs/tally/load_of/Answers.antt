@@ -19,8 +19,9 @@ segments-word-requires c =
 
 pub returns-then-word-s-eq0 : goal.returns-then-word-s-eq0
 returns-then-word-s-eq0 c =
-    let z = c.args in (
-      apart_adds z.d (single z.elements 1 z.row) z.s c.requires.2 (omega (arith, (c.requires.3 (omega (arith, c.if-row-eq0.false))).way_known)) _
+    let z = c.args in
+    let S = c.requires.3 (omega (arith, c.if-row-eq0.false)) in (
+      apart_adds z.d (single z.elements 1 z.row) z.s c.requires.2 (omega (arith, S.way_known)) _
           c.segments-word.ensures c.if-word-s-eq0.true,
       omega arith,
     )
