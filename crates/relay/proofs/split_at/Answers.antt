@@ -15,8 +15,9 @@ loop-i-init c =
 
 pub with_parts-split-requires : goal.with_parts-split-requires
 with_parts-split-requires c =
-    let t = table_of c.args.given in (
-      room_for t c.args.relay c.loop-i.i (numbers_of c.row_of-row.result) (omega arith) c.requires.2 c.goes-through.ensures c.loop-i.invariant,
+    let t = table_of c.args.given in
+    let row = numbers_of c.row_of-row.result in (
+      room_for t c.args.relay c.loop-i.i row (omega arith) c.requires.2 c.goes-through.ensures c.loop-i.invariant,
       fits_row t c.requires.0 {i = c.loop-i.i} (omega arith) c.row_of-row.ensures,
       omega (arith, c.requires.0.elements_high, c.requires.1.high),
     )
