@@ -9,7 +9,8 @@
 --   numbers_in bs              the numbers in a text: whatever is no digit stands between them
 --
 -- Only one place fits `FoundAt` (proofs/Reading, `found_only`).
-use Rattle.std.specs.Prelude.{◌≡◌, ◌≢◌, List, [], ◌∷◌, ◌++◌, Option, Bool, false, not, ◌&&◌, cond, ℕ, ◌+◌, ◌-◌, ◌*◌, ◌≤◌, ◌<◌, min, leb, length}
+use Rattle.std.specs.Prelude.{◌≡◌, ◌≢◌, List, [], ◌∷◌, ◌++◌, Option}
+use Rattle.std.specs.Prelude.{Bool, false, not, ◌&&◌, cond, ℕ, ◌+◌, ◌-◌, ◌*◌, ◌≤◌, ◌<◌, min, leb, length}
 use Rattle.std.specs.Option.{is_some, unwrap_or}
 use Rattle.numbers.specs.Lists.{at}
 

@@ -53,11 +53,9 @@ fn put_entries(numbers: &[u16], entries: usize, out: &mut [u8], at: usize) -> us
         out.new result }
 {
     let mut next = at;
-    let mut k: usize = 0;
-    while k < entries {
+    for k in 0..entries {
         let p = Head::ENTRY_NUMBERS * k;
         next = put_entry(numbers[p], numbers[p + 1], numbers[p + 2], out, next);
-        k += 1;
     }
     next
 }

@@ -77,6 +77,7 @@ fn has_room(left: &[u32; SETS], from: usize, to: usize) -> bool
 }
 
 // Takes h from what is left of the sets from one up to another.
+// One function for this and `lift` would take a closure and one more definition: each is a line.
 fn lower(left: &mut [u32; SETS], from: usize, to: usize, h: u32)
     requires { (from ≤ to) × (to ≤ max_elements) × (length left.old ≡ max_elements) }
     ensures { (length left.new ≡ max_elements)
@@ -119,7 +120,13 @@ fn all_less(left: &[u32; SETS], sets: usize, h: u32) -> bool
     requires { sets ≤ max_elements }
     ensures { result ≡ true → (k : ℕ) → k < sets → at left.now k < h }
 {
-    left[..sets].iter().all(|x| *x < h)
+    // with `all` this takes twice the time
+    for x in &left[..sets] {
+        if *x >= h {
+            return false;
+        }
+    }
+    true
 }
 
 // ---- the choice

@@ -1,5 +1,5 @@
 -- Places of a live table, one by one and all together.
-use mathlib.Core.Path.{◌≡◌, refl, sym, ap, ap₂, ◌∙◌}
+use mathlib.Core.Path.{◌≡◌, refl, sym, ap, ◌∙◌}
 use mathlib.Core.Logic.{◌⊎◌, inl, inr, ⊎_elim, ◌≢◌}
 use mathlib.Core.Bool.{Bool, true, false, not, ◌&&◌, and-true}
 use mathlib.Core.List.{List}
@@ -44,13 +44,6 @@ use Rattle.table.specs.Columns.{HasRow}
 use Rattle.live.specs.Seats.{Zeros, Seat, equal}
 
 -- ---- one place
-
-pub zeros_decided : {row : Row} → row.cost ≡ 0 → row.period ≡ 0 → row.first ≡ 0 → row.second ≡ 0
-    → Decides (Zeros row) (eqb row.label 0)
-zeros_decided {row} c p f s = record {
-  holds = λ e. record { cost = c; period = p; first = f; second = s; label = eqb→eq row.label 0 (of_true e) };
-  fails = λ e z. of_false e (eqb_of row.label 0 z.label);
-}
 
 -- a place that isn't free is right exactly if no fault of 7 to 9 is found
 pub fault_decided : (M : ℕ) (row : Row) (a : Result Unit Reason) → (Zeros row → ⊥) → Answers (faults (single M 1 row) 0) (why a) 0
@@ -98,21 +91,6 @@ seat_decided {M} label H D = record {
 
 -- ---- equal rows
 
-module _ (a b c x y z : ℕ) where
-  pub first_differs : a ≢ x → false ≡ (eqb a x && eqb b y && eqb c z)
-  first_differs n = sym (ap (λ (t : Bool). t && eqb b y && eqb c z) (is_false (eqb a x) (λ t. n (eqb→eq a x t))))
-
-  module _ (e : a ≡ x) where
-    same_first : eqb a x ≡ true
-    same_first = is_true (eqb a x) (eqb_of a x e)
-
-    pub second_differs : b ≢ y → false ≡ (eqb a x && eqb b y && eqb c z)
-    second_differs n =
-        sym (ap₂ (λ (t u : Bool). t && u && eqb c z) same_first (is_false (eqb b y) (λ t. n (eqb→eq b y t))))
-
-    pub third_decides : b ≡ y → eqb c z ≡ (eqb a x && eqb b y && eqb c z)
-    third_decides f = sym (ap₂ (λ (t u : Bool). t && u && eqb c z) same_first (is_true (eqb b y) (eqb_of b y f)))
-
 -- an earlier place has the row of place i
 pub earlier_equal : (l : Live) {i : ℕ} {row : Row} → IsRow (unlabelled (places l)) i row
     → any i (equal l.period l.first l.second row) ≡ pasted (places l) i
@@ -120,12 +98,8 @@ unfolding pasted
 earlier_equal l {i} R =
     rw (R.period, R.first, R.second) (any_eq i _ _ (λ j k. sym (and-true _)))
 
-module _ (p : ℕ) (b : Bool) where
-  pub free_single : p ≡ 0 → false ≡ (ltb 0 p && b)
-  free_single e = sym (ap (λ (t : Bool). t && b) (is_false (ltb 0 p) (λ t. omega (arith, ltb→lt 0 p t))))
-
-  pub held_decides : p ≢ 0 → b ≡ (ltb 0 p && b)
-  held_decides n = sym (ap (λ (t : Bool). t && b) (is_true (ltb 0 p) (lt→ltb 0 p (omega (arith, n)))))
+pub held_decides : (p : ℕ) (b : Bool) → p ≢ 0 → b ≡ (ltb 0 p && b)
+held_decides p b n = sym (ap (λ (t : Bool). t && b) (is_true (ltb 0 p) (lt→ltb 0 p (omega (arith, n)))))
 
 -- a place doesn't hold a row that stands before it too
 pub single_decided : (a b r : Bool) → r ≡ not (a && b) → Decides (T a → T b → ⊥) r

@@ -18,19 +18,7 @@ use table::{Row, Table};
 fn is_free(row: Row) -> bool
     ensures { Decides (Zeros row) result }
 {
-    if row.cost != 0 {
-        return false;
-    }
-    if row.period != 0 {
-        return false;
-    }
-    if row.first != 0 {
-        return false;
-    }
-    if row.second != 0 {
-        return false;
-    }
-    row.label == 0
+    row.cost == 0 && row.period == 0 && row.first == 0 && row.second == 0 && row.label == 0
 }
 
 fn is_seat(elements: usize, row: Row) -> bool
@@ -75,13 +63,9 @@ fn is_equal<'a>(
     requires { j < max_rows }
     ensures { result ≡ equal (at period.now) (at first.now) (at second.now) row j }
 {
-    if table::end_at(first, j) != row.first as usize {
-        return false;
-    }
-    if table::end_at(second, j) != row.second as usize {
-        return false;
-    }
-    table::slots_at(period, j) == row.period as u64
+    table::end_at(first, j) == row.first as usize
+        && table::end_at(second, j) == row.second as usize
+        && table::slots_at(period, j) == row.period as u64
 }
 
 // One of the first `count` places has the row's ends and period.
@@ -111,16 +95,8 @@ fn is_repeated<'a>(
         && pasted
         (column_places elements cost.now period.now first.now second.now) i) }
 {
-    if table::slots_at(period, i) == 0 {
-        return false;
-    }
-    has_row(
-        i,
-        period,
-        first,
-        second,
-        table::row_at(cost, period, first, second, i, 0, 0),
-    )
+    let row = table::row_at(cost, period, first, second, i, 0, 0);
+    row.period != 0 && has_row(i, period, first, second, row)
 }
 
 // No row has the ends and the period of another.
@@ -152,14 +128,7 @@ pub fn are_seated<'a>(
         (column_live elements cost.now period.now first.now second.now label.now))
         result }
 {
-    if elements < 2 {
-        return false;
-    }
-    if elements > Table::ELEMENTS {
-        return false;
-    }
-    if !are_seats(elements, cost, period, first, second, label) {
-        return false;
-    }
-    are_single(cost, period, first, second)
+    (2..=Table::ELEMENTS).contains(&elements)
+        && are_seats(elements, cost, period, first, second, label)
+        && are_single(cost, period, first, second)
 }

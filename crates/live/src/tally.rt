@@ -26,6 +26,7 @@ fn counted(period: &[u16; Table::ROWS]) -> [u16; Table::ROWS]
 }
 
 // The least common multiple of the periods present, or 0 where it is above 4096.
+#[tactic(auto, using(crate::proofs::Sums::counted_periods, crate::proofs::Sums::counted_common))]
 pub fn denominator_of(period: &[u16; Table::ROWS]) -> u64
     requires { (i : ℕ) → i < max_rows → at period.now i ≤ max_slots }
     ensures { Capped (common_of (at period.now)) result }

@@ -120,8 +120,8 @@ pub fn find_way(
         let way = by[u];
         let ahead = visit(head, out[u] & arcs.up, way, seen, &mut by);
         let back = visit(tail, into[u] & arcs.down, way, ahead, &mut by);
-        // no set starts at node 0
-        let lower = step(arcs.more, u, u.saturating_sub(1), way, back, &mut by);
+        // no set starts at node 0: the node before it is not looked at
+        let lower = step(arcs.more, u, u.wrapping_sub(1), way, back, &mut by);
         seen = step(arcs.less, u, u + 1, way, lower, &mut by);
         done = done | (1u64 << u);
     }

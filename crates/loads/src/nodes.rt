@@ -64,7 +64,7 @@ fn put_starts(
 }
 
 // Writes the node where each row ends, after its highest set, to `head`, and the rows that end at each node to `into`; both are 0. The sets
-// from the last on.
+// from the last on. Not one function with `put_starts`: the order, the nodes and the node of rows in no set all differ.
 fn put_stops(
     rows: usize,
     sets: usize,

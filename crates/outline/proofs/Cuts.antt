@@ -1,13 +1,11 @@
 -- The cuts of a table's rings, of one or of two, and a ring that has none.
 use mathlib.Core.Path.{◌≡◌, sym, ap, ◌∙◌}
 use mathlib.Core.Logic.{⊎_elim}
-use mathlib.Core.Bool.{Bool, true, false, not, cond}
+use mathlib.Core.Bool.{Bool, true, false, cond}
 use Prim.Native.Nat.{ℕ, ◌+◌, ◌≤◌, ◌<◌}
 use native.Mathlib.Decide.{ℕ_discrete}
 use native.Mathlib.Omega.{arith}
 use lib.Dec.{T, ltb, ltb→lt, lt→ltb}
-use Rattle.numbers.specs.Finite.{any}
-use Rattle.numbers.proofs.Finite.{any_of, any_none, Sought}
 use Rattle.numbers.proofs.Truth.{is_true, is_false, le_or_lt}
 use Rattle.rules.specs.Bus.{Table, clockwise, counterclockwise, mirror}
 use Rattle.rules.specs.Line.{cut, HasCuts, idle, board_cut}
@@ -86,12 +84,3 @@ module _ {t : Table} (s : Sound t) where
   pub board_high : HasCuts t → (d : ℕ) → board_cut t d ≤ t.elements
   board_high has d =
       ⊎_elim (λ l. omega (arith, board_none d l)) (λ l. (board_element has d l).high) (le_or_lt t.rings d)
-
--- ---- a ring without rows
-
-module _ (n : ℕ) (p : ℕ → Bool) where
-  pub some_row : (i : ℕ) → i < n → T (p i) → false ≡ not (any n p)
-  some_row i l h = sym (ap not (is_true (any n p) (any_of n p i l h)))
-
-  pub no_row : {i : ℕ} → Sought n p i → n ≤ i → true ≡ not (any n p)
-  no_row S l = sym (ap not (any_none n p (λ j m. S.none j (omega arith))))

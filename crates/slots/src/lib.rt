@@ -67,10 +67,7 @@ pub fn fill<'a>(
             let row = 1u64 << i;
             let mut left = table::slots_at(load, i) as usize;
             // s goes on from stretch to stretch, so no range has its places
-            'slots: while s < slots {
-                if left == 0 {
-                    break 'slots;
-                }
+            while s < slots && left != 0 {
                 let to = usize::from(end[k]);
                 if element < usize::from(last[k]) {
                     s = to;

@@ -11,7 +11,8 @@ loop-byte-preserved c =
     let l = c.loop-byte-test.true in
     elim c.if-is_ascii_digit.branch [
       | then-is_ascii_digit w ↦
-          rw (w.open-is, w.k-is, w.out-is, w.grow.ensures, w.unwrap_or.ensures) (front_digit c.loop-byte.invariant l w.if-is_ascii_digit.ensures.value)
+          rw (w.open-is, w.k-is, w.out-is, w.grow.ensures, w.unwrap_or.ensures)
+          (front_digit c.loop-byte.invariant l w.if-is_ascii_digit.ensures.value)
       | else-is_ascii_digit w ↦
           rw (w.open-is, w.k-is, w.out-is) (front_other c.loop-byte.invariant l w.if-is_ascii_digit.ensures.value w.put_ended-k.ensures)
     ]

@@ -10,6 +10,7 @@ use Rattle.live.proofs.seats.are_seats.Goals as goal
 pub returns : goal.returns
 returns c =
     let z = c.args in
-    decides_from_all max_rows (Seat (column_live z.elements z.cost.now z.period.now z.first.now z.second.now z.label.now)) _ _ _ c.all.ensures.ran
+    let l = column_live z.elements z.cost.now z.period.now z.first.now z.second.now z.label.now in
+    decides_from_all max_rows (Seat l) _ _ _ c.all.ensures.ran
     (YieldsList-from_range 0 max_rows max_rows refl refl)
     (λ x b q k. search (rules, tests, seat_decided))

@@ -9,7 +9,8 @@ loop-i-init c = adding_start
 pub load_of-total-requires : goal.load_of-total-requires
 load_of-total-requires c =
     let is = place_row c.args.elements (λ j. 0) c.row_at-row.ensures in
-    (c.requires.2.small, c.requires.0, c.requires.1, λ p. row_alone is (c.requires.2.row c.loop-i.i (omega arith) (omega (arith, is.period, p))))
+    let R = c.requires in
+    (R.2.small, R.0, R.1, λ p. row_alone is (R.2.row c.loop-i.i (omega arith) (omega (arith, is.period, p))))
 
 pub loop-i-preserved : goal.loop-i-preserved
 loop-i-preserved c =

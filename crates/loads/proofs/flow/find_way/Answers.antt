@@ -1,11 +1,12 @@
 -- `find_way` goes on from nodes that are seen and not done, until t is seen or all are done.
-use Rattle.std.proofs.Common.{◌≡◌, true, ℕ, ◌≤◌, ◌<◌, refl, sym, ◌∙◌, arith}
+use Rattle.std.proofs.Common.{◌≡◌, Bool, true, ℕ, ◌+◌, ◌-◌, ◌%◌, ◌≤◌, ◌<◌, refl, sym, ◌∙◌, arith}
 use mathlib.Core.Bool.{true≢false, false≢true}
 use borrow.Author.Tests.{eqb-true}
 use Rattle.numbers.specs.Word.{bit}
 use Rattle.numbers.proofs.Lists.{zeros_at}
 use Rattle.numbers.proofs.Word.{bit_shr, bit_zero}
 use Rattle.loads.specs.Network.{nodes_most}
+use Rattle.loads.specs.Way.{Entered}
 use Rattle.loads.proofs.Words.{bit_one_more, bit_first, bit_odd, in_first, fewer}
 use Rattle.loads.proofs.Ways.{reached_start, done_start, done_shut, out_node, into_node}
 use Rattle.loads.proofs.Ways.{leave_line, leave_reached, leave_done, leave_within}
@@ -15,6 +16,19 @@ use Rattle.loads.proofs.flow.find_way.Goals as goal
 node : (seen done u K : ℕ) → (bit seen u ≡ bit done u → ⊥) → ((v : ℕ) → bit done v ≡ true → bit seen v ≡ true)
     → ((v : ℕ) → bit seen v ≡ true → v ≤ K) → K < nodes_most → (u ≤ K) × (u < nodes_most)
 node seen done u K ne some line few = let l = line u (in_first _ _ ne (some u)).0 in (l, omega arith)
+
+-- where the set can carry one more, p is node q
+entered_at : (on : Bool) (p q w seen seen' : ℕ) (by by' : ℕ → ℕ) → Entered on p w seen seen' by by' → (on ≡ true → p ≡ q)
+    → Entered on q w seen seen' by by'
+entered_at on p q w seen seen' by by' E e = record {
+  kept = E.kept;
+  came = λ v f t. let r = E.came v f t in (r.0, r.1 ∙ e r.0, r.2);
+  swept = λ o. rw (e o) at (E.swept o);
+}
+
+-- the node before u, where a set starts at u
+before : (u : ℕ) → 0 < u → u < nodes_most → (u + 18446744073709551615) % 18446744073709551616 ≡ u - 1
+before u l m = omega arith
 
 pub loop-seen-init : goal.loop-seen-init
 loop-seen-init c =
@@ -86,7 +100,7 @@ step-lower-requires c =
     let p = c.requires in
     let u = c.loop-seen.invariant in
     let l = node _ _ c.pick-u.result p.1 c.pick-u.ensures.1 u.some (u.on_line p.0 p.1 p.2 p.3 p.4) p.2.few_nodes in
-    (l.1, λ q. omega (arith, l.1, c.saturating_sub.ensures), c.visit-back.ensures.0)
+    (l.1, λ q. omega (arith, l.1, before c.pick-u.result (p.3.more c.pick-u.result q).0 l.1), c.visit-back.ensures.0)
 
 pub step-seen-requires : goal.step-seen-requires
 step-seen-requires c =
@@ -109,9 +123,11 @@ loop-seen-preserved c =
     let u = c.pick-u.result in
     let l = c.pick-u.ensures.0 in
     let us = (in_first _ _ c.pick-u.ensures.1 (L.invariant.some u)).0 in
+    let r = c.requires in
+    let n = node _ _ u r.1 c.pick-u.ensures.1 L.invariant.some (L.invariant.on_line r.0 r.1 r.2 r.3 r.4) r.2.few_nodes in
+    let d = entered_at _ _ (u - 1) _ _ _ _ _ c.step-lower.ensures.1 (λ q. before u (r.3.more u q).0 n.1) in
     let a = c.visit-ahead.ensures.1 in
     let b = c.visit-back.ensures.1 in
-    let d = rw c.saturating_sub.ensures at c.step-lower.ensures.1 in
     let e = c.step-seen.ensures in
     let wider : (v : ℕ) → bit L.seen v ≡ true → bit c.step-seen.result v ≡ true =
     λ v q. (e.1.kept v (d.kept v (b.kept v (a.kept v q).0).0).0).0 in

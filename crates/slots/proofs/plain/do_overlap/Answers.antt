@@ -12,7 +12,8 @@ returns-then-end_at c =
     let f = at c.args.first.now in
     let g = at c.args.second.now in
     let b = ltb (f c.args.j) (g c.args.i) in
-    rw (c.end_at-then-end_at.ensures, c.end_at-then-end_at-2.ensures, is_true b (lt→ltb _ _ (omega (arith, c.end_at.ensures, c.end_at-2.ensures, c.if-end_at.true))))
+    let t = is_true b (lt→ltb _ _ (omega (arith, c.end_at.ensures, c.end_at-2.ensures, c.if-end_at.true))) in
+    rw (c.end_at-then-end_at.ensures, c.end_at-then-end_at-2.ensures, t)
 
 pub returns-else-end_at : goal.returns-else-end_at
 unfolding meet
@@ -20,4 +21,5 @@ returns-else-end_at c =
     let f = at c.args.first.now in
     let g = at c.args.second.now in
     let b = ltb (f c.args.j) (g c.args.i) in
-    rw (c.end_at.ensures, c.end_at-2.ensures, is_false b (λ t. omega (arith, ltb→lt _ _ t, c.end_at.ensures, c.end_at-2.ensures, c.if-end_at.false)))
+    let no = is_false b (λ t. omega (arith, ltb→lt _ _ t, c.end_at.ensures, c.end_at-2.ensures, c.if-end_at.false)) in
+    rw (c.end_at.ensures, c.end_at-2.ensures, no)
