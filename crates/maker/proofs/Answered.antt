@@ -146,7 +146,7 @@ module _ (a : Ask) (plan : List ℕ) (e : ℕ) (form : ElementList → List ℕ)
   }
 
   pub made_done : {s : Source} → Fits a plan e (length was) k (Ok s) → (now : List ℕ) → now ≡ lent (form (moves_list a.table e plan)) was
-      → Told now (Ok (record { hyper = s.hyper; entries = s.entries }))
+      → Told now (Ok (record { hyper = s.picks.hyper; entries = s.entries }))
   made_done F now w = rw size record {
     answers = F.answers;
     done = λ y. (F.ready.hyper, F.ready.entries, w);

@@ -49,7 +49,8 @@ use Rattle.decoding.proofs.OneRing.{OtherMark, other_mark, own_mark, one_numbere
 use Rattle.ring.specs.Route.{row_segments}
 use Rattle.verdict.specs.Analysed.{table_checks}
 use Rattle.verdict.proofs.Bound.{verdict_numbered, verdict_split, admissible_of}
-use Rattle.maker.specs.Words.{Segmented, LowestBad, ending_at, plan_moves, OneEach}
+use Rattle.maker.specs.Words.{Segmented, LowestBad, ending_at, plan_moves, Clear, moves_of}
+use Rattle.maker.specs.declared.moves.Picks.{Picks}
 use Rattle.maker.proofs.Made.{plan_moves_lem, clean_clear}
 use Rattle.maker.specs.declared.Source.{Source}
 use Rattle.maker.specs.Finding.{word_checks, early_checks, Finds}
@@ -146,33 +147,34 @@ module _ {t : Table} (S : Sound t) (plan : List ℕ) (e : ℕ) where
   abbrev from : ℕ
   from = ending_at t.rows t.first e
 
-  moves_of : plan_moves into from (hyperperiod t) plan ≡ element_moves t e plan
+  moves_of_element : plan_moves into from (hyperperiod t) plan ≡ element_moves t e plan
   unfolding element_moves
-  moves_of = plan_moves_lem S e (hyperperiod t) plan
+  moves_of_element = plan_moves_lem S e (hyperperiod t) plan
 
-  pub clear_of : t.rings ≡ 1 → None (early_checks [] t plan e) → OneEach into from (hyperperiod t) plan
-  clear_of one a = clean_clear S e one (hyperperiod t) plan (words_clean t plan e a)
+  pub clear_of : t.rings ≡ 1 → None (early_checks [] t plan e) → {p : Picks} → p.hyper ≡ hyperperiod t → p.hyper ≤ max_slots
+      → p.into ≡ into → p.from ≡ from → Clear p plan
+  clear_of one a h l i f =
+      let long : hyperperiod t ≤ length plan = ⊎_elim (λ l. l) (λ l. absurd (plan_long t plan e a l)) (le_or_lt (hyperperiod t) (length plan)) in
+      record {
+        long = omega (arith, h, long);
+        short = l;
+        each = rw (h, i, f) (clean_clear S e one (hyperperiod t) plan (words_clean t plan e a));
+      }
 
-  pub long_of : None (early_checks [] t plan e) → hyperperiod t ≤ length plan
-  long_of a = ⊎_elim (λ l. l) (λ l. absurd (plan_long t plan e a l)) (le_or_lt (hyperperiod t) (length plan))
-
-  pub found_ready : (r : Source) → t.rings ≡ 1 → Answers (early_checks [] t plan e) 0 0 → r.hyper ≡ hyperperiod t → r.hyper ≤ max_slots
-      → r.into ≡ into → r.from ≡ from → r.entries ≡ length (plan_moves r.into r.from r.hyper plan)
-      → r.entries ≤ 2 * r.hyper → Finds [] t plan e (Ok r)
-  found_ready r one q h l i f n m =
-      let a = found_none t plan e q in
-      let same : plan_moves r.into r.from r.hyper plan ≡ element_moves t e plan = rw (h, i, f) moves_of in
+  pub found_ready : (r : Source) → t.rings ≡ 1 → Answers (early_checks [] t plan e) 0 0 → r.picks.hyper ≡ hyperperiod t
+      → Clear r.picks plan → r.picks.into ≡ into → r.picks.from ≡ from → r.entries ≡ length (moves_of r.picks plan)
+      → r.entries ≤ 2 * r.picks.hyper → Finds [] t plan e (Ok r)
+  found_ready r one q h c i f n m =
+      let same : moves_of r.picks plan ≡ element_moves t e plan = rw (h, i, f) moves_of_element in
       record {
         answers = q;
         ready = record {
           hyper = h;
-          short = l;
-          long = omega (arith, h, long_of a);
-          element_small = omega (arith, (element_there t plan e a).1, S.elements_high);
-          clear = rw (h, i, f) (clear_of one a);
+          element_small = omega (arith, (element_there t plan e (found_none t plan e q)).1, S.elements_high);
+          clear = c;
           moves = same;
           entries = n ∙ ap length same;
-          few = omega arith;
+          few = omega (arith, c.short);
         };
       }
 

@@ -16,7 +16,7 @@ use Rattle.rules.specs.Refusals.{Check, Answers, wrong_element, bad_word, short_
 use Rattle.rules.specs.Calls.{Ask}
 use Rattle.table.specs.Refusal.{number, place}
 use Rattle.table.specs.declared.refusals.Refusal.{Refusal}
-use Rattle.maker.specs.Words.{plan_moves, OneEach}
+use Rattle.maker.specs.Words.{Clear, moves_of}
 use Rattle.maker.specs.declared.Source.{Source}
 use Rattle.maker.specs.declared.Making.{Making}
 
@@ -27,12 +27,10 @@ abbrev pub early_checks : List Check → Table → (plan : List ℕ) (element : 
 early_checks cs t plan element = word_checks cs t plan element ++ (short_output (length plan < hyperperiod t) ∷ [])
 
 pub record Makeable (t : Table) (plan : List ℕ) (element : ℕ) (r : Source) : Type 0 where
-  pub hyper : r.hyper ≡ hyperperiod t
-  pub short : r.hyper ≤ max_slots
-  pub long : r.hyper ≤ length plan
+  pub hyper : r.picks.hyper ≡ hyperperiod t
   pub element_small : element ≤ max_elements
-  pub clear : OneEach r.into r.from r.hyper plan
-  pub moves : plan_moves r.into r.from r.hyper plan ≡ element_moves t element plan
+  pub clear : Clear r.picks plan
+  pub moves : moves_of r.picks plan ≡ element_moves t element plan
   pub entries : r.entries ≡ length (element_moves t element plan)
   pub few : r.entries ≤ 2 * max_slots
 

@@ -18,16 +18,14 @@ ghost use Rattle.table.specs.Refusal.{number, place};
 ghost use Rattle.maker.specs.Finding.{early_checks, Finds, Fits, hyper_of, entries_of};
 
 use lists::Head;
+use moves::Picks;
 use table::{Columns, Reason, Refusal, no_columns};
 
-// What a list is written from: how many slots and entries there are, and the words of the rows that come to the element and of those that
-// leave it.
+// What a list is written from: the element's moves, and how many there are.
 #[derive(Clone, Copy)]
 struct Source {
-    hyper: usize,
+    picks: Picks,
     entries: usize,
-    into: u64,
-    from: u64,
 }
 
 // 29, 19, and 17 for a short plan. `slot` is the lowest of the first `hyper` whose word is bad, and `hyper` where none is.
@@ -65,13 +63,14 @@ fn find_on(table: &Columns, hyper: usize, plan: &[u64], element: u64) -> Result<
     let routes = ring::lay_segments(table);
     let slot = moves::lowest_bad(table.rows, &routes, plan, hyper);
     fault(table.elements, element, slot, plan.len(), hyper)?;
-    let into = moves::ending_at(table.rows, &table.second, element as usize);
-    let from = moves::ending_at(table.rows, &table.first, element as usize);
-    Ok(Source {
+    let picks = Picks {
         hyper,
-        entries: moves::count(plan, hyper, into, from),
-        into,
-        from,
+        into: moves::ending_at(table.rows, &table.second, element as usize),
+        from: moves::ending_at(table.rows, &table.first, element as usize),
+    };
+    Ok(Source {
+        picks,
+        entries: picks.count(plan),
     })
 }
 
@@ -122,9 +121,9 @@ pub fn make(file: &[u8], plan: &[u64], element: u64, out: &mut [u16]) -> Result<
         (number result) (place result) (hyper_of result) (entries_of result) }
 {
     let found = find_for(file, plan, element, out.len(), 0, Head::ENTRY_NUMBERS)?;
-    moves::put_numbers(plan, found.hyper, found.into, found.from, out);
+    found.picks.put_numbers(plan, out);
     Ok(Making {
-        hyper: found.hyper,
+        hyper: found.picks.hyper,
         entries: found.entries,
     })
 }
@@ -142,10 +141,10 @@ pub fn make_file(file: &[u8], plan: &[u64], element: u64, out: &mut [u8]) -> Res
         Head::BYTES,
         Head::ENTRY_BYTES,
     )?;
-    lists::put_head(element as u8, found.hyper as u16, out);
-    moves::put_bytes(plan, found.hyper, found.into, found.from, out);
+    lists::put_head(element as u8, found.picks.hyper as u16, out);
+    found.picks.put_bytes(plan, out);
     Ok(Making {
-        hyper: found.hyper,
+        hyper: found.picks.hyper,
         entries: found.entries,
     })
 }

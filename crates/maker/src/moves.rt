@@ -12,10 +12,10 @@ ghost use Rattle.maker.specs.Words.{
   ending_at,
   Segmented,
   picked,
-  plan_moves,
   AtMostOne,
   IsMove,
-  OneEach,
+  Clear,
+  moves_of,
   flat,
   PutMoves,
   LowestBad,
@@ -23,6 +23,14 @@ ghost use Rattle.maker.specs.Words.{
 
 use lists::{Entry, Head};
 use table::Table;
+
+// Which moves of a plan are one element's: those of the first `hyper` words, received by the rows of `into` and sent by those of `from`.
+#[derive(Clone, Copy)]
+pub struct Picks {
+    pub hyper: usize,
+    pub into: u64,
+    pub from: u64,
+}
 
 // The word of the rows that end at an element.
 pub fn ending_at(rows: usize, ends: &[u8; Table::ROWS], element: usize) -> u64
@@ -100,20 +108,6 @@ fn one(word: u64) -> usize
     1
 }
 
-// How many moves there are in the first `hyper` words.
-pub fn count(plan: &[u64], hyper: usize, into: u64, from: u64) -> usize
-    requires { (hyper ≤ length plan.now) × (hyper ≤ max_slots) × OneEach into from hyper plan.now }
-    ensures { (result ≡ length (plan_moves into from hyper plan.now)) × (result ≤ 2 * hyper) }
-{
-    let mut n: usize = 0;
-    for slot in 0..hyper {
-        let word = plan[slot];
-        n += one(word & into);
-        n += one(word & from);
-    }
-    n
-}
-
 // The move of a word that has exactly one.
 fn move_of(word: u64, slot: usize, way: u16) -> Entry
     requires { AtMostOne word × (word ≢ 0) × (slot < max_slots) }
@@ -138,20 +132,6 @@ fn put_number(word: u64, slot: usize, way: u16, out: &mut [u16], n: usize) -> us
     n + 1
 }
 
-// The numbers of all moves, at the front of `out`.
-pub fn put_numbers(plan: &[u64], hyper: usize, into: u64, from: u64, out: &mut [u16])
-    requires { (hyper ≤ length plan.now) × (hyper ≤ max_slots) × OneEach into from hyper plan.now
-        × (entry_numbers * length (plan_moves into from hyper plan.now) ≤ length out.old) }
-    ensures { out.new ≡ lent (flat in_memory (plan_moves into from hyper plan.now)) out.old }
-{
-    let mut n: usize = 0;
-    for slot in 0..hyper {
-        let word = plan[slot];
-        n = put_number(word & into, slot, Entry::RECEIVE, out, n);
-        n = put_number(word & from, slot, Entry::SEND, out, n);
-    }
-}
-
 // The same in bytes, after a list file's head.
 fn put_byte(word: u64, slot: usize, way: u16, out: &mut [u8], n: usize) -> usize
     requires { AtMostOne word × (slot < max_slots) × (way < 256)
@@ -169,17 +149,45 @@ fn put_byte(word: u64, slot: usize, way: u16, out: &mut [u8], n: usize) -> usize
     n + 1
 }
 
-// The bytes of all moves, past the head.
-pub fn put_bytes(plan: &[u64], hyper: usize, into: u64, from: u64, out: &mut [u8])
-    requires { (hyper ≤ length plan.now) × (hyper ≤ max_slots) × OneEach into from hyper plan.now
-        × (list_header + entry_size * length (plan_moves into from hyper plan.now) ≤ length out.old) }
-    ensures { out.new ≡
-        lent (take list_header out.old ++ flat in_file (plan_moves into from hyper plan.now)) out.old }
-{
-    let mut n: usize = 0;
-    for slot in 0..hyper {
-        let word = plan[slot];
-        n = put_byte(word & into, slot, Entry::RECEIVE, out, n);
-        n = put_byte(word & from, slot, Entry::SEND, out, n);
+impl Picks {
+    // How many moves there are.
+    pub fn count(self, plan: &[u64]) -> usize
+        requires { Clear self plan.now }
+        ensures { (result ≡ length (moves_of self plan.now)) × (result ≤ 2 * self.hyper) }
+    {
+        let mut n: usize = 0;
+        for slot in 0..self.hyper {
+            let word = plan[slot];
+            n += one(word & self.into);
+            n += one(word & self.from);
+        }
+        n
+    }
+
+    // The numbers of all moves, at the front of `out`.
+    pub fn put_numbers(self, plan: &[u64], out: &mut [u16])
+        requires { Clear self plan.now × (entry_numbers * length (moves_of self plan.now) ≤ length out.old) }
+        ensures { out.new ≡ lent (flat in_memory (moves_of self plan.now)) out.old }
+    {
+        let mut n: usize = 0;
+        for slot in 0..self.hyper {
+            let word = plan[slot];
+            n = put_number(word & self.into, slot, Entry::RECEIVE, out, n);
+            n = put_number(word & self.from, slot, Entry::SEND, out, n);
+        }
+    }
+
+    // The bytes of all moves, past the head. (A trait of both forms, with their widths and fronts, would be longer than these two loops.)
+    pub fn put_bytes(self, plan: &[u64], out: &mut [u8])
+        requires { Clear self plan.now × (list_header + entry_size * length (moves_of self plan.now) ≤ length out.old) }
+        ensures { out.new ≡
+            lent (take list_header out.old ++ flat in_file (moves_of self plan.now)) out.old }
+    {
+        let mut n: usize = 0;
+        for slot in 0..self.hyper {
+            let word = plan[slot];
+            n = put_byte(word & self.into, slot, Entry::RECEIVE, out, n);
+            n = put_byte(word & self.from, slot, Entry::SEND, out, n);
+        }
     }
 }

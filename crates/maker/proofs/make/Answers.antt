@@ -23,8 +23,7 @@ returns-in_err-found c =
 pub put_numbers-requires : goal.put_numbers-requires
 put_numbers-requires c =
     let F = c.in_ok-found.ensures in
-    let R = F.ready in
-    (R.long, R.short, R.clear, omega (arith, F.enough, ap length R.moves))
+    (F.ready.clear, omega (arith, F.enough, ap length F.ready.moves))
 
 pub returns : goal.returns
 returns c =

@@ -27,7 +27,7 @@ pub overflow_cast-element : goal.overflow_cast-element
 overflow_cast-element c = omega (arith, c.in_ok-found.ensures.ready.element_small)
 
 pub overflow_cast-found : goal.overflow_cast-found
-overflow_cast-found c = omega (arith, c.in_ok-found.ensures.ready.short)
+overflow_cast-found c = omega (arith, c.in_ok-found.ensures.ready.clear.short)
 
 pub put_head-requires : goal.put_head-requires
 put_head-requires c = omega (arith, c.in_ok-found.ensures.enough)
@@ -35,9 +35,8 @@ put_head-requires c = omega (arith, c.in_ok-found.ensures.enough)
 pub put_bytes-requires : goal.put_bytes-requires
 put_bytes-requires c =
     let F = c.in_ok-found.ensures in
-    let R = F.ready in
-    let h = ap length c.put_head.ensures ∙ length-sets c.args.out.now 0 (file_head c.args.element c.in_ok-found.found.hyper) in
-    (R.long, R.short, R.clear, omega (arith, F.enough, ap length R.moves, h))
+    let h = ap length c.put_head.ensures ∙ length-sets c.args.out.now 0 (file_head c.args.element c.in_ok-found.found.picks.hyper) in
+    (F.ready.clear, omega (arith, F.enough, ap length F.ready.moves, h))
 
 pub returns : goal.returns
 returns c =
