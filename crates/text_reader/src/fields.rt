@@ -7,25 +7,7 @@ ghost use Rattle.grammar.specs.TableText.{part, until, max_number};
 ghost use Rattle.grammar.specs.TableText as grammar;
 ghost use Rattle.text_reader.specs.Walk.{is_sign, blank_is, IsNext, IsField, IsLine, IsNextLine, IsCell, IsSpot, most, stepped};
 
-// What is refused of a text, beside the numbers of `table::Answer`.
-#[derive(Clone, Copy)]
-pub struct Fault {
-    pub number: u32,
-}
-
-impl Fault {
-    pub const LONG_TEXT: u32 = 33;
-
-    pub const NO_NUMBER: u32 = 34;
-
-    pub const LARGE_NUMBER: u32 = 35;
-
-    pub const NO_HEADING: u32 = 36;
-
-    pub const MISSING_FIELD: u32 = 37;
-
-    pub const SPARE_FIELD: u32 = 38;
-}
+use crate::faults::{Fault, Wrong};
 
 // ---- fields
 
@@ -147,14 +129,6 @@ pub fn next_line(text: &[u8], from: usize) -> Line
 
 // ---- numbers
 
-// What a field holds: a number, or a fault and its place.
-#[derive(Clone, Copy)]
-pub struct Cell {
-    pub number: u32,
-    pub place: usize,
-    pub value: u16,
-}
-
 fn is_digit(b: u8) -> bool
     ensures { Decides (IsDigit b) result }
 {
@@ -169,35 +143,27 @@ fn grow(x: u32, digit: u8) -> u32
     (x * 10 + (digit - b'0') as u32).min(65536)
 }
 
-fn refuse(number: u32, place: usize) -> Cell
-    ensures { (result.number ≡ number) × (result.place ≡ place) × (result.value ≡ 0) }
-{
-    Cell {
-        number: number,
-        place: place,
-        value: 0,
-    }
-}
-
 // The number in a field that starts at `place`.
-pub fn number(digits: &[u8], place: usize) -> Cell
+pub fn number(digits: &[u8], place: usize) -> Result<u16, Fault>
     ensures { IsCell (part place digits.now) result }
 {
     let mut x: u32 = 0;
     for b in digits {
         if !is_digit(*b) {
-            return refuse(Fault::NO_NUMBER, place);
+            return Err(Fault {
+                wrong: Wrong::NoNumber,
+                place,
+            });
         }
         x = grow(x, *b);
     }
     if x > 65535 {
-        return refuse(Fault::LARGE_NUMBER, place);
+        return Err(Fault {
+            wrong: Wrong::LargeNumber,
+            place,
+        });
     }
-    Cell {
-        number: 0,
-        place: 0,
-        value: x as u16,
-    }
+    Ok(x as u16)
 }
 
 // ---- places

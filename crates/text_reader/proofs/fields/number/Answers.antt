@@ -1,3 +1,4 @@
+-- number: the bytes passed are digits.
 use Rattle.std.proofs.Common.{arith}
 use Rattle.numbers.proofs.Truth.{denied, granted}
 use Rattle.text_reader.proofs.Numbers.{summed_start, summed_next, cell_word, cell_large, cell_value}
@@ -7,9 +8,7 @@ pub loop-b-init : goal.loop-b-init
 loop-b-init c = summed_start _
 
 pub returns-then-not-is_digit : goal.returns-then-not-is_digit
-returns-then-not-is_digit c =
-    let e = c.refuse.ensures in
-    cell_word _ c.loop-b.invariant _ (omega arith) (denied c.is_digit.ensures c.if-not-is_digit.true) e.0 e.1
+returns-then-not-is_digit c = cell_word _ c.loop-b.invariant (omega arith) (denied c.is_digit.ensures c.if-not-is_digit.true)
 
 pub grow-x-requires : goal.grow-x-requires
 grow-x-requires c = (omega (arith, c.loop-b.invariant.sum), granted c.is_digit.ensures c.if-not-is_digit.false)
@@ -20,9 +19,7 @@ loop-b-preserved c =
     c.grow-x.ensures
 
 pub returns-then-x-gt65535 : goal.returns-then-x-gt65535
-returns-then-x-gt65535 c =
-    let e = c.refuse-then-x-gt65535.ensures in
-    cell_large _ c.loop-b.invariant (omega arith) _ (omega arith) e.0 e.1
+returns-then-x-gt65535 c = cell_large _ c.loop-b.invariant (omega arith) (omega arith)
 
 pub returns : goal.returns
 returns c = cell_value _ c.loop-b.invariant (omega arith) (omega arith)
