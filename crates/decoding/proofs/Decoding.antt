@@ -25,12 +25,12 @@ use Rattle.rules.specs.Refusals.{Check, Answers, header_checks, row_checks, file
 use Rattle.rules.proofs.Answers.{None, stopped, joined, answers_only}
 use Rattle.table.specs.Columns.{ByRow, Whole, table_of, Holds, HoldsLabels, OneWay, no_columns, no_labels}
 use Rattle.table.specs.Refusal.{number_of}
-use Rattle.table.proofs.Reasons.{not_done, refusal_only}
 use Rattle.std.specs.Prelude.{Result, Ok, Err}
 use Rattle.decoding.specs.Decoded.{StandsAt, DecodingTo, DecodesInto, Decodes}
 use Rattle.table.specs.Rows.{IsRow}
 use Rattle.table.specs.declared.refusals.Reason.{Reason}
 use Rattle.table.specs.declared.refusals.Refusal.{Refusal}
+use Rattle.table.proofs.Reasons.{not_done, refused_not, same_refusal}
 use Rattle.table.specs.declared.Row.{Row}
 use Rattle.table.specs.declared.columns.Columns.{Columns}
 use Rattle.decoding.specs.declared.Decoded.{Decoded}
@@ -300,30 +300,24 @@ pub labels_only : {g : ℕ → ℕ} {xs ys : List ℕ} → HoldsLabels g xs → 
 labels_only {g} {xs} {ys} X Y =
     ext_get_or 0 xs ys (X.size ∙ sym Y.size) (λ i l. ap (λ (h : ℕ → ℕ). h i) (X.labels ∙ sym Y.labels))
 
--- a refusal is no pass
-pub refused_not : {A : Type 0} (cs : List Check) (r : Refusal) (n p : ℕ) → n ≡ 0 → Answers cs n p → Answers cs (number_of r.reason) r.place → A
-refused_not cs r n p z a b = absurd (not_done r.reason ((answers_only cs _ _ _ _ b a).0 ∙ z))
-
 pub decodes_only : {cs : List Check} {t : Labelled} {r s : Result Decoded Refusal} → Decodes cs t r → Decodes cs t s → r ≡ s
 decodes_only {r = Ok c} {s = Ok d} D E =
     let same = holds_only D.passed E.passed in
     let labels = labels_only D.labelled E.labelled in
     λ i. Ok (record { columns = same i; labels = labels i })
-decodes_only {cs} {r = Ok c} {s = Err e} D E = refused_not cs e 0 0 refl D.answers E.answers
-decodes_only {cs} {r = Err e} {s = Ok d} D E = refused_not cs e 0 0 refl E.answers D.answers
+decodes_only {cs} {r = Ok c} {s = Err e} D E = refused_not cs e D.answers E.answers
+decodes_only {cs} {r = Err e} {s = Ok d} D E = refused_not cs e E.answers D.answers
 decodes_only {cs} {r = Err e} {s = Err g} D E =
-    let z = answers_only cs _ _ _ _ D.answers E.answers in
-    ap Err (refusal_only e g z.0 z.1)
+    same_refusal cs e g D.answers E.answers
 
 pub into_only : {cs : List Check} {t : Table} {a b : Result Unit Refusal} {c d : Columns} → DecodesInto cs t a c → DecodesInto cs t b d
     → (a ≡ b) × (c.elements ≡ d.elements) × (c.rows ≡ d.rows) × (c.rings ≡ d.rings)
 into_only {a = Ok _} {b = Ok _} D E =
     let same = holds_only D.passed E.passed in
     (refl, ap (λ (c : Columns). c.elements) same, ap (λ (c : Columns). c.rows) same, ap (λ (c : Columns). c.rings) same)
-into_only {cs} {a = Ok _} {b = Err e} D E = refused_not cs e 0 0 refl D.answers E.answers
-into_only {cs} {a = Err e} {b = Ok _} D E = refused_not cs e 0 0 refl E.answers D.answers
+into_only {cs} {a = Ok _} {b = Err e} D E = refused_not cs e D.answers E.answers
+into_only {cs} {a = Err e} {b = Ok _} D E = refused_not cs e E.answers D.answers
 into_only {cs} {a = Err e} {b = Err g} D E =
-    let z = answers_only cs _ _ _ _ D.answers E.answers in
     let x = D.refused in
     let y = E.refused in
-    (ap Err (refusal_only e g z.0 z.1), x.0 ∙ sym y.0, x.1 ∙ sym y.1, x.2 ∙ sym y.2)
+    (same_refusal cs e g D.answers E.answers, x.0 ∙ sym y.0, x.1 ∙ sym y.1, x.2 ∙ sym y.2)

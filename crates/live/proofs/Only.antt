@@ -6,7 +6,7 @@ use Rattle.rules.specs.Refusals.{Check, Answers}
 use Rattle.rules.proofs.Answers.{answers_only}
 use Rattle.table.specs.Refusal.{number_of}
 use Rattle.table.specs.declared.refusals.Refusal.{Refusal}
-use Rattle.table.proofs.Reasons.{not_done, refusal_only}
+use Rattle.table.proofs.Reasons.{not_done, same_refusal}
 use Rattle.live.specs.Promises.{OneNew, OneAddition, OneRemoval}
 use Rattle.live.proofs.State.{live_same}
 
@@ -18,8 +18,7 @@ not_both cs e X Y = absurd (not_done e.reason (answers_only cs _ _ _ _ Y X).0)
 one_refusal : {A : Type 0} (cs : List Check) (e g : Refusal) → Answers cs (number_of e.reason) e.place
     → Answers cs (number_of g.reason) g.place → ◌≡◌ {A = Result A Refusal} (Err e) (Err g)
 one_refusal cs e g X Y =
-    let z = answers_only cs _ _ _ _ X Y in
-    ap Err (refusal_only e g z.0 z.1)
+    same_refusal cs e g X Y
 
 pub new_only : OneNew
 new_only M (Ok a) (Ok b) A B = ap Ok (live_same a b A.size B.size (A.made.done refl ∙ sym (B.made.done refl)))

@@ -42,9 +42,8 @@ use Rattle.table.specs.Refusal.{number_of, number, place}
 use Rattle.table.specs.declared.columns.Columns.{Columns}
 use Rattle.table.specs.declared.refusals.Reason.TheVariants.{WrongMark}
 use Rattle.table.specs.declared.refusals.Refusal.{Refusal}
-use Rattle.table.proofs.Reasons.{not_done}
+use Rattle.table.proofs.Reasons.{not_done, refused_not}
 use Rattle.decoding.specs.Decoded.{DecodesInto}
-use Rattle.decoding.proofs.Decoding.{refused_not}
 use Rattle.decoding.proofs.OneRing.{OtherMark, other_mark, own_mark, one_numbered, one_rest, one_rings}
 use Rattle.ring.specs.Route.{row_segments}
 use Rattle.verdict.specs.Analysed.{table_checks}
@@ -216,7 +215,7 @@ module _ (f : List ℕ) (plan : List ℕ) (e : ℕ) where
         let files : None (file_checks f) =
         none_left (file_checks f) (pasted_checks t)
         (none_left (given_checks f) (table_checks t) (rw (verdict_split f) at (one_rest f (verdict_checks f) none))) in
-        refused_not (file_checks f) r 0 0 refl (answered (file_checks f) files) D.answers
+        refused_not (file_checks f) r (answered (file_checks f) files) D.answers
 
     -- its columns hold the table,
     pub admitted_columns : {a : Result Unit Refusal} {c : Columns} → DecodesInto (file_checks f) t a c → table_of c ≡ t

@@ -11,9 +11,8 @@ use Rattle.rules.specs.Bus.{Table}
 use Rattle.rules.specs.Refusals.{line_checks}
 use Rattle.rules.proofs.Answers.{answered, answers_only}
 use Rattle.table.specs.declared.refusals.Refusal.{Refusal}
+use Rattle.table.proofs.Reasons.{refused_not, same_refusal}
 use Rattle.table.proofs.ByRow.{by_row_only}
-use Rattle.table.proofs.Reasons.{refusal_only}
-use Rattle.decoding.proofs.Decoding.{refused_not}
 use Rattle.sets.specs.Sets.{OnLine, SetWords}
 use Rattle.outline.specs.declared.Layout.{Layout}
 use Rattle.outline.specs.declared.Outline.{Outline}
@@ -81,8 +80,7 @@ lies_only L M = λ k. record {
 
 pub laid_only : {t : Table} {l m : Result Layout Refusal} → LaidOut t l → LaidOut t m → l ≡ m
 laid_only {l = Ok a} {m = Ok b} L M = ap Ok (lies_only L.found M.found)
-laid_only {t} {l = Ok a} {m = Err r} L M = refused_not (line_checks t) r 0 0 refl L.answers M.answers
-laid_only {t} {l = Err r} {m = Ok a} L M = refused_not (line_checks t) r 0 0 refl M.answers L.answers
+laid_only {t} {l = Ok a} {m = Err r} L M = refused_not (line_checks t) r L.answers M.answers
+laid_only {t} {l = Err r} {m = Ok a} L M = refused_not (line_checks t) r M.answers L.answers
 laid_only {t} {l = Err r} {m = Err s} L M =
-    let z = answers_only (line_checks t) _ _ _ _ L.answers M.answers in
-    ap Err (refusal_only r s z.0 z.1)
+    same_refusal (line_checks t) r s L.answers M.answers

@@ -15,7 +15,7 @@ use Rattle.rules.proofs.Sets.{sets_only}
 use Rattle.outline.specs.declared.Outline.{Outline}
 use Rattle.outline.specs.Outlined.{Found, Outlined}
 use Rattle.std.specs.Prelude.{Result, Ok, Err}
-use Rattle.table.specs.Refusal.{number_of, number, place}
+use Rattle.table.specs.Refusal.{number, place}
 use Rattle.table.specs.declared.refusals.Refusal.{Refusal}
 use Rattle.table.proofs.Reasons.{not_done, refusal_only}
 use Rattle.outline.specs.Listed.{Traced, count, ListedOn}
@@ -42,15 +42,17 @@ module _ (was : List ℕ) {o : Outline} {t : Table} (F : Found t o) where
 
 -- ---- from an outline to its ask
 
-module _ (a : Ask) (was : List ℕ) where
-  pub list_refused : (r : Refusal) → Answers a.checks (number_of r.reason) r.place → Listed a was was (number_of r.reason) r.place 0
-  unfolding sets_checks
-  list_refused r A = call_refused a.checks (short a.table (length was)) A (not_done r.reason) (refl, refl)
+pub traced : (a : Ask) {o : Result Outline Refusal} → Outlined a.checks a.table o → Traced o
+traced a {o = Ok x} O = (a.table, O.found)
+traced a {o = Err e} O = tt
 
-  pub list_asked : Numbered a.checks → {o : Outline} → Outlined a.checks a.table (Ok o) → (r : Result ℕ Refusal) (now : List ℕ)
-      → ListedOn o r was now → Listed a was now (number r) (place r) (count r)
-  unfolding sets_checks
-  list_asked N O r now L = call_after a.checks _ (none_of a.checks 0 N O.answers) (L a.table O.found)
+pub list_asked : (a : Ask) → Numbered a.checks → {o : Result Outline Refusal} → Outlined a.checks a.table o → {r : Result ℕ Refusal}
+    {was now : List ℕ} → ListedOn o r was now → Listed a was now (number r) (place r) (count r)
+unfolding sets_checks
+list_asked a N {o = Ok x} O L = call_after a.checks _ (none_of a.checks 0 N O.answers) (L.done a.table O.found)
+list_asked a N {o = Err e} O {r = r} {was = was} L =
+    let w = L.refused in
+    rw (w.0, w.1) (call_refused a.checks (short a.table (length was)) O.answers (not_done e.reason) (refl, refl))
 
 -- ---- only one answer fits
 
@@ -87,19 +89,24 @@ pub file_listed_only : (f was now now' : List ℕ) (n n' p p' s s' : ℕ) → Li
     → Listed (line_ask f) was now' n' p' s' → (now ≡ now') × (n ≡ n') × (p ≡ p') × (s ≡ s')
 file_listed_only f = listed_only (line_ask f) (outline_numbered f) (λ n. (outline_passed f n).sound.rows_low)
 
+-- two answers of the same number, place and count
+same_count : (r s : Result ℕ Refusal) → number r ≡ number s → place r ≡ place s → count r ≡ count s → r ≡ s
+same_count (Ok m) (Ok n) e f g = ap Ok g
+same_count (Ok m) (Err q) e f g = absurd (not_done q.reason (sym e))
+same_count (Err p) (Ok n) e f g = absurd (not_done p.reason e)
+same_count (Err p) (Err q) e f g = ap Err (refusal_only p q e f)
+
 -- on an outline
-pub listed_on_only : {o : Outline} → Traced o → {r s : Result ℕ Refusal} (was now then : List ℕ) → ListedOn o r was now
+pub listed_on_only : {o : Result Outline Refusal} → Traced o → {r s : Result ℕ Refusal} (was now then : List ℕ) → ListedOn o r was now
     → ListedOn o s was then → (r ≡ s) × (now ≡ then)
 unfolding Numbered
-listed_on_only T {r} {s} was now then A B =
+listed_on_only {o = Ok x} T {r} {s} was now then A B =
     let t = T.0 in
     let e =
     listed_only (admitted t) tt (λ n. T.1.timed.sound.rows_low) was now then (number r) (number s) (place r) (place s) (count r)
-    (count s) (A t T.1) (B t T.1) in
-    (same r s e.1 e.2 e.3, e.0)
-  where
-    same : (r s : Result ℕ Refusal) → number r ≡ number s → place r ≡ place s → count r ≡ count s → r ≡ s
-    same (Ok m) (Ok n) e f g = ap Ok g
-    same (Ok m) (Err q) e f g = absurd (not_done q.reason (sym e))
-    same (Err p) (Ok n) e f g = absurd (not_done p.reason e)
-    same (Err p) (Err q) e f g = ap Err (refusal_only p q e f)
+    (count s) (A.done t T.1) (B.done t T.1) in
+    (same_count r s e.1 e.2 e.3, e.0)
+listed_on_only {o = Err x} T was now then A B =
+    let e = A.refused in
+    let f = B.refused in
+    (e.0 ∙ sym f.0, e.1 ∙ sym f.1)

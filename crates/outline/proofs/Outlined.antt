@@ -39,9 +39,8 @@ use Rattle.sets.proofs.SetWords.{set_words_only}
 use Rattle.std.specs.Prelude.{Result, Ok, Err}
 use Rattle.table.specs.Refusal.{number_of, number, place}
 use Rattle.table.specs.declared.refusals.Refusal.{Refusal}
+use Rattle.table.proofs.Reasons.{not_done, refused_not, same_refusal}
 use Rattle.table.proofs.ByRow.{by_row_only}
-use Rattle.table.proofs.Reasons.{not_done, refusal_only}
-use Rattle.decoding.proofs.Decoding.{refused_not}
 use Rattle.outline.specs.declared.Outline.{Outline}
 use Rattle.time.proofs.Periods.{time_only}
 use Rattle.outline.specs.Outlined.{Found, outline_checks, Outlined}
@@ -178,8 +177,7 @@ found_only {t} {o} {u} F G =
 
 pub outlined_only : {cs : List Check} {t : Table} {o u : Result Outline Refusal} → Outlined cs t o → Outlined cs t u → o ≡ u
 outlined_only {o = Ok a} {u = Ok b} O U = ap Ok (found_only O.found U.found)
-outlined_only {cs} {o = Ok a} {u = Err r} O U = refused_not cs r 0 0 refl O.answers U.answers
-outlined_only {cs} {o = Err r} {u = Ok a} O U = refused_not cs r 0 0 refl U.answers O.answers
+outlined_only {cs} {o = Ok a} {u = Err r} O U = refused_not cs r O.answers U.answers
+outlined_only {cs} {o = Err r} {u = Ok a} O U = refused_not cs r U.answers O.answers
 outlined_only {cs} {o = Err r} {u = Err s} O U =
-    let z = answers_only cs _ _ _ _ O.answers U.answers in
-    ap Err (refusal_only r s z.0 z.1)
+    same_refusal cs r s O.answers U.answers

@@ -162,11 +162,13 @@ fn write_front(words: &[u64], out: &mut [u64])
     out[..words.len()].copy_from_slice(words);
 }
 
-// How many overlap sets a table in outline has. Their list is written to the front of `out`, or 17 where it is too short.
-pub fn list_on(table: &Outline, out: &mut [u64]) -> Result<u32, Refusal>
-    requires { Traced table.now }
-    ensures { ListedOn table.now result out.old out.new }
+// How many overlap sets a table in outline has. Their list is written to the front of `out`, or 17 where it is too short; the refusal of an
+// outline is handed on.
+pub fn list_on(outlined: Result<Outline, Refusal>, out: &mut [u64]) -> Result<u32, Refusal>
+    requires { Traced outlined }
+    ensures { ListedOn outlined result out.old out.new }
 {
+    let table = outlined?;
     let sets = table.sets;
     if out.len() < sets {
         return Err(Refusal::from(Reason::ShortOutput));
@@ -179,6 +181,5 @@ pub fn list_on(table: &Outline, out: &mut [u64]) -> Result<u32, Refusal>
 pub fn list_of_sets(file: &[u8], out: &mut [u64]) -> Result<u32, Refusal>
     ensures { Listed (line_ask file.now) out.old out.new (number result) (place result) (count result) }
 {
-    let found = outline_file(file)?;
-    list_on(&found, out)
+    list_on(outline_file(file), out)
 }

@@ -15,21 +15,10 @@ use Rattle.rules.proofs.Answers.{answers_only}
 use Rattle.rules.proofs.Plans as plans
 use Rattle.table.specs.Refusal.{number_of}
 use Rattle.table.specs.declared.refusals.Refusal.{Refusal}
-use Rattle.table.proofs.Reasons.{not_done, refusal_only}
+use Rattle.table.proofs.Reasons.{not_done, refused_not, same_refusal}
 use Rattle.planner.specs.State.{planner_of}
 use Rattle.planner.specs.Promises.{OneStep, OnePlan, OneStandings}
 use Rattle.planner.proofs.State.{state_same}
-
--- a refusal is no pass
-refused_not : {A : Type 0} (cs : List Check) (r : Refusal) (n p : ℕ) → n ≡ 0 → Answers cs n p → Answers cs (number_of r.reason) r.place → A
-refused_not cs r n p z a b = absurd (not_done r.reason ((answers_only cs _ _ _ _ b a).0 ∙ z))
-
--- two refusals by the same checks
-same_refusal : {A : Type 0} (cs : List Check) (r s : Refusal) → Answers cs (number_of r.reason) r.place → Answers cs (number_of s.reason) s.place
-    → ◌≡◌ {A = Result A Refusal} (Err r) (Err s)
-same_refusal cs r s a b =
-    let z = answers_only cs _ _ _ _ a b in
-    ap Err (refusal_only r s z.0 z.1)
 
 pub step_only : OneStep
 step_only a p (Ok q) (Ok u) was now then A B =
@@ -38,9 +27,9 @@ step_only a p (Ok q) (Ok u) was now then A B =
     let e = plans.step_only x.1 y.1 in
     (ap Ok (state_same q u (A.size ∙ sym B.size) e.0), x.2 ∙ ap (λ (ws : List ℕ). lent ws was) e.1 ∙ sym y.2)
 step_only a p (Ok q) (Err e) was now then A B =
-    refused_not (step_checks a.checks a.table (planner_of p) (length was)) e 0 0 refl A.stepped.answers B.stepped.answers
+    refused_not (step_checks a.checks a.table (planner_of p) (length was)) e A.stepped.answers B.stepped.answers
 step_only a p (Err e) (Ok u) was now then A B =
-    refused_not (step_checks a.checks a.table (planner_of p) (length was)) e 0 0 refl B.stepped.answers A.stepped.answers
+    refused_not (step_checks a.checks a.table (planner_of p) (length was)) e B.stepped.answers A.stepped.answers
 step_only a p (Err e) (Err g) was now then A B = (
   same_refusal (step_checks a.checks a.table (planner_of p) (length was)) e g A.stepped.answers B.stepped.answers,
   (A.stepped.refused (not_done e.reason)).1 ∙ sym (B.stepped.refused (not_done g.reason)).1,
@@ -52,9 +41,9 @@ plan_only a (Ok _) (Ok _) was now then A B =
     let y = B.planned.done refl in
     (refl, x.2 ∙ ap (λ (ws : List ℕ). lent ws was) (plans.plan_only a.table x.0 y.0 x.1 y.1) ∙ sym y.2)
 plan_only a (Ok _) (Err e) was now then A B =
-    refused_not (plan_checks a.checks a.table (length was)) e 0 0 refl A.planned.answers B.planned.answers
+    refused_not (plan_checks a.checks a.table (length was)) e A.planned.answers B.planned.answers
 plan_only a (Err e) (Ok _) was now then A B =
-    refused_not (plan_checks a.checks a.table (length was)) e 0 0 refl B.planned.answers A.planned.answers
+    refused_not (plan_checks a.checks a.table (length was)) e B.planned.answers A.planned.answers
 plan_only a (Err e) (Err g) was now then A B = (
   same_refusal (plan_checks a.checks a.table (length was)) e g A.planned.answers B.planned.answers,
   A.planned.refused (not_done e.reason) ∙ sym (B.planned.refused (not_done g.reason)),
@@ -72,8 +61,8 @@ standings_only a p (Ok xs) (Ok ys) A B =
     (λ h. x.0 i h ∙ sym (y.0 i h))
     (le_or_lt a.table.rows i)))
 standings_only a p (Ok xs) (Err e) A B =
-    refused_not (standings_checks a.checks a.table (planner_of p)) e 0 0 refl A.stood.answers B.stood.answers
+    refused_not (standings_checks a.checks a.table (planner_of p)) e A.stood.answers B.stood.answers
 standings_only a p (Err e) (Ok ys) A B =
-    refused_not (standings_checks a.checks a.table (planner_of p)) e 0 0 refl B.stood.answers A.stood.answers
+    refused_not (standings_checks a.checks a.table (planner_of p)) e B.stood.answers A.stood.answers
 standings_only a p (Err e) (Err g) A B =
     same_refusal (standings_checks a.checks a.table (planner_of p)) e g A.stood.answers B.stood.answers

@@ -16,11 +16,11 @@ use Rattle.table.specs.Sound.{Sound}
 use Rattle.table.specs.Columns.{table_of, ByRow}
 use Rattle.table.specs.Refusal.{number_of}
 use Rattle.table.specs.declared.refusals.Refusal.{Refusal}
-use Rattle.table.proofs.Reasons.{not_done, refusal_only}
+use Rattle.table.proofs.Reasons.{not_done, refused_not, same_refusal}
 use Rattle.table.proofs.ByRow.{by_row_only}
 use Rattle.decoding.specs.Decoded.{Decodes}
 use Rattle.decoding.specs.declared.Decoded.{Decoded}
-use Rattle.decoding.proofs.Decoding.{holds_only, labels_only, refused_not}
+use Rattle.decoding.proofs.Decoding.{holds_only, labels_only}
 use Rattle.pasted.proofs.AsGiven.{given_passed}
 use Rattle.pasted.proofs.OneRing.{one_ring_numbered, one_ring_none}
 use Rattle.outline.specs.declared.Layout.{Layout}
@@ -109,8 +109,7 @@ raising_only {x = Ok a} {y = Ok b} A B =
     let labels = labels_only A.labelled B.labelled in
     let cost = by_row_only A.costs B.costs in
     λ i. Ok (record { given = record { columns = columns i; labels = labels i }; cost = cost i })
-raising_only {f} {x = Ok a} {y = Err r} A B = refused_not (before_13 f) r 0 0 refl A.answers B.answers
-raising_only {f} {x = Err r} {y = Ok a} A B = refused_not (before_13 f) r 0 0 refl B.answers A.answers
+raising_only {f} {x = Ok a} {y = Err r} A B = refused_not (before_13 f) r A.answers B.answers
+raising_only {f} {x = Err r} {y = Ok a} A B = refused_not (before_13 f) r B.answers A.answers
 raising_only {f} {x = Err r} {y = Err s} A B =
-    let z = answers_only (before_13 f) _ _ _ _ A.answers B.answers in
-    ap Err (refusal_only r s z.0 z.1)
+    same_refusal (before_13 f) r s A.answers B.answers

@@ -48,8 +48,7 @@ fn outline_file(file: &[u8], relay: usize) -> Result<Outline, Refusal>
 pub fn list_of_sets(file: &[u8], relay: usize, out: &mut [u64]) -> Result<u32, Refusal>
     ensures { Listed (relayed_line_ask file.now relay) out.old out.new (number result) (place result) (count result) }
 {
-    let found = outline_file(file, relay)?;
-    outline::list_on(&found, out)
+    outline::list_on(outline_file(file, relay), out)
 }
 
 // ---- the plan

@@ -7,6 +7,8 @@ use native.Mathlib.Omega.{arith}
 use lib.ListN.{get_or}
 use Rattle.std.specs.Prelude.{Result, Err, IsErrAnd}
 use Rattle.std.proofs.lemmas.Result.{err_from_is_err_and}
+use Rattle.rules.specs.Refusals.{Check, Answers}
+use Rattle.rules.proofs.Answers.{answers_only}
 use Rattle.table.specs.Refusal.{number_of}
 use Rattle.table.specs.declared.refusals.Reason.{Reason}
 use Rattle.table.specs.declared.refusals.Reason.TheVariants.{
@@ -126,6 +128,17 @@ pub refusal_only : (r s : Refusal) → number_of r.reason ≡ number_of s.reason
 refusal_only r s e q =
     let same = reason_only r.reason s.reason e in
     λ i. record { reason = same i; place = q i }
+
+-- a refusal is no pass
+pub refused_not : {A : Type 0} (cs : List Check) (r : Refusal) → Answers cs 0 0 → Answers cs (number_of r.reason) r.place → A
+refused_not cs r a b = absurd (not_done r.reason (answers_only cs _ _ _ _ b a).0)
+
+-- two refusals by the same checks are the same
+pub same_refusal : {A : Type 0} (cs : List Check) (r s : Refusal) → Answers cs (number_of r.reason) r.place
+    → Answers cs (number_of s.reason) s.place → ◌≡◌ {A = Result A Refusal} (Err r) (Err s)
+same_refusal cs r s a b =
+    let z = answers_only cs _ _ _ _ a b in
+    ap Err (refusal_only r s z.0 z.1)
 
 -- what the exit of a `?` hands on
 pub handed : {A : Type 0} {a : Result A Refusal} (r : Refusal) → IsErrAnd a (λ e. e ≡ r) → a ≡ Err r

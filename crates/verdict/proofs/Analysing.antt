@@ -12,9 +12,8 @@ use Rattle.rules.proofs.Answers.{None, none_of, stopped, joined, answers_only}
 use Rattle.rules.proofs.Sets.{sets_only}
 use Rattle.table.specs.Refusal.{number_of, number, place}
 use Rattle.table.specs.declared.refusals.Refusal.{Refusal}
-use Rattle.table.proofs.Reasons.{not_done, refusal_only}
+use Rattle.table.proofs.Reasons.{not_done, refused_not, same_refusal}
 use Rattle.table.proofs.ByRow.{by_row_only}
-use Rattle.decoding.proofs.Decoding.{refused_not}
 use Rattle.outline.specs.declared.Outline.{Outline}
 use Rattle.outline.proofs.Outlined.{line_numbered, found_only}
 use Rattle.verdict.specs.declared.Loaded.{Loaded}
@@ -102,8 +101,7 @@ analysed_only {t = t} {a = Ok x} {b = Ok y} A B =
     let load : x.load ≡ y.load =
     A.found.load ∙ ap (λ (o : Outline). reported t (take o.sets o.words)) e ∙ sym B.found.load in
     λ k. Ok (record { outline = e k; load = load k; rate = by_row_only A.found.rate B.found.rate k })
-analysed_only {cs} {a = Ok x} {b = Err r} A B = refused_not cs r 0 0 refl A.answers B.answers
-analysed_only {cs} {a = Err r} {b = Ok x} A B = refused_not cs r 0 0 refl B.answers A.answers
+analysed_only {cs} {a = Ok x} {b = Err r} A B = refused_not cs r A.answers B.answers
+analysed_only {cs} {a = Err r} {b = Ok x} A B = refused_not cs r B.answers A.answers
 analysed_only {cs} {a = Err r} {b = Err s} A B =
-    let z = answers_only cs _ _ _ _ A.answers B.answers in
-    ap Err (refusal_only r s z.0 z.1)
+    same_refusal cs r s A.answers B.answers

@@ -16,8 +16,7 @@ use Rattle.rules.proofs.Answers.{None, Numbered, none_of, stopped, joined, answe
 use Rattle.rules.proofs.Sets.{sets_only}
 use Rattle.table.specs.Refusal.{number_of, number, place}
 use Rattle.table.specs.declared.refusals.Refusal.{Refusal}
-use Rattle.table.proofs.Reasons.{not_done, refusal_only}
-use Rattle.decoding.proofs.Decoding.{refused_not}
+use Rattle.table.proofs.Reasons.{not_done, refused_not, same_refusal}
 use Rattle.outline.specs.declared.Layout.{Layout}
 use Rattle.outline.specs.declared.Outline.{Outline}
 use Rattle.outline.specs.Layout.{LaidOut}
@@ -160,11 +159,10 @@ module _ {cs : List Check} {t : Table} (some : None cs → 1 ≤ t.rows) (number
 
   pub judged_by_only : (r s : Result Admitted Refusal) → JudgedBy cs t r → JudgedBy cs t s → r ≡ s
   judged_by_only (Ok a) (Ok b) X Y = ap Ok (admitted_only a b X Y)
-  judged_by_only (Ok a) (Err r) X Y = refused_not cs r 0 0 refl X.answers Y.answers
-  judged_by_only (Err r) (Ok a) X Y = refused_not cs r 0 0 refl Y.answers X.answers
+  judged_by_only (Ok a) (Err r) X Y = refused_not cs r X.answers Y.answers
+  judged_by_only (Err r) (Ok a) X Y = refused_not cs r Y.answers X.answers
   judged_by_only (Err r) (Err s) X Y =
-      let z = answers_only cs _ _ _ _ X.answers Y.answers in
-      ap Err (refusal_only r s z.0 z.1)
+      same_refusal cs r s X.answers Y.answers
 
 module _ (f : List ℕ) where
   pub judged_only : (r s : Result Admitted Refusal) → IsVerdict f r → IsVerdict f s → r ≡ s

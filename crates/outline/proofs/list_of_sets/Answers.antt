@@ -1,13 +1,11 @@
--- The outline answers the file's checks up to 11.
+-- list_of_sets: the outline answers the file's checks up to 11.
 use Rattle.rules.specs.Calls.{line_ask}
-use Rattle.table.proofs.Reasons.{handed}
+use Rattle.outline.proofs.Listed.{traced, list_asked}
 use Rattle.outline.proofs.Outlined.{outline_numbered}
-use Rattle.outline.proofs.Listed.{list_refused, list_asked}
 use Rattle.outline.proofs.list_of_sets.Goals as goal
 
-pub returns-in_err-found : goal.returns-in_err-found
-returns-in_err-found c =
-    rw (handed c.in_err-found.field-0.0 c.from_residual.ensures.1) (list_refused (line_ask _) _ _ c.in_err-found.ensures.answers)
+pub list_on-requires : goal.list_on-requires
+list_on-requires c = traced (line_ask _) c.outline_file.ensures
 
 pub returns : goal.returns
-returns c = list_asked (line_ask _) _ (outline_numbered _) c.in_ok-found.ensures _ _ c.list_on.ensures
+returns c = list_asked (line_ask _) (outline_numbered _) c.outline_file.ensures c.list_on.ensures
