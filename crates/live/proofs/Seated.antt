@@ -6,7 +6,7 @@ use mathlib.Core.List.{List}
 use Prim.Native.Nat.{ℕ, ◌<◌, zero-le}
 use native.Mathlib.Nat.{zero-add}
 use native.Mathlib.Omega.{arith}
-use lib.Dec.{T, eqb, ltb, eqb→eq, ltb→lt, lt→ltb}
+use lib.Dec.{T, eqb, ltb, ltb→lt, lt→ltb}
 use lib.ListN.{length, get_or}
 use lib.Seq.{ext_get_or}
 use denote.Param.Members.{Mut}
@@ -26,7 +26,7 @@ use Rattle.std.proofs.lemmas.List.Folds.{list_any_at, list_any_none}
 use Rattle.numbers.specs.Finite.{any, lowest}
 use Rattle.numbers.specs.Decides.{Decides}
 use Rattle.numbers.proofs.Finite.{any_eq, any_of, least, lowest_is, lowest_none}
-use Rattle.numbers.proofs.Truth.{decide, refuted, refutes, is_true, is_false, eqb_of, of_true, of_false, decides_yes, decides_no}
+use Rattle.numbers.proofs.Truth.{decide, refuted, refutes, is_true, is_false, decides_yes, decides_no}
 use Rattle.rules.specs.Bus.{clockwise, unlabelled, pasted}
 use Rattle.rules.specs.Refusals.{Answers, faults}
 use Rattle.rules.specs.Live.{Live, Blank, places}
