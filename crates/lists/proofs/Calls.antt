@@ -1,5 +1,5 @@
 -- What reader and writer of lists answer, from their checks; and that only one answer fits.
-use mathlib.Core.Path.{◌≡◌, refl, sym, ap, ◌∙◌}
+use mathlib.Core.Path.{◌≡◌, refl, sym, ◌∙◌}
 use mathlib.Core.List.{List}
 use Prim.Native.Nat.{ℕ, ◌+◌, ◌*◌, ◌<◌}
 use lib.ListN.{length}
@@ -18,12 +18,12 @@ use Rattle.rules.specs.ElementList.{
 use Rattle.rules.specs.Refusals.{Answers, list_file_checks, list_reader_checks, list_memory_checks, list_writer_checks}
 use Rattle.rules.specs.Calls.{lent, ListRead, ListWritten}
 use Rattle.rules.proofs.Answers.{None}
-use Rattle.rules.proofs.Calls.{call_refused, call_short, call_done, call_only}
+use Rattle.rules.proofs.Calls.{call_refused, call_short, call_done}
 use Rattle.std.specs.Prelude.{Result, Ok, Err}
 use Rattle.table.specs.Refusal.{number_of, number, place}
 use Rattle.table.specs.declared.refusals.Reason.TheVariants.{ShortOutput}
 use Rattle.table.specs.declared.refusals.Refusal.{Refusal}
-use Rattle.table.proofs.Reasons.{not_done, refusal_only}
+use Rattle.table.proofs.Reasons.{not_done, refused_not, same_refusal}
 use Rattle.lists.specs.Entries.{IsHead, IsEntry, entry_of, element_of, hyper_of, entries_of}
 use Rattle.lists.specs.declared.Entry.{Entry as Place}
 use Rattle.lists.specs.declared.Head.{Head}
@@ -67,11 +67,12 @@ module _ (f was : List ℕ) where
         λ i. Ok (record { element = (x.0 ∙ sym y.0) i; hyper = (x.1 ∙ sym y.1) i; entries = (x.2 ∙ sym y.2) i }),
         x.3 ∙ sym y.3,
       )
-  read_only {r = Ok h} {s = Err e} c d = absurd (not_done e.reason (call_only d c).0)
-  read_only {r = Err e} {s = Ok h} c d = absurd (not_done e.reason (call_only c d).0)
-  read_only {r = Err e} {s = Err g} c d =
-      let z = call_only c d in
-      (ap Err (refusal_only e g z.0 z.1), (c.refused (not_done e.reason)).3 ∙ sym (d.refused (not_done g.reason)).3)
+  read_only {r = Ok h} {s = Err e} c d = refused_not (list_reader_checks f (length was)) e c.answers d.answers
+  read_only {r = Err e} {s = Ok h} c d = refused_not (list_reader_checks f (length was)) e d.answers c.answers
+  read_only {r = Err e} {s = Err g} c d = (
+    same_refusal (list_reader_checks f (length was)) e g c.answers d.answers,
+    (c.refused (not_done e.reason)).3 ∙ sym (d.refused (not_done g.reason)).3,
+  )
 
 -- ---- the writer
 
@@ -98,8 +99,9 @@ module _ (e h : ℕ) (xs was : List ℕ) where
 
   pub written_only : {now now' : List ℕ} {a b : Result Unit Refusal} → Writes now a → Writes now' b → (a ≡ b) × (now ≡ now')
   written_only {a = Ok _} {b = Ok _} c d = (refl, c.done refl ∙ sym (d.done refl))
-  written_only {a = Ok _} {b = Err r} c d = absurd (not_done r.reason (call_only d c).0)
-  written_only {a = Err r} {b = Ok _} c d = absurd (not_done r.reason (call_only c d).0)
-  written_only {a = Err r} {b = Err s} c d =
-      let z = call_only c d in
-      (ap Err (refusal_only r s z.0 z.1), c.refused (not_done r.reason) ∙ sym (d.refused (not_done s.reason)))
+  written_only {a = Ok _} {b = Err r} c d = refused_not (list_writer_checks e h xs (length was)) r c.answers d.answers
+  written_only {a = Err r} {b = Ok _} c d = refused_not (list_writer_checks e h xs (length was)) r d.answers c.answers
+  written_only {a = Err r} {b = Err s} c d = (
+    same_refusal (list_writer_checks e h xs (length was)) r s c.answers d.answers,
+    c.refused (not_done r.reason) ∙ sym (d.refused (not_done s.reason)),
+  )
