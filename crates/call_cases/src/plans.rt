@@ -70,7 +70,12 @@ fn plan(relay: &[u64], file: &[u8], words: &mut [u64]) -> Result<(), Refusal> {
     relayed::whole_plan(file, number_at(relay, 0) as usize, words)
 }
 
-fn step(planner: Planner, relay: &[u64], file: &[u8], words: &mut [u64]) -> Result<Planner, Refusal> {
+fn step(
+    planner: Planner,
+    relay: &[u64],
+    file: &[u8],
+    words: &mut [u64],
+) -> Result<Planner, Refusal> {
     if relay.len() == 0 {
         return planner.step(file, words);
     }

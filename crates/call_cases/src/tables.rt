@@ -13,8 +13,8 @@ ghost use Rattle.std.specs.Prelude.{◌+◌, ◌^◌, ◌≤◌, ◌<◌, length
 
 use crate::{KEPT, MOST, print_answer, print_number, print_numbers, room};
 use cases::number_at;
-use reader::Reading;
 use lists::Head;
+use reader::Reading;
 use table::{Refusal, Table};
 
 // what is printed beside a refusal
@@ -111,7 +111,13 @@ fn write_table(mark: u8, given: &[u64], numbers: &[u16], out: &mut [u8]) -> Resu
     )
 }
 
-fn write_by(letter: u8, lead: &[u64], given: &[u64], numbers: &[u16], out: &mut [u8]) -> Result<(), Refusal> {
+fn write_by(
+    letter: u8,
+    lead: &[u64],
+    given: &[u64],
+    numbers: &[u16],
+    out: &mut [u8],
+) -> Result<(), Refusal> {
     if letter == b'f' {
         return lists::write(number_at(given, 1), number_at(given, 2), numbers, out);
     }

@@ -49,14 +49,14 @@ decoding_start t = record {
 pub decoding_next : {t : Table} {i : ℕ} {k : Columns} {c p f s : ℕ} → DecodingTo t i k
     → i < max_rows → c ≡ t.cost i → p ≡ t.period i → f ≡ t.first i → s ≡ t.second i
     → DecodingTo t (i + 1) (record {
-    elements = k.elements;
-    rows = k.rows;
-    rings = k.rings;
-    cost = set k.cost i c;
-    period = set k.period i p;
-    first = set k.first i f;
-    second = set k.second i s;
-    way = k.way;
+      elements = k.elements;
+      rows = k.rows;
+      rings = k.rings;
+      cost = set k.cost i c;
+      period = set k.period i p;
+      first = set k.first i f;
+      second = set k.second i s;
+      way = k.way;
     })
 decoding_next {c = c} {p = p} {f = f} {s = s} D l x y z w = record {
   costs = by_row_put c D.costs l x;

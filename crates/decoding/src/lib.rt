@@ -12,8 +12,8 @@ ghost use Rattle.decoding.specs.Decoded.{StandsAt, DecodingTo, SameBeside, Decod
 ghost use Rattle.numbers.specs.Decides.{Decides};
 
 use table::{
-    Columns, Reason, Refusal, Row, Table, is_plain, is_strange, is_unknown, no_columns, read16, rings_of,
-    row_bytes, row_fault, row_place, size_fault, version_of, way_at,
+    Columns, Reason, Refusal, Row, Table, is_plain, is_strange, is_unknown, no_columns, read16,
+    rings_of, row_bytes, row_fault, row_place, size_fault, version_of, way_at,
 };
 
 // Whether a file has a header with the mark of one ring and version 2.

@@ -101,12 +101,7 @@ pub fn judge(file: &[u8], limits: Limits) -> Result<Admitted, Refusal>
 // ---- the plan
 
 // One interval of a file's table within limits.
-pub fn step(
-    p: Planner,
-    file: &[u8],
-    limits: Limits,
-    out: &mut [u64],
-) -> Result<Planner, Refusal>
+pub fn step(p: Planner, file: &[u8], limits: Limits, out: &mut [u64]) -> Result<Planner, Refusal>
     ensures { StepAnswer (limited_ask file.now limits.ours limits.theirs) p result
         out.old out.new }
 {

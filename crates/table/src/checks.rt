@@ -18,7 +18,13 @@ fn within(x: usize, low: usize, high: usize) -> bool
 }
 
 // Checks 4 to 6, of a table whose file or slice has `size` places: it is to have `front`, and `each` a row.
-pub fn size_fault(elements: usize, rows: usize, size: usize, front: usize, each: usize) -> Result<(), Reason>
+pub fn size_fault(
+    elements: usize,
+    rows: usize,
+    size: usize,
+    front: usize,
+    each: usize,
+) -> Result<(), Reason>
     requires { (front ≤ header_size) × (each ≤ longest_row) }
     ensures { Answers (size_checks (sized elements rows) size (front + each * rows)) (why result) 0 }
 {

@@ -108,7 +108,10 @@ impl From<Reason> for Refusal {
     ghost from_gives = { λ reason r. r ≡ record { reason = reason; place = 0 } };
 
     fn from(reason: Reason) -> Refusal {
-        Refusal { reason, place: Refusal::NOWHERE }
+        Refusal {
+            reason,
+            place: Refusal::NOWHERE,
+        }
     }
 }
 

@@ -20,7 +20,7 @@ way_at-requires c =
     let i = c.loop-i.i in (
       omega (arith, c.requires.0.few, c.of-head.ensures.rows),
       λ r. ap (λ (xs : List ℕ). at xs i) c.loop-i.invariant.rest.ways ∙ ap (λ (g : ℕ → ℕ). g i) c.requires.2.labels
-      ∙ file_one_way c.args.file.now (rw c.rings_of-rings.ensures at r) i (omega (arith, c.of-head.ensures.rows)),
+          ∙ file_one_way c.args.file.now (rw c.rings_of-rings.ensures at r) i (omega (arith, c.of-head.ensures.rows)),
     )
 
 pub returns-in-Err-clause-answers : goal.returns-in-Err-clause-answers
@@ -44,7 +44,7 @@ loop-i-preserved c =
     v.rest.ways c.requires.2 in record {
       clear = checked_next _ _ _ (sym c.of-head.ensures.elements) (sym c.rings_of-rings.ensures) q c.in_default.ensures v.clear i refl;
       decoded = decoding_next v.decoded (omega (arith, i, c.requires.0.few)) q.cost q.period (ap (λ (k : ℕ). at f (k + 4)) place)
-        (ap (λ (k : ℕ). at f (k + 5)) place);
+          (ap (λ (k : ℕ). at f (k + 5)) place);
       rest = record { elements = v.rest.elements; rows = v.rest.rows; rings = v.rest.rings; ways = v.rest.ways };
     }
 

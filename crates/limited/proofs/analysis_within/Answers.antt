@@ -35,7 +35,7 @@ kept_within-requires c =
     let R : Rated t c.in_ok-outline.outline c.put_rates-light.result c.put_rates-light.new.rate =
     record { outlined = O; weighed = rows_weighed O.found.timed c.put_rates-light.ensures } in
     let L : Limited t c.args.table.now.elements c.args.table.now.rows c.in_ok-outline.outline.time.hyper c.put_rates-light.new.rate
-        c.lay_segments-segments.result =
+    c.lay_segments-segments.result =
     record {
       sound = O.found.timed.sound;
       one_ring = c.requires.1;
@@ -56,7 +56,7 @@ returns-in_err-kept_within c =
     let R : Rated t c.in_ok-outline.outline c.put_rates-light.result c.put_rates-light.new.rate =
     record { outlined = O; weighed = rows_weighed O.found.timed c.put_rates-light.ensures } in
     let L : Limited t c.args.table.now.elements c.args.table.now.rows c.in_ok-outline.outline.time.hyper c.put_rates-light.new.rate
-        c.lay_segments-segments.result =
+    c.lay_segments-segments.result =
     record {
       sound = O.found.timed.sound;
       one_ring = c.requires.1;
@@ -86,7 +86,7 @@ returns-in_err-weighing c =
     let R : Rated t c.in_ok-outline.outline c.put_rates-light.result c.put_rates-light.new.rate =
     record { outlined = O; weighed = rows_weighed O.found.timed c.put_rates-light.ensures } in
     let L : Limited t c.args.table.now.elements c.args.table.now.rows c.in_ok-outline.outline.time.hyper c.put_rates-light.new.rate
-        c.lay_segments-segments.result =
+    c.lay_segments-segments.result =
     record {
       sound = O.found.timed.sound;
       one_ring = c.requires.1;
@@ -109,7 +109,7 @@ returns c =
     let R : Rated t c.in_ok-outline.outline c.put_rates-light.result c.put_rates-light.new.rate =
     record { outlined = O; weighed = rows_weighed O.found.timed c.put_rates-light.ensures } in
     let L : Limited t c.args.table.now.elements c.args.table.now.rows c.in_ok-outline.outline.time.hyper c.put_rates-light.new.rate
-        c.lay_segments-segments.result =
+    c.lay_segments-segments.result =
     record {
       sound = O.found.timed.sound;
       one_ring = c.requires.1;

@@ -36,7 +36,7 @@ loop-i-preserved c =
     let v = c.loop-i.invariant in
     let start = c.requires.start c.loop-i.i (omega arith) in record {
       sought = sought_next v.sought (omega arith)
-        (found c.loop-i.i _ c.requires (omega arith) v.filled c.end_at-from.ensures c.is_repeated.ensures ∙ c.if-is_repeated.false);
+          (found c.loop-i.i _ c.requires (omega arith) v.filled c.end_at-from.ensures c.is_repeated.ensures ∙ c.if-is_repeated.false);
       filled = filling_next _ v.filled (omega (arith, c.requires.few)) c.end_at-from.ensures (omega (arith, c.end_at-from.ensures, start));
     }
 
