@@ -1,5 +1,6 @@
-// The live table changed where it is kept (#109), for those who keep one: the supervisor, a C program (include/ringlive.h). Each call answers
-// 256 × number + place; an addition's place is the one taken. The rows present are written as a table file from where they are kept.
+// The live table changed where it is kept (#109), for those who keep one: the supervisor, a C program (include/ringlive.h). Each call
+// answers 256 × number + place; an addition's place is the one taken. The rows present are written as a table file from where they are
+// kept.
 #![tactic(auto)]
 
 ghost use Rattle.std.specs.Prelude.{◌≡◌, ◌≤◌};

@@ -140,7 +140,9 @@ module _ {l : Part} {k : ℕ} {xs : List ℕ} (C : Celled l k xs) (room : k < 4)
   celled_next v h = record {
     few = omega arith;
     size = length-set xs k v ∙ C.size;
-    none = none_next (λ j. number_checks (field l j)) k C.none (none_of (number_checks (field l k)) 0 (numbers_numbered (field l k)) h.answers);
+    none =
+        none_next (λ j. number_checks (field l j)) k C.none
+        (none_of (number_checks (field l k)) 0 (numbers_numbered (field l k)) h.answers);
     value = λ j m.
         ⊎_elim
         (λ (q : j ≡ k). rw q (get_or-set_same xs k v 0 (omega (arith, C.size)) ∙ h.value))

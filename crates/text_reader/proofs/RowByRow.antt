@@ -95,7 +95,8 @@ module _ {t was now : List ℕ} {i : ℕ} {labelled : Bool} {r : Line} (R : Read
     pub is_one : i < (text_table t).rows
     is_one = omega (arith, more)
 
-    here : (n p : ℕ) → Answers (text_row_checks (text_rings t) (text_table t).elements (line_of t r) i) n p → Answers (checks_of_row t i) n p
+    here : (n p : ℕ) → Answers (text_row_checks (text_rings t) (text_table t).elements (line_of t r) i) n p
+        → Answers (checks_of_row t i) n p
     here n p a =
         subst (λ (l : Part). Answers (text_row_checks (text_rings t) (text_table t).elements l i) n p) (sym this_row) a
 

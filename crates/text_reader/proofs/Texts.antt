@@ -204,7 +204,8 @@ module _ (t was : List ℕ) where
     answers n p a =
         passed (long_text t) (text_line_checks t) n p (λ (g : max_text < length t). let w : ⊥ = omega arith in w) a
 
-    pub read_refused : {from now : List ℕ} (f : Fault) → AreLines t from now (Err f) → TextRead t was was (number_of f.wrong) f.place no_mark 0 0 0
+    pub read_refused : {from now : List ℕ} (f : Fault) → AreLines t from now (Err f)
+        → TextRead t was was (number_of f.wrong) f.place no_mark 0 0 0
     unfolding text_reader_checks
     read_refused f L =
         call_refused (text_checks t) short (answers _ _ L.answers) (not_done f.wrong) (refl, refl, refl, refl, refl)

@@ -20,7 +20,8 @@ ghost use Rattle.table.specs.Refusal.{number_of};
 ghost use Rattle.reader.specs.Reading.{mark_in, version_in, elements_in, rows_in};
 ghost use Rattle.text_reader.specs.Faults.{number as told, place};
 ghost use Rattle.text_reader.specs.Walk.{IsCell};
-ghost use Rattle.text_reader.specs.Reading.{AreCells, IsRowOf, in_ring, IsForm, IsRowAt, IsHeading, blame, Rest, AreRows, AreLines, version_for};
+ghost use Rattle.text_reader.specs.Reading.{AreCells, IsRowOf, in_ring, IsForm, IsRowAt, IsHeading, blame};
+ghost use Rattle.text_reader.specs.Reading.{Rest, AreRows, AreLines, version_for};
 
 pub use faults::{Fault, Wrong, number, place};
 use fields::{field, has_field, next_line};

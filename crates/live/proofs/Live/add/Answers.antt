@@ -54,7 +54,8 @@ returns-then-has_row c =
     let e = c.args.entry in
     let Z : Sized l = search rules in
     rw c.into-then-has_row.ensures
-    (add_repeated l e Z (granted c.is_in_order.ensures c.if-not-is_in_order.false) (clean l e _ c.clockwise-row.ensures c.in_ok-row_fault.ensures)
+    (add_repeated l e Z (granted c.is_in_order.ensures c.if-not-is_in_order.false)
+    (clean l e _ c.clockwise-row.ensures c.in_ok-row_fault.ensures)
     (of_true (sym (sought l e _ c.clockwise-row.ensures c.has_row.ensures) ∙ c.if-has_row.true)))
 
 pub returns-in_err-k : goal.returns-in_err-k

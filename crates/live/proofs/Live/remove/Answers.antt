@@ -16,7 +16,8 @@ pub returns-then-k-ge-ROWS : goal.returns-then-k-ge-ROWS
 returns-then-k-ge-ROWS c =
     let Z : Sized c.args.self.now = search rules in
     rw c.into-then-k-ge-ROWS.ensures
-    (remove_none c.args.self.now c.args.k Z (granted c.is_in_order.ensures c.if-not-is_in_order.false) (inl (omega (arith, c.if-k-ge-ROWS.true))))
+    (remove_none c.args.self.now c.args.k Z (granted c.is_in_order.ensures c.if-not-is_in_order.false)
+    (inl (omega (arith, c.if-k-ge-ROWS.true))))
 
 pub returns-then-slots_at-eq0 : goal.returns-then-slots_at-eq0
 returns-then-slots_at-eq0 c =

@@ -8,7 +8,8 @@ use Rattle.live.proofs.files.write_file.Goals as goal
 
 pub returns-then-not-is_in_order : goal.returns-then-not-is_in_order
 returns-then-not-is_in_order c =
-    rw c.into.ensures (file_off c.args.version (live_of c.args.live.now) c.args.out.now (denied c.is_in_order.ensures c.if-not-is_in_order.true))
+    rw c.into.ensures
+    (file_off c.args.version (live_of c.args.live.now) c.args.out.now (denied c.is_in_order.ensures c.if-not-is_in_order.true))
 
 pub overflow_mul-size : goal.overflow_mul-size
 overflow_mul-size c = omega (arith, present_few c.put_present-rows.ensures)
