@@ -9,7 +9,6 @@
 
 use limited::Limits;
 use std::env::{Env, FillError};
-use table::Answer;
 
 // No input that passes is longer than the longest text, and nothing that is written longer than the longest list in lines.
 const INPUT: usize = file_report::texts::INPUT;
@@ -41,17 +40,15 @@ fn verdict_within(rt: &impl Env, file: &[u8], out: &mut [u8]) -> usize {
         ours: limit(rt, 2),
         theirs: limit(rt, 3),
     };
-    let answer = limited::judge(file, limits);
-    report::put_verdict(answer.number(), answer.place(), out)
+    report::put_verdict(&limited::judge(file, limits), out)
 }
 
 // The raised file is as long as the file; nothing where it is refused.
 fn raised(file: &[u8], out: &mut [u8]) -> usize {
-    let answer = raising::raise(file, out);
-    if answer.number == Answer::DONE {
-        return file.len();
+    match raising::raise(file, out) {
+        Ok(()) => file.len(),
+        Err(_) => 0,
     }
-    0
 }
 
 // What is written for a word.
