@@ -43,12 +43,17 @@ pub(crate) fn put_value(word: &[u8], x: u64, out: &mut [u8], at: usize) -> usize
     put_line(word, &[x], out, at)
 }
 
-pub fn put_verdict<T>(answer: &Result<T, Refusal>, out: &mut [u8]) -> usize
+pub fn put_verdict(number: u32, place: u32, out: &mut [u8]) -> usize
+    ensures { PutsLine (verdict number place) out.old 0 out.new result }
+{
+    put_line(b"verdict", &[number as u64, place as u64], out, 0)
+}
+
+// The line of a verdict, or of what is refused before it.
+pub(crate) fn put_judged<T>(answer: &Result<T, Refusal>, out: &mut [u8]) -> usize
     ensures { PutsLine (verdict (number answer.now) (place answer.now)) out.old 0 out.new result }
 {
-    let number = table::number(answer);
-    let place = table::place(answer);
-    put_line(b"verdict", &[number as u64, place as u64], out, 0)
+    put_verdict(table::number(answer), table::place(answer), out)
 }
 
 // The cut of each ring; that of the other is 0 where there is one ring.
@@ -127,7 +132,7 @@ fn put_analysis(analysed: Result<Analysis, Refusal>, out: &mut [u8]) -> usize
     requires { Usable analysed }
     ensures { RenderedOn analysed out.old out.new result }
 {
-    let first = put_verdict(&analysed, out);
+    let first = put_judged(&analysed, out);
     let Ok(table) = analysed else {
         return first;
     };
@@ -160,7 +165,7 @@ pub fn render_plain(file: &[u8], out: &mut [u8]) -> usize
 {
     let analysed = verdict::analyse(file);
     let Ok(table) = analysed else {
-        return put_verdict(&analysed, out);
+        return put_judged(&analysed, out);
     };
     let next = put_plan(table, true, out, 0);
     put_plan(table, false, out, next)

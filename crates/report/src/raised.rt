@@ -10,7 +10,7 @@ ghost use Rattle.decimal.specs.Puts.{limit, max_line, PutsLine, PutsLines};
 ghost use Rattle.table.specs.Refusal.{number, place};
 ghost use Rattle.report.specs.RaisedLines.{Costs, raised_lines, RaiseRendered};
 
-use crate::put_verdict;
+use crate::put_judged;
 use decimal::put_line;
 use table::{Refusal, Table};
 
@@ -61,7 +61,7 @@ pub fn render(file: &[u8], out: &mut [u8]) -> usize
 {
     let answer = raising::raised_table(file);
     let Ok(found) = answer else {
-        return put_verdict(&answer, out);
+        return put_judged(&answer, out);
     };
     let mut raised = [0u8; Table::FILE_BYTES];
     // there is room for every file, so it isn't refused

@@ -40,7 +40,8 @@ fn verdict_within(rt: &impl Env, file: &[u8], out: &mut [u8]) -> usize {
         ours: limit(rt, 2),
         theirs: limit(rt, 3),
     };
-    report::put_verdict(&limited::judge(file, limits), out)
+    let verdict = limited::judge(file, limits);
+    report::put_verdict(table::number(&verdict), table::place(&verdict), out)
 }
 
 // The raised file is as long as the file; nothing where it is refused.

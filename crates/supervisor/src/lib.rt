@@ -52,7 +52,8 @@ fn write_values(out: &mut [u32], table: Admitted)
 
 // The values of an admitted table in `out`, or the verdict's refusal, or 17.
 fn fill_values(file: &[u8], out: &mut [u32]) -> Result<(), Refusal>
-    ensures { Call (values_checks file.now (length out.old)) (number result) (place result) (Valued file.now out.old out.new) (out.new ≡ out.old) }
+    ensures { Call (values_checks file.now (length out.old)) (number result) (place result)
+        (Valued file.now out.old out.new) (out.new ≡ out.old) }
 {
     let admitted = verdict::judge(file)?;
     if out.len() < VALUES {

@@ -5,7 +5,7 @@ use Rattle.report.proofs.render_plain.Goals as goal
 
 pub returns-in_default : goal.returns-in_default
 returns-in_default c =
-    rendered_refused _ c.in_default.field-0 c.in_default.ensures.answers (line_told c.in_default.is c.put_verdict.ensures)
+    rendered_refused _ c.in_default.field-0 c.in_default.ensures.answers (line_told c.in_default.is c.put_judged.ensures)
 
 pub returns : goal.returns
 returns c =

@@ -8,7 +8,7 @@ use Rattle.report.proofs.raised.render.Goals as goal
 
 pub returns-in_default : goal.returns-in_default
 returns-in_default c =
-    rendered_refused _ c.in_default.field-0 c.in_default.ensures.answers (line_told c.in_default.is c.put_verdict.ensures)
+    rendered_refused _ c.in_default.field-0 c.in_default.ensures.answers (line_told c.in_default.is c.put_judged.ensures)
 
 pub slice_bounds-raised-end : goal.slice_bounds-raised-end
 slice_bounds-raised-end c = omega (arith, report_long _ _ c.in-Ok.ensures, c.raise.auto)
