@@ -187,10 +187,10 @@ pub record Demand3 : Type 1 where
   pub whole_is_steps : WholeIsSteps
   -- A step on any admitted table, from any due state that isn't off and with room, is never refused; the planner handed back isn't off.
   pub never_refused : NeverRefused
-  -- A planner moved on where it is kept gives the same answers as a step.
+  -- A planner moved on where it is kept gives the same answers as a step, and is then the planner after it.
   pub in_place : (f : List ℕ) (p q : Planner) (a : Result Unit Refusal) (r : Result Planner Refusal) (was now then : List ℕ)
       → MovedInPlace f p q a was now
-      → StepAnswer (file_ask f) p r was then → (joined q a ≡ r) × (now ≡ then)
+      → StepAnswer (file_ask f) p r was then → (joined q a ≡ r) × (q ≡ after p r) × (now ≡ then)
   -- Each step keeps rows that share a segment apart, adds to each total the slots that the row moves in, and brings each row to its share.
   pub step_serves : (a : Ask) (p : Planner) (r : Result Planner Refusal) (was now : List ℕ) (k : ℕ) → Proper a → StepAnswer a p r was now
       → number r ≡ 0 → p.stage ≡ Due k

@@ -3,6 +3,7 @@ use mathlib.Core.Path.{◌≡◌, refl, sym, ◌∙◌}
 use mathlib.Core.List.{List}
 use Prim.Native.Nat.{ℕ, ◌+◌, ◌*◌, ◌<◌}
 use lib.ListN.{length}
+use mathlib.Core.Logic.{⊎_elim, ◌≢◌}
 use Rattle.rules.specs.ElementList.{
   Entry,
   entry_numbers,
@@ -18,7 +19,7 @@ use Rattle.rules.specs.ElementList.{
 use Rattle.rules.specs.Refusals.{Answers, list_file_checks, list_reader_checks, list_memory_checks, list_writer_checks}
 use Rattle.rules.specs.Calls.{lent, ListRead, ListWritten}
 use Rattle.rules.proofs.Answers.{None}
-use Rattle.rules.proofs.Calls.{call_refused, call_short, call_done}
+use Rattle.rules.proofs.Calls.{call_refused, call_short, call_done, call_only}
 use Rattle.std.specs.Prelude.{Result, Ok, Err}
 use Rattle.table.specs.Refusal.{number_of, number, place}
 use Rattle.table.specs.declared.refusals.Reason.TheVariants.{ShortOutput}
@@ -60,19 +61,32 @@ module _ (f was : List ℕ) where
   read_done now h a q s d =
       call_done (list_file_checks f) short (file_numbered f) a refl s (q.element, q.hyper, q.entries, d)
 
-  pub read_only : {now now' : List ℕ} {r s : Result Head Refusal} → Reads now r → Reads now' s → (r ≡ s) × (now ≡ now')
-  read_only {r = Ok h} {s = Ok k} c d =
+  -- as the function's result: only one fits
+  pub reading_only : {now now' : List ℕ} {r s : Result Head Refusal} → Reads now r → Reads now' s → (r ≡ s) × (now ≡ now')
+  reading_only {r = Ok h} {s = Ok k} c d =
       let x = c.done refl in
       let y = d.done refl in (
         λ i. Ok (record { element = (x.0 ∙ sym y.0) i; hyper = (x.1 ∙ sym y.1) i; entries = (x.2 ∙ sym y.2) i }),
         x.3 ∙ sym y.3,
       )
-  read_only {r = Ok h} {s = Err e} c d = refused_not (list_reader_checks f (length was)) e c.answers d.answers
-  read_only {r = Err e} {s = Ok h} c d = refused_not (list_reader_checks f (length was)) e d.answers c.answers
-  read_only {r = Err e} {s = Err g} c d = (
+  reading_only {r = Ok h} {s = Err e} c d = refused_not (list_reader_checks f (length was)) e c.answers d.answers
+  reading_only {r = Err e} {s = Ok h} c d = refused_not (list_reader_checks f (length was)) e d.answers c.answers
+  reading_only {r = Err e} {s = Err g} c d = (
     same_refusal (list_reader_checks f (length was)) e g c.answers d.answers,
     (c.refused (not_done e.reason)).3 ∙ sym (d.refused (not_done g.reason)).3,
   )
+
+-- in numbers: only one answer fits
+pub read_only : (f was now now' : List ℕ) (m n p q e e' h h' k k' : ℕ) → ListRead f was now m p e h k → ListRead f was now' n q e' h' k'
+    → (m ≡ n) × (p ≡ q) × (e ≡ e') × (h ≡ h') × (k ≡ k') × (now ≡ now')
+read_only f was now now' m n p q e e' h h' k k' c d =
+    let z = call_only c d in
+    let s : (e ≡ e') × (h ≡ h') × (k ≡ k') × (now ≡ now') =
+    ⊎_elim
+    (λ w. (w.0.0 ∙ sym w.1.0, w.0.1 ∙ sym w.1.1, w.0.2 ∙ sym w.1.2, w.0.3 ∙ sym w.1.3))
+    (λ w. (w.0.0 ∙ sym w.1.0, w.0.1 ∙ sym w.1.1, w.0.2 ∙ sym w.1.2, w.0.3 ∙ sym w.1.3))
+    z.2 in
+    (z.0, z.1, s.0, s.1, s.2, s.3)
 
 -- ---- the writer
 
@@ -97,11 +111,19 @@ module _ (e h : ℕ) (xs was : List ℕ) where
   unfolding list_writer_checks
   written_done now a s d = call_done (list_memory_checks e h xs) cramped (memory_numbered e h xs) a refl s d
 
-  pub written_only : {now now' : List ℕ} {a b : Result Unit Refusal} → Writes now a → Writes now' b → (a ≡ b) × (now ≡ now')
-  written_only {a = Ok _} {b = Ok _} c d = (refl, c.done refl ∙ sym (d.done refl))
-  written_only {a = Ok _} {b = Err r} c d = refused_not (list_writer_checks e h xs (length was)) r c.answers d.answers
-  written_only {a = Err r} {b = Ok _} c d = refused_not (list_writer_checks e h xs (length was)) r d.answers c.answers
-  written_only {a = Err r} {b = Err s} c d = (
+  -- as the function's result: only one fits
+  pub writing_only : {now now' : List ℕ} {a b : Result Unit Refusal} → Writes now a → Writes now' b → (a ≡ b) × (now ≡ now')
+  writing_only {a = Ok _} {b = Ok _} c d = (refl, c.done refl ∙ sym (d.done refl))
+  writing_only {a = Ok _} {b = Err r} c d = refused_not (list_writer_checks e h xs (length was)) r c.answers d.answers
+  writing_only {a = Err r} {b = Ok _} c d = refused_not (list_writer_checks e h xs (length was)) r d.answers c.answers
+  writing_only {a = Err r} {b = Err s} c d = (
     same_refusal (list_writer_checks e h xs (length was)) r s c.answers d.answers,
     c.refused (not_done r.reason) ∙ sym (d.refused (not_done s.reason)),
   )
+
+-- in numbers: only one answer fits
+pub written_only : (e h : ℕ) (xs was now now' : List ℕ) (m n p q : ℕ) → ListWritten e h xs was now m p → ListWritten e h xs was now' n q
+    → (m ≡ n) × (p ≡ q) × (now ≡ now')
+written_only e h xs was now now' m n p q c d =
+    let z = call_only c d in
+    (z.0, z.1, ⊎_elim (λ w. w.0 ∙ sym w.1) (λ w. w.0 ∙ sym w.1) z.2)

@@ -11,16 +11,17 @@ use Rattle.planner.specs.Answers.{StepAnswer}
 use Rattle.planner.proofs.Only.{step_only}
 use Rattle.planner.specs.InPlace.{joined, MovedInPlace}
 
--- the same answers as the step by value
-pub moved_in_place_as_step : (f : List ℕ) (p q : Planner) (r : Result Unit Refusal) (s : Result Planner Refusal) (was now then : List ℕ)
-    → MovedInPlace f p q r was now → StepAnswer (file_ask f) p s was then → (joined q r ≡ s) × (now ≡ then)
-moved_in_place_as_step f p q r s was now then A B = step_only (file_ask f) p (joined q r) s was now then A.moved B
-
 -- what is left in place is the planner after the step
 left_in_place : {f : List ℕ} {p q : Planner} {r : Result Unit Refusal} {was now : List ℕ} → MovedInPlace f p q r was now
     → q ≡ after p (joined q r)
 left_in_place {r = Ok _} A = refl
 left_in_place {r = Err _} A = A.kept
+
+-- the same answers as the step by value, and the same planner after it
+pub moved_in_place_as_step : (f : List ℕ) (p q : Planner) (r : Result Unit Refusal) (s : Result Planner Refusal) (was now then : List ℕ)
+    → MovedInPlace f p q r was now → StepAnswer (file_ask f) p s was then → (joined q r ≡ s) × (q ≡ after p s) × (now ≡ then)
+moved_in_place_as_step f p q r s was now then A B =
+    let e = step_only (file_ask f) p (joined q r) s was now then A.moved B in (e.0, left_in_place A ∙ ap (after p) e.0, e.1)
 
 -- and its answer is the step's
 unjoined : (r : Result Planner Refusal) → Result Unit Refusal
@@ -36,7 +37,7 @@ pub moved_in_place_only : (f : List ℕ) (p q q' : Planner) (r r' : Result Unit 
     → MovedInPlace f p q r was now → MovedInPlace f p q' r' was then → (q ≡ q') × (r ≡ r') × (now ≡ then)
 moved_in_place_only f p q q' r r' was now then A B =
     let e = moved_in_place_as_step f p q r (joined q' r') was now then A B.moved in (
-      left_in_place A ∙ ap (after p) e.0 ∙ sym (left_in_place B),
+      e.1 ∙ sym (left_in_place B),
       sym (answer_is q r) ∙ ap unjoined e.0 ∙ answer_is q' r',
-      e.1,
+      e.2,
     )
