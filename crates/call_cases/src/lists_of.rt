@@ -9,21 +9,25 @@
 ghost use Rattle.std.specs.Prelude.{◌+◌, ◌*◌, ◌≤◌, ◌<◌};
 ghost use Rattle.rules.specs.Bounds.{max_slots};
 
-use crate::tables::print_numbers;
-use crate::{KEPT, MOST, print_answer, print_number, room};
+use crate::{KEPT, MOST, print_answer, print_number, print_numbers, room};
 use cases::number_at;
 use lists::{Entry, Head};
-use table::Answer;
+use maker::Making;
+use table::Refusal;
 
 // room for one entry more than a list can have
 const LONGEST: usize = Head::BYTES + Head::ENTRY_BYTES * (Head::ENTRIES + 1);
 
 const NUMBERS: usize = Head::ENTRY_NUMBERS * (Head::ENTRIES + 1);
 
-fn print_list(rt: &impl Print, answer: Answer, hyper: usize, entries: usize) {
+fn print_list(rt: &impl Print, answer: &Result<Making, Refusal>) {
     print_answer(rt, answer);
-    print_number(rt, hyper as u64);
-    print_number(rt, entries as u64);
+    let made = answer.unwrap_or(Making {
+        hyper: 0,
+        entries: 0,
+    });
+    print_number(rt, made.hyper as u64);
+    print_number(rt, made.entries as u64);
 }
 
 // ---- the reader
@@ -38,8 +42,7 @@ fn row_of(k: usize, place: usize, row: u64) -> u16
 fn fill(entries: usize, place: usize, row: u64, out: &mut [u8])
     requires { entries ≤ 2 * max_slots + 1 }
 {
-    let mut k: usize = 0;
-    while k < entries {
+    for k in 0..entries {
         let at = Head::BYTES + Head::ENTRY_BYTES * k;
         if out.len() < at + Head::ENTRY_BYTES {
             return;
@@ -50,7 +53,6 @@ fn fill(entries: usize, place: usize, row: u64, out: &mut [u8])
             way: (k % 2) as u16,
         };
         lists::put_bytes(entry, at, out);
-        k += 1;
     }
 }
 
@@ -67,14 +69,20 @@ pub(crate) fn full_case(rt: &impl Print, given: &[u64]) {
     let mut numbers = [0u16; NUMBERS];
     let size = Head::BYTES + Head::ENTRY_BYTES * entries;
     let r = lists::read(&file[..size], &mut numbers);
-    print_list(rt, r.answer, r.head.hyper, r.head.entries);
+    print_list(
+        rt,
+        &r.map(|head| Making {
+            hyper: head.hyper,
+            entries: head.entries,
+        }),
+    );
 }
 
 // ---- the maker
 
 fn make(rt: &impl Print, file: &[u8], plan: &[u64], element: u64, out: &mut [u16]) {
     let made = maker::make(file, plan, element, out);
-    print_list(rt, made.answer, made.hyper, made.entries);
+    print_list(rt, &made);
     print_numbers(rt, out);
 }
 

@@ -13,7 +13,7 @@ mod verdicts;
 ghost use Rattle.std.specs.Prelude.{◌≤◌, length};
 
 use cases::{find, number_at, table_file};
-use table::{Answer, Table};
+use table::{Refusal, Table};
 
 // as many numbers as a case has at most, and as much as a call is lent
 pub(crate) const MOST: usize = 540;
@@ -38,34 +38,26 @@ pub(crate) fn print_number(rt: &impl Print, x: u64) {
     let _ = print!(rt; " {x}");
 }
 
-// A word, and the numbers.
-pub(crate) fn print(rt: &impl Print, word: &[u8], numbers: &[u64]) {
-    print_word(rt, word);
-    let mut i: usize = 0;
-    while i < numbers.len() {
-        print_number(rt, numbers[i]);
-        i += 1;
+pub(crate) fn print_numbers<T: Copy + Into<u64>>(rt: &impl Print, numbers: &[T]) {
+    for x in numbers {
+        print_number(rt, (*x).into());
     }
 }
 
-pub(crate) fn print_answer(rt: &impl Print, answer: Answer) {
-    print_number(rt, answer.number as u64);
-    print_number(rt, answer.place as u64);
+pub(crate) fn print_answer<T>(rt: &impl Print, answer: &Result<T, Refusal>) {
+    print_number(rt, u64::from(table::number(answer)));
+    print_number(rt, u64::from(table::place(answer)));
 }
 
 // ---- a case's heading and numbers
 
-fn has(text: &[u8], byte: u8) -> bool {
-    find(text, 0, byte) < text.len()
-}
-
 pub(crate) fn byte_at(text: &[u8], k: usize) -> u8 {
-    if k < text.len() { text[k] } else { 0 }
+    text.get(k).copied().unwrap_or(0)
 }
 
 // Calls are told apart by their first letter; a case that has a name only has none.
 fn letter_of(heading: &[u8]) -> u8 {
-    if has(heading, b' ') {
+    if heading.contains(&b' ') {
         byte_at(heading, 0)
     } else {
         0
@@ -76,7 +68,7 @@ fn letter_of(heading: &[u8]) -> u8 {
 fn leading(heading: &[u8], given: &[u64]) -> usize
     ensures { result ≤ length given.now }
 {
-    if given.len() > 0 && (has(heading, b'*') || letter_of(heading) == b'o') {
+    if !given.is_empty() && (heading.contains(&b'*') || letter_of(heading) == b'o') {
         1
     } else {
         0
@@ -87,8 +79,7 @@ fn leading(heading: &[u8], given: &[u64]) -> usize
 pub(crate) fn room(given: &[u64], k: usize, most: usize) -> usize
     ensures { result ≤ most }
 {
-    let size = number_at(given, k) as usize;
-    if size < most { size } else { most }
+    (number_at(given, k) as usize).min(most)
 }
 
 // ---- calls on a table's file
@@ -121,7 +112,7 @@ fn run_on_table(rt: &impl Print, heading: &[u8], relay: &[u64], given: &[u64]) {
         return;
     }
     let mut file = [0u8; SIZE];
-    let size = table_file(has(heading, b'+'), &given[at..], &mut file);
+    let size = table_file(heading.contains(&b'+'), &given[at..], &mut file);
     if size <= SIZE {
         run_on(rt, heading, relay, &file[..size], &given[..at]);
     }
@@ -131,7 +122,7 @@ fn run_on_table(rt: &impl Print, heading: &[u8], relay: &[u64], given: &[u64]) {
 
 // The calls that take no table's file have first letters of their own.
 fn call(rt: &impl Print, heading: &[u8], lead: &[u64], given: &[u64]) {
-    if has(heading, b'*') {
+    if heading.contains(&b'*') {
         run_on_table(rt, heading, lead, given);
         return;
     }
@@ -165,11 +156,8 @@ fn one(rt: &impl Print, text: &[u8]) {
 }
 
 fn each(rt: &impl Print, text: &[u8]) {
-    let mut at: usize = 0;
-    while at < text.len() {
-        let end = find(text, at, b'\n');
-        one(rt, &text[at..end]);
-        at = end + 1;
+    for line in text.split(|b| *b == b'\n') {
+        one(rt, line);
     }
 }
 

@@ -5,10 +5,10 @@
 // A call is plan, step or standings, or step_finished or standings_finished of a planner that has finished; or list. It is lent `room`
 // words. For each is printed: number and place, then what the call left: the stage, the first four totals, and all of the lent words; or
 // the first four standings; of a list how many sets there are, and the words.
-use crate::{KEPT, MOST, byte_at, print, print_answer, print_number, print_word};
+use crate::{KEPT, MOST, byte_at, print_answer, print_number, print_numbers, print_word};
 use cases::{find, number_at};
-use planner::{MovedOn, Planner, Stage, Standings};
-use table::{Answer, Table};
+use planner::{Planner, Stage};
+use table::{Refusal, Table};
 
 // room, interval and four totals
 pub(crate) const BEFORE_TABLE: usize = 6;
@@ -27,29 +27,20 @@ fn print_stage(rt: &impl Print, stage: Stage) {
 
 fn print_totals(rt: &impl Print, totals: [u64; Table::ROWS]) {
     print_word(rt, b" totals");
-    let mut i: usize = 0;
-    while i < 4 {
-        print_number(rt, totals[i]);
-        i += 1;
-    }
+    print_numbers(rt, &totals[..4]);
 }
 
-fn print_moved(rt: &impl Print, r: MovedOn) {
-    print_answer(rt, r.answer);
-    let after = r.planner;
-    let stage = after.stage;
-    let totals = after.totals;
-    print_stage(rt, stage);
-    print_totals(rt, totals);
+// A refused step leaves the planner as it was.
+fn print_moved(rt: &impl Print, planner: Planner, r: Result<Planner, Refusal>) {
+    print_answer(rt, &r);
+    let after = r.unwrap_or(planner);
+    print_stage(rt, after.stage);
+    print_totals(rt, after.totals);
 }
 
 // How far a standing is from 0, where h is at most 64.
 fn distance(x: i64) -> u64 {
-    let mut n: u64 = 0;
-    while n < 64 && numbers::less(n, 0) != x && numbers::less(0, n) != x {
-        n += 1;
-    }
-    n
+    x.unsigned_abs().min(64)
 }
 
 // So many ahead, or behind.
@@ -62,33 +53,36 @@ fn print_standing(rt: &impl Print, x: i64) {
     }
 }
 
-fn print_standings(rt: &impl Print, r: Standings) {
-    print_answer(rt, r.answer);
-    let values = r.values;
-    let mut i: usize = 0;
-    while i < 4 {
-        print_standing(rt, values[i]);
-        i += 1;
+fn print_standings(rt: &impl Print, r: Result<[i64; Table::ROWS], Refusal>) {
+    print_answer(rt, &r);
+    let values = r.unwrap_or([0; Table::ROWS]);
+    for value in &values[..4] {
+        print_standing(rt, *value);
     }
 }
 
 // ---- the calls, with the relay where there is one
 
-fn plan(relay: &[u64], file: &[u8], words: &mut [u64]) -> Answer {
+fn plan(relay: &[u64], file: &[u8], words: &mut [u64]) -> Result<(), Refusal> {
     if relay.len() == 0 {
         return planner::whole_plan(file, words);
     }
     relayed::whole_plan(file, number_at(relay, 0) as usize, words)
 }
 
-fn step(planner: Planner, relay: &[u64], file: &[u8], words: &mut [u64]) -> MovedOn {
+fn step(
+    planner: Planner,
+    relay: &[u64],
+    file: &[u8],
+    words: &mut [u64],
+) -> Result<Planner, Refusal> {
     if relay.len() == 0 {
         return planner.step(file, words);
     }
     relayed::step(planner, file, number_at(relay, 0) as usize, words)
 }
 
-fn standings(planner: Planner, relay: &[u64], file: &[u8]) -> Standings {
+fn standings(planner: Planner, relay: &[u64], file: &[u8]) -> Result<[i64; Table::ROWS], Refusal> {
     if relay.len() == 0 {
         return planner.standings(file);
     }
@@ -97,9 +91,9 @@ fn standings(planner: Planner, relay: &[u64], file: &[u8]) -> Standings {
 
 fn list(rt: &impl Print, relay: &[u64], file: &[u8], words: &mut [u64]) {
     let r = relayed::list_of_sets(file, number_at(relay, 0) as usize, words);
-    print_answer(rt, r.answer);
+    print_answer(rt, &r);
     print_word(rt, b" sets");
-    print_number(rt, r.sets as u64);
+    print_number(rt, u64::from(r.unwrap_or(0)));
 }
 
 // ---- a case
@@ -114,9 +108,9 @@ fn call(
     words: &mut [u64],
 ) {
     match letter {
-        b'p' => print_answer(rt, plan(relay, file, words)),
+        b'p' => print_answer(rt, &plan(relay, file, words)),
         b'l' => list(rt, relay, file, words),
-        _ => print_moved(rt, step(planner, relay, file, words)),
+        _ => print_moved(rt, planner, step(planner, relay, file, words)),
     }
 }
 
@@ -129,7 +123,8 @@ fn call_and_print(
     words: &mut [u64],
 ) {
     call(rt, letter, planner, relay, file, words);
-    print(rt, b" words", words);
+    print_word(rt, b" words");
+    print_numbers(rt, words);
 }
 
 fn stage_of(heading: &[u8], k: u64) -> Stage {
@@ -141,10 +136,9 @@ fn stage_of(heading: &[u8], k: u64) -> Stage {
 
 fn planner_of(heading: &[u8], given: &[u64]) -> Planner {
     let mut totals = [0u64; Table::ROWS];
-    totals[0] = number_at(given, 2);
-    totals[1] = number_at(given, 3);
-    totals[2] = number_at(given, 4);
-    totals[3] = number_at(given, 5);
+    for i in 0..4 {
+        totals[i] = number_at(given, 2 + i);
+    }
     Planner {
         stage: stage_of(heading, number_at(given, 1)),
         totals: totals,

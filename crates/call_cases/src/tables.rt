@@ -9,64 +9,54 @@
 //
 // For each is printed: number and place, what the reader returned of the mark, the version, M and the row count, or of the element, the
 // hyperperiod and the entry count, and then all of the lent memory.
-ghost use Rattle.std.specs.Prelude.{◌+◌, ◌≤◌};
+ghost use Rattle.std.specs.Prelude.{◌+◌, ◌^◌, ◌≤◌, ◌<◌, length};
 
-use crate::{KEPT, MOST, print_answer, print_number, room};
+use crate::{KEPT, MOST, print_answer, print_number, print_numbers, room};
 use cases::number_at;
+use lists::Head;
 use reader::Reading;
-use table::Answer;
+use table::{Refusal, Table};
 
-fn wide(x: u16) -> u64 {
-    x as u64
-}
+// what is printed beside a refusal
+const NO_TABLE: Reading = Reading {
+    mark: [0; 3],
+    version: 0,
+    table: Table {
+        elements: 0,
+        rows: 0,
+    },
+};
 
-fn wide_byte(x: u8) -> u64 {
-    x as u64
-}
-
-pub(crate) fn print_numbers(rt: &impl Print, numbers: &[u16]) {
-    let mut i: usize = 0;
-    while i < numbers.len() {
-        print_number(rt, wide(numbers[i]));
-        i += 1;
-    }
-}
-
-fn print_bytes(rt: &impl Print, bytes: &[u8]) {
-    let mut i: usize = 0;
-    while i < bytes.len() {
-        print_number(rt, wide_byte(bytes[i]));
-        i += 1;
-    }
-}
+const NO_LIST: Head = Head {
+    element: 0,
+    hyper: 0,
+    entries: 0,
+};
 
 // How many numbers stand from place `k` on.
 fn after(given: &[u64], k: usize) -> usize
     ensures { result ≤ 540 }
 {
-    if given.len() < k {
-        return 0;
-    }
-    let size = given.len() - k;
-    if size < MOST { size } else { MOST }
+    given.len().saturating_sub(k).min(MOST)
 }
 
 // ---- the reader
 
-fn print_table(rt: &impl Print, r: Reading) {
-    print_answer(rt, r.answer);
-    let mark = r.mark;
-    print_bytes(rt, &mark);
+fn print_table(rt: &impl Print, answer: Result<Reading, Refusal>) {
+    print_answer(rt, &answer);
+    let r = answer.unwrap_or(NO_TABLE);
+    print_numbers(rt, &r.mark);
     print_number(rt, r.version);
     print_number(rt, r.table.elements as u64);
     print_number(rt, r.table.rows as u64);
 }
 
-fn print_list(rt: &impl Print, r: lists::Reading) {
-    print_answer(rt, r.answer);
-    print_number(rt, r.head.element as u64);
-    print_number(rt, r.head.hyper as u64);
-    print_number(rt, r.head.entries as u64);
+fn print_list(rt: &impl Print, answer: Result<Head, Refusal>) {
+    print_answer(rt, &answer);
+    let head = answer.unwrap_or(NO_LIST);
+    print_number(rt, head.element as u64);
+    print_number(rt, head.hyper as u64);
+    print_number(rt, head.entries as u64);
 }
 
 fn read_by(rt: &impl Print, letter: u8, file: &[u8], out: &mut [u16]) {
@@ -82,17 +72,19 @@ fn read(rt: &impl Print, letter: u8, file: &[u8], out: &mut [u16]) {
     print_numbers(rt, out);
 }
 
-fn put_bytes(given: &[u64], out: &mut [u8]) {
-    let mut i: usize = 0;
-    while i < out.len() {
-        out[i] = (number_at(given, i + 1) % 256) as u8;
-        i += 1;
+// What `of` makes of each number from place `first` on.
+fn put_each<T: Drop, F: Fn(u64) -> T>(given: &[u64], first: usize, out: &mut [T], of: F)
+    requires few { first + length out.old < 2 ^ 64 }
+    requires callable { F.IsAlwaysCallable of }
+{
+    for (i, x) in out.iter_mut().enumerate() {
+        *x = of(number_at(given, first + i));
     }
 }
 
 pub(crate) fn read_case(rt: &impl Print, letter: u8, given: &[u64]) {
     let mut file = [0u8; MOST];
-    put_bytes(given, &mut file);
+    put_each(given, 1, &mut file, |x| (x % 256) as u8);
     let size = after(given, 1);
     let mut out = [KEPT as u16; MOST];
     let lent = room(given, 0, MOST);
@@ -108,7 +100,7 @@ fn mark_end(lead: &[u64]) -> u8 {
     (number_at(lead, 0) % 256) as u8
 }
 
-fn write_table(mark: u8, given: &[u64], numbers: &[u16], out: &mut [u8]) -> Answer {
+fn write_table(mark: u8, given: &[u64], numbers: &[u16], out: &mut [u8]) -> Result<(), Refusal> {
     writer::write(
         &[b'R', b'B', mark],
         number_at(given, 0),
@@ -119,7 +111,13 @@ fn write_table(mark: u8, given: &[u64], numbers: &[u16], out: &mut [u8]) -> Answ
     )
 }
 
-fn write_by(letter: u8, lead: &[u64], given: &[u64], numbers: &[u16], out: &mut [u8]) -> Answer {
+fn write_by(
+    letter: u8,
+    lead: &[u64],
+    given: &[u64],
+    numbers: &[u16],
+    out: &mut [u8],
+) -> Result<(), Refusal> {
     if letter == b'f' {
         return lists::write(number_at(given, 1), number_at(given, 2), numbers, out);
     }
@@ -134,21 +132,13 @@ fn write(
     numbers: &[u16],
     out: &mut [u8],
 ) {
-    print_answer(rt, write_by(letter, lead, given, numbers, out));
-    print_bytes(rt, out);
-}
-
-fn put_numbers(given: &[u64], out: &mut [u16]) {
-    let mut i: usize = 0;
-    while i < out.len() {
-        out[i] = (number_at(given, i + 4) % 65536) as u16;
-        i += 1;
-    }
+    print_answer(rt, &write_by(letter, lead, given, numbers, out));
+    print_numbers(rt, out);
 }
 
 pub(crate) fn write_case(rt: &impl Print, letter: u8, lead: &[u64], given: &[u64]) {
     let mut numbers = [0u16; MOST];
-    put_numbers(given, &mut numbers);
+    put_each(given, 4, &mut numbers, |x| (x % 65536) as u16);
     let size = after(given, 4);
     let mut out = [KEPT; MOST];
     let lent = room(given, 3, MOST);

@@ -1,20 +1,14 @@
 // Reads the cases of the case programs: a line each, with a heading, a colon, and numbers.
 #![tactic(auto)]
 
-ghost use Rattle.std.specs.Prelude.{◌≡◌, not, ◌&&◌, cond, [], ◌∷◌, ◌+◌, ◌*◌, ◌/◌, ◌%◌, ◌≤◌, ◌<◌, min};
+ghost use Rattle.std.specs.Prelude.{◌≡◌, cond, [], ◌∷◌, ◌+◌, ◌*◌, ◌/◌, ◌%◌, ◌≤◌, ◌<◌};
 ghost use Rattle.numbers.specs.Lists.{at as item, each};
 ghost use Rattle.decimal.specs.Puts.{limit, Puts};
 ghost use Rattle.cases.specs.Tables.{low, high, row_numbers, row_bytes, way_bytes, row_at, file_bytes};
-ghost use Rattle.cases.specs.Reading.{FoundAt, largest, is_digit, grown, ended, numbers_in};
+ghost use Rattle.cases.specs.Reading.{FoundAt, largest, grown, ended_number, numbers_in};
 
-use decimal::put_bytes;
+use decimal::{put, put_bytes};
 use table::Table;
-
-fn least(a: usize, b: usize) -> usize
-    ensures { result ≡ min a b }
-{
-    if a < b { a } else { b }
-}
 
 // ---- the text
 
@@ -22,67 +16,35 @@ fn least(a: usize, b: usize) -> usize
 pub fn find(text: &[u8], from: usize, byte: u8) -> usize
     ensures { FoundAt text.now from byte result }
 {
-    let mut i = least(from, text.len());
-    while i < text.len() {
+    for i in from..text.len() {
         if text[i] == byte {
             return i;
         }
-        i += 1;
     }
-    i
+    text.len()
 }
 
-fn is_digit(byte: u8) -> bool
-    ensures { result ≡ is_digit byte }
-{
-    byte >= b'0' && byte <= b'9'
-}
-
-// A number with one digit more.
+// A number with one digit more, as far as 64 bits hold it; 0 where the byte is none.
+#[tactic(auto, unfolding(crate::specs::Reading::grown, crate::specs::Reading::is_digit))]
 fn grow(x: u64, byte: u8) -> u64
     ensures { result ≡ grown x byte }
 {
-    if byte < b'0' {
-        return 0;
+    match byte {
+        b'0'..=b'9' => x.saturating_mul(10).saturating_add(u64::from(byte - b'0')),
+        _ => 0,
     }
-    if byte > b'9' {
-        return 0;
-    }
-    let digit = (byte - b'0') as u64;
-    if x > (0xffff_ffff_ffff_ffff - digit) / 10 {
-        return 0xffff_ffff_ffff_ffff;
-    }
-    x * 10 + digit
 }
 
-// An open number ends where no digit follows.
-fn ends(open: bool, digit: bool) -> bool
-    ensures { result ≡ («open» && not digit) }
-{
-    open && !digit
-}
-
-// A number is written to place `k`, where there is room; the place after it.
-fn put(x: u64, out: &mut [u64], k: usize) -> usize
+// A number that has ended, if one has, is written to place `k`, where there is room; the place after it.
+#[tactic(auto, unfolding(crate::specs::Reading::ended))]
+fn put_ended(ended: Option<u64>, out: &mut [u64], k: usize) -> usize
     requires { k < largest }
-    ensures { Puts (x ∷ []) out.old k out.new result }
+    ensures { Puts (ended_number ended) out.old k out.new result }
 {
-    if k >= out.len() {
-        return k + 1;
+    match ended {
+        Some(x) => put(x, out, k),
+        None => k,
     }
-    out[k] = x;
-    k + 1
-}
-
-// The same, of a number that has ended.
-fn put_ended(has: bool, x: u64, out: &mut [u64], k: usize) -> usize
-    requires { k < largest }
-    ensures { Puts (ended has x) out.old k out.new result }
-{
-    if has {
-        return put(x, out, k);
-    }
-    k
 }
 
 // The numbers that stand in `text`, written to `out` as far as there is room; how many they are.
@@ -90,18 +52,16 @@ pub fn numbers(text: &[u8], out: &mut [u64]) -> usize
     ensures { Puts (numbers_in text.now) out.old 0 out.new result }
 {
     let mut k: usize = 0;
-    let mut x: u64 = 0;
-    let mut open = false;
-    let mut i: usize = 0;
-    while i < text.len() {
-        let byte = text[i];
-        let digit = is_digit(byte);
-        k = put_ended(ends(open, digit), x, out, k);
-        x = grow(x, byte);
-        open = digit;
-        i += 1;
+    let mut open: Option<u64> = None;
+    for byte in text {
+        if byte.is_ascii_digit() {
+            open = Some(grow(open.unwrap_or(0), *byte));
+        } else {
+            k = put_ended(open, out, k);
+            open = None;
+        }
     }
-    put_ended(open, x, out, k)
+    put_ended(open, out, k)
 }
 
 // ---- tables
@@ -122,7 +82,7 @@ fn high_byte(x: u64) -> u8
 pub fn number_at(xs: &[u64], k: usize) -> u64
     ensures { result ≡ item xs.now k }
 {
-    if k < xs.len() { xs[k] } else { 0 }
+    xs.get(k).copied().unwrap_or(0)
 }
 
 fn put_row(xs: &[u64], k: usize, out: &mut [u8], next: usize) -> usize
@@ -171,12 +131,10 @@ fn put_rows(board: bool, xs: &[u64], rows: usize, out: &mut [u8], at: usize) -> 
 {
     let size = row_numbers(board);
     let mut next = at;
-    let mut i: usize = 0;
-    while i < rows {
+    for i in 0..rows {
         let k = 1 + size * i;
         next = put_row(xs, k, out, next);
         next = put_way(board, number_at(xs, k + 4), out, next);
-        i += 1;
     }
     next
 }
@@ -192,7 +150,7 @@ fn mark_end(board: bool) -> u8
 pub fn table_file(board: bool, xs: &[u64], out: &mut [u8]) -> usize
     ensures { Puts (file_bytes board xs.now) out.old 0 out.new result }
 {
-    let rows = least(xs.len() / row_numbers(board), Table::ROWS + 1);
+    let rows = (xs.len() / row_numbers(board)).min(Table::ROWS + 1);
     let elements = low_byte(number_at(xs, 0));
     let head = [
         b'R',

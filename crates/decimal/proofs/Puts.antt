@@ -5,7 +5,7 @@ use Prim.Native.Nat.{ℕ, suc, ◌+◌, ◌/◌, ◌%◌, ◌^◌, ◌≤◌, �
 use native.Mathlib.Nat.{add-zero, pow-suc}
 use native.Mathlib.Omega.{arith}
 use lib.ListN.{length, set, length-append}
-use lib.Seq.{sets, length-sets, set_out}
+use lib.Seq.{sets, length-sets}
 use Rattle.rules.specs.Text.{digit, decimal}
 use Rattle.decimal.specs.Puts.{Puts}
 use Rattle.decimal.proofs.Decimal.{decimal_one, decimal_more, decimal_short}
@@ -29,12 +29,9 @@ puts_more {a} {b} {was} {mid} {now} {at} {next} {last} P Q =
     (rw (sym (sets_append was a b at), sym P.holds, sym P.after) Q.holds)
     (omega (arith, P.after, Q.after, length-append a b))
 
--- the byte is written where there is a place for it, and else nothing
-pub puts_byte : (was : List ℕ) (at b : ℕ) → Puts (b ∷ []) was at (set was at b) (at + 1)
-puts_byte was at b = puts_of (b ∷ []) was (set was at b) at (at + 1) refl refl
-
-pub puts_past : (was : List ℕ) (at b : ℕ) → length was ≤ at → Puts (b ∷ []) was at was (at + 1)
-puts_past was at b l = puts_of (b ∷ []) was was at (at + 1) (sym (set_out was at b l)) refl
+-- what is written at one place
+pub puts_byte : {was now : List ℕ} {at b next : ℕ} → (now ≡ set was at b) × (next ≡ at + 1) → Puts (b ∷ []) was at now next
+puts_byte {was} {now} {at} {b} {next} p = puts_of (b ∷ []) was now at next p.0 p.1
 
 -- ---- a number, digit by digit
 

@@ -4,18 +4,19 @@
 // a text.
 #![tactic(auto)]
 
-ghost use Rattle.std.specs.Prelude.{[], ◌∷◌, ◌+◌, ◌*◌, ◌<◌, ◌≤◌, length};
+ghost use Rattle.std.specs.Prelude.{◌≡◌, ◌∷◌, ◌+◌, ◌*◌, ◌^◌, ◌<◌, ◌≤◌, length, set};
 ghost use Rattle.rules.specs.Text.{space, decimal, fields, text_of};
 ghost use Rattle.decimal.specs.Puts.{limit, field_most, line_of, Puts};
 
-fn put_byte(b: u8, out: &mut [u8], at: usize) -> usize
-    requires { at < limit }
-    ensures { Puts (b ∷ []) out.old at out.new result }
+// A byte or a number, where there is a place for it.
+pub fn put<T: Copy>(x: T, out: &mut [T], at: usize) -> usize
+    requires { at + 1 < 2 ^ 64 }
+    ensures { (out.new ≡ set out.old at x) × (result ≡ at + 1) }
 {
     if at >= out.len() {
         return at + 1;
     }
-    out[at] = b;
+    out[at] = x;
     at + 1
 }
 
@@ -24,10 +25,8 @@ pub fn put_bytes(text: &[u8], out: &mut [u8], at: usize) -> usize
     ensures { Puts text.now out.old at out.new result }
 {
     let mut next = at;
-    let mut i: usize = 0;
-    while i < text.len() {
-        next = put_byte(text[i], out, next);
-        i += 1;
+    for b in text {
+        next = put(*b, out, next);
     }
     next
 }
@@ -37,10 +36,10 @@ pub fn put_decimal(n: u64, out: &mut [u8], at: usize) -> usize
     ensures { Puts (decimal n) out.old at out.new result × (result ≤ at + 20) }
 {
     if n < 10 {
-        return put_byte(b'0' + n as u8, out, at);
+        return put(b'0' + n as u8, out, at);
     }
     let next = put_decimal(n / 10, out, at);
-    put_byte(b'0' + (n % 10) as u8, out, next)
+    put(b'0' + (n % 10) as u8, out, next)
 }
 
 // A space and a number.
@@ -48,7 +47,7 @@ fn put_field(x: u64, out: &mut [u8], at: usize) -> usize
     requires { at + field_most ≤ limit }
     ensures { Puts (space ∷ decimal x) out.old at out.new result × (result ≤ at + field_most) }
 {
-    let next = put_byte(b' ', out, at);
+    let next = put(b' ', out, at);
     put_decimal(x, out, next)
 }
 
@@ -58,10 +57,8 @@ fn put_fields(numbers: &[u64], out: &mut [u8], at: usize) -> usize
         × (result ≤ at + field_most * length numbers.now) }
 {
     let mut next = at;
-    let mut k: usize = 0;
-    while k < numbers.len() {
-        next = put_field(numbers[k], out, next);
-        k += 1;
+    for x in numbers {
+        next = put_field(*x, out, next);
     }
     next
 }
@@ -74,5 +71,5 @@ pub fn put_line(word: &[u8], numbers: &[u64], out: &mut [u8], at: usize) -> usiz
 {
     let named = put_bytes(word, out, at);
     let numbered = put_fields(numbers, out, named);
-    put_byte(b'\n', out, numbered)
+    put(b'\n', out, numbered)
 }

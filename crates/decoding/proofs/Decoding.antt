@@ -1,7 +1,7 @@
 -- A file's table, decoded row by row, and that only one answer fits.
 --
 --   Blank t i      all that t has of row i is 0
-use mathlib.Core.Path.{◌≡◌, refl, sym, ap, ◌∙◌, fun_ext}
+use mathlib.Core.Path.{◌≡◌, refl, sym, ap, ap₂, ◌∙◌, fun_ext}
 use mathlib.Core.Logic.{◌≢◌}
 use mathlib.Core.List.{List}
 use mathlib.Core.Bool.{Bool, true, false, cond}
@@ -23,20 +23,22 @@ use Rattle.rules.specs.TableFile.{version_2, header_size, last_size, row_size, w
 use Rattle.rules.specs.TableFile.{file_rings, file_table, file_labelled}
 use Rattle.rules.specs.Refusals.{Check, Answers, header_checks, row_checks, file_checks}
 use Rattle.rules.proofs.Answers.{None, stopped, joined, answers_only}
-use Rattle.table.specs.Columns.{ByRow, Whole, table_of, Holds, HoldsLabels, OneWay, no_labels}
-use Rattle.decoding.specs.Decoded.{StandsAt, Decoding, no_head, columns_by, DecodesInto, refusal, Decodes}
+use Rattle.table.specs.Columns.{ByRow, Whole, table_of, Holds, HoldsLabels, OneWay, no_columns, no_labels}
+use Rattle.table.specs.Refusal.{number_of}
+use Rattle.std.specs.Prelude.{Result, Ok, Err}
+use Rattle.decoding.specs.Decoded.{StandsAt, DecodingTo, DecodesInto, Decodes}
 use Rattle.table.specs.Rows.{IsRow}
-use Rattle.table.specs.declared.Answer.{Answer}
+use Rattle.table.specs.declared.refusals.Reason.{Reason}
+use Rattle.table.specs.declared.refusals.Refusal.{Refusal}
+use Rattle.table.proofs.Reasons.{not_done, refused_not, same_refusal}
 use Rattle.table.specs.declared.Row.{Row}
 use Rattle.table.specs.declared.columns.Columns.{Columns}
-use Rattle.decoding.specs.declared.Head.{Head}
 use Rattle.decoding.specs.declared.Decoded.{Decoded}
 use Rattle.table.proofs.ByRow.{by_row_start, by_row_put, by_row_all, past_end}
 use Rattle.table.proofs.Faults.{passed_of}
 use Rattle.table.proofs.RowSizes.{label_two, label_none, last_way, last_label}
 
-pub decoding_start : (t : Table)
-    → Decoding t 0 (replicate max_rows 0) (replicate max_rows 0) (replicate max_rows 0) (replicate max_rows 0)
+pub decoding_start : (t : Table) → DecodingTo t 0 no_columns
 decoding_start t = record {
   costs = by_row_start t.cost;
   periods = by_row_start t.period;
@@ -44,9 +46,18 @@ decoding_start t = record {
   seconds = by_row_start t.second;
 }
 
-pub decoding_next : {t : Table} {i : ℕ} {cost period first second : List ℕ} {c p f s : ℕ} → Decoding t i cost period first second
+pub decoding_next : {t : Table} {i : ℕ} {k : Columns} {c p f s : ℕ} → DecodingTo t i k
     → i < max_rows → c ≡ t.cost i → p ≡ t.period i → f ≡ t.first i → s ≡ t.second i
-    → Decoding t (i + 1) (set cost i c) (set period i p) (set first i f) (set second i s)
+    → DecodingTo t (i + 1) (record {
+      elements = k.elements;
+      rows = k.rows;
+      rings = k.rings;
+      cost = set k.cost i c;
+      period = set k.period i p;
+      first = set k.first i f;
+      second = set k.second i s;
+      way = k.way;
+    })
 decoding_next {c = c} {p = p} {f = f} {s = s} D l x y z w = record {
   costs = by_row_put c D.costs l x;
   periods = by_row_put p D.periods l y;
@@ -68,6 +79,14 @@ stands_row {f} S e w = record {
   way = S.way ∙ w;
   label = S.label;
 }
+
+-- so is the row that is read of it, with the direction that stands in a column
+pub row_read : {f : List ℕ} {i p r v d : ℕ} {way was : List ℕ} {row : Row} → StandsAt f p d row → p ≡ header_size + row_size r v * i
+    → r ≡ file_rings f → v ≡ version f → d ≡ at way i → way ≡ was → HoldsLabels (file_table f).way was
+    → IsRow (unlabelled (file_table f)) i row
+row_read {i = i} S e r v d w H =
+    stands_row S (e ∙ ap₂ (λ (x y : ℕ). header_size + row_size x y * i) r v)
+    (d ∙ ap (λ (xs : List ℕ). at xs i) w ∙ ap (λ (g : ℕ → ℕ). g i) H.labels)
 
 -- with one ring no direction is read
 pub file_one_way : (f : List ℕ) → OneWay (file_rings f) (file_table f).rows (file_table f).way
@@ -139,10 +158,10 @@ label_past {f} {i} w l = ap (label_in (file_rings f)) (last_past f w i l) ∙ la
 -- ---- a whole file's columns
 
 pub decoding_end : {f : List ℕ} (c : Columns) → Whole f → c.elements ≡ (file_table f).elements → c.rows ≡ (file_table f).rows
-    → c.rings ≡ file_rings f → Decoding (file_table f) c.rows c.cost c.period c.first c.second
-    → HoldsLabels (file_table f).way c.way → Holds (file_table f) c
+    → c.rings ≡ file_rings f → DecodingTo (file_table f) (file_table f).rows c → HoldsLabels (file_table f).way c.way
+    → Holds (file_table f) c
 decoding_end {f} c w m n r D W =
-    let past : (i : ℕ) → c.rows ≤ i → Blank (file_table f) i = λ i l. blank_past w (rw n at l) in
+    let past : (i : ℕ) → (file_table f).rows ≤ i → Blank (file_table f) i = λ i l. blank_past w l in
     let cost : at c.cost ≡ (file_table f).cost = by_row_all D.costs (λ i l. (past i l).cost) in
     let period : at c.period ≡ (file_table f).period = by_row_all D.periods (λ i l. (past i l).period) in
     let first : at c.first ≡ (file_table f).first = by_row_all D.firsts (λ i l. (past i l).first) in
@@ -208,53 +227,49 @@ module _ (f : List ℕ) where
 
 -- ---- the answer beside the columns
 
-module _ (f : List ℕ) (a : Answer) where
+-- nothing is counted
+abbrev pub Uncounted : Columns → Type 0
+Uncounted c = (c.elements ≡ 0) × (c.rows ≡ 0) × (c.rings ≡ 0)
+
+pub uncounted : {c : Columns} → c ≡ no_columns → Uncounted c
+uncounted e = (ap (λ (c : Columns). c.elements) e, ap (λ (c : Columns). c.rows) e, ap (λ (c : Columns). c.rings) e)
+
+module _ (f : List ℕ) where
   -- the header is refused
-  pub into_header : {cost period first second way : List ℕ} {n p : ℕ} → Answers (header_checks f) n p → n ≢ 0 → a.number ≡ n → a.place ≡ p
-      → DecodesInto (file_checks f) (file_table f) (no_head a) cost period first second way
+  pub into_header : (r : Reason) {c : Columns} → Answers (header_checks f) (number_of r) 0 → Uncounted c
+      → DecodesInto (file_checks f) (file_table f) (Err (record { reason = r; place = 0 })) c
   unfolding file_checks
-  into_header {n = n} {p = p} h z e q = record {
-    answers = rw (e, q) (stopped (header_checks f) (row_checks (file_table f)) n p z h);
-    passed = λ k. absurd (z (sym e ∙ k));
-    refused = λ k. refl;
+  into_header r h z = record {
+    answers = stopped (header_checks f) (row_checks (file_table f)) (number_of r) 0 (not_done r) h;
+    passed = tt;
+    refused = z;
   }
 
-  module _ (s : None (header_checks f)) (h : Answers (row_checks (file_table f)) a.number a.place) where
-    rows_decide : Answers (file_checks f) a.number a.place
-    unfolding file_checks
-    rows_decide = joined (header_checks f) (row_checks (file_table f)) a.number a.place s h
-
+  module _ (s : None (header_checks f)) where
     -- a row is refused
-    pub into_row : {cost period first second way : List ℕ} → a.number ≢ 0
-        → DecodesInto (file_checks f) (file_table f) (no_head a) cost period first second way
-    into_row z = record { answers = rows_decide; passed = λ k. absurd (z k); refused = λ k. refl }
+    pub into_row : (r : Refusal) {c : Columns} → Answers (row_checks (file_table f)) (number_of r.reason) r.place → Uncounted c
+        → DecodesInto (file_checks f) (file_table f) (Err r) c
+    unfolding file_checks
+    into_row r h z = record {
+      answers = joined (header_checks f) (row_checks (file_table f)) (number_of r.reason) r.place s h;
+      passed = tt;
+      refused = z;
+    }
 
-    pub into_all : {cost period first second way : List ℕ} {m n r : ℕ} → a.number ≡ 0
-        → (let b : Head = record { answer = a; elements = m; rows = n; rings = r } in
-        Holds (file_table f) (columns_by b cost period first second way)
-        → DecodesInto (file_checks f) (file_table f) b cost period first second way)
-    into_all e H = record { answers = rows_decide; passed = λ k. H; refused = λ k. absurd (k e) }
+    pub into_all : {c : Columns} → Answers (row_checks (file_table f)) 0 0 → Holds (file_table f) c
+        → DecodesInto (file_checks f) (file_table f) (Ok tt) c
+    unfolding file_checks
+    into_all h H = record {
+      answers = joined (header_checks f) (row_checks (file_table f)) 0 0 s h;
+      passed = H;
+      refused = tt;
+    }
 
 -- where no check applies, the file is as long as it says
-pub whole_of : (f : List ℕ) (a : Answer) → a.number ≡ 0 → Answers (file_checks f) a.number a.place → Whole f
-whole_of f a z A =
-    let p = passed_of f a.place (rw z at A) in
+pub whole_of : (f : List ℕ) → Answers (file_checks f) 0 0 → Whole f
+whole_of f A =
+    let p = passed_of f 0 A in
     record { size = p.size; few = p.sound.rows_high }
-
--- with labels, in one struct
-module _ {cs : List Check} {t : Labelled} {h : Head} {cost period first second way : List ℕ}
-    (D : DecodesInto cs t.table h cost period first second way) where
-  pub decodes_refused : h.answer.number ≢ 0 → Decodes cs t (refusal h.answer)
-  decodes_refused z = record {
-    answers = D.answers;
-    passed = λ k. absurd (z k);
-    labelled = λ k. absurd (z k);
-    refused = λ k. (refl, refl);
-  }
-
-  pub decodes_all : {xs : List ℕ} → h.answer.number ≡ 0 → HoldsLabels t.label xs
-      → Decodes cs t (record { answer = h.answer; columns = columns_by h cost period first second way; labels = xs })
-  decodes_all e L = record { answers = D.answers; passed = D.passed; labelled = λ k. L; refused = λ k. absurd (k e) }
 
 -- ---- only one answer fits
 
@@ -285,30 +300,24 @@ pub labels_only : {g : ℕ → ℕ} {xs ys : List ℕ} → HoldsLabels g xs → 
 labels_only {g} {xs} {ys} X Y =
     ext_get_or 0 xs ys (X.size ∙ sym Y.size) (λ i l. ap (λ (h : ℕ → ℕ). h i) (X.labels ∙ sym Y.labels))
 
-pub decodes_only : {cs : List Check} {t : Labelled} {r s : Decoded} → Decodes cs t r → Decodes cs t s → r ≡ s
-decodes_only {cs} {t} {r} {s} D E =
-    let z = answers_only cs _ _ _ _ D.answers E.answers in
-    let same = go z.0 (ℕ_discrete r.answer.number 0) in
-    λ k. record { answer = record { number = z.0 k; place = z.1 k }; columns = same.0 k; labels = same.1 k }
-  where
-    go : r.answer.number ≡ s.answer.number → Dec (r.answer.number ≡ 0) → (r.columns ≡ s.columns) × (r.labels ≡ s.labels)
-    go e (yes h) =
-        let g = sym e ∙ h in
-        (holds_only (D.passed h) (E.passed g), labels_only (D.labelled h) (E.labelled g))
-    go e (no h) =
-        let a = D.refused h in
-        let b = E.refused (λ q. h (e ∙ q)) in
-        (a.0 ∙ sym b.0, a.1 ∙ sym b.1)
+pub decodes_only : {cs : List Check} {t : Labelled} {r s : Result Decoded Refusal} → Decodes cs t r → Decodes cs t s → r ≡ s
+decodes_only {r = Ok c} {s = Ok d} D E =
+    let same = holds_only D.passed E.passed in
+    let labels = labels_only D.labelled E.labelled in
+    λ i. Ok (record { columns = same i; labels = labels i })
+decodes_only {cs} {r = Ok c} {s = Err e} D E = refused_not cs e D.answers E.answers
+decodes_only {cs} {r = Err e} {s = Ok d} D E = refused_not cs e E.answers D.answers
+decodes_only {cs} {r = Err e} {s = Err g} D E =
+    same_refusal cs e g D.answers E.answers
 
-pub into_only : {cs : List Check} {t : Table} {h k : Head} {cost period first second way cost' period' first' second' way' : List ℕ}
-    → DecodesInto cs t h cost period first second way → DecodesInto cs t k cost' period' first' second' way' → h ≡ k
-into_only {cs} {t} {h} {k} D E =
-    let z = answers_only cs _ _ _ _ D.answers E.answers in
-    let answer : h.answer ≡ k.answer = λ i. record { number = z.0 i; place = z.1 i } in
-    go answer z.0 (ℕ_discrete h.answer.number 0)
-  where
-    go : h.answer ≡ k.answer → h.answer.number ≡ k.answer.number → Dec (h.answer.number ≡ 0) → h ≡ k
-    go a e (yes y) =
-        let same = holds_only (D.passed y) (E.passed (sym e ∙ y)) in
-        λ i. record { answer = a i; elements = (same i).elements; rows = (same i).rows; rings = (same i).rings }
-    go a e (no n) = D.refused n ∙ ap no_head a ∙ sym (E.refused (λ q. n (e ∙ q)))
+pub into_only : {cs : List Check} {t : Table} {a b : Result Unit Refusal} {c d : Columns} → DecodesInto cs t a c → DecodesInto cs t b d
+    → (a ≡ b) × (c.elements ≡ d.elements) × (c.rows ≡ d.rows) × (c.rings ≡ d.rings)
+into_only {a = Ok _} {b = Ok _} D E =
+    let same = holds_only D.passed E.passed in
+    (refl, ap (λ (c : Columns). c.elements) same, ap (λ (c : Columns). c.rows) same, ap (λ (c : Columns). c.rings) same)
+into_only {cs} {a = Ok _} {b = Err e} D E = refused_not cs e D.answers E.answers
+into_only {cs} {a = Err e} {b = Ok _} D E = refused_not cs e E.answers D.answers
+into_only {cs} {a = Err e} {b = Err g} D E =
+    let x = D.refused in
+    let y = E.refused in
+    (same_refusal cs e g D.answers E.answers, x.0 ∙ sym y.0, x.1 ∙ sym y.1, x.2 ∙ sym y.2)

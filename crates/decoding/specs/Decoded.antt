@@ -1,29 +1,23 @@
 -- What is decoded of a file.
 --
 --   StandsAt f p d r   r has the numbers that stand at byte p of file f, direction d and label 0
---   Decoding t i cost period first second
---                      the columns hold the first i rows of t, and 0 in every other place
---   Empty cost period first second way
---                      columns of nothing but 0
---   no_head a           answer a beside no numbers
---   columns_by h ..     the columns of the table that has the numbers of h
---   DecodesInto cs t h ..
---                      h answers the checks cs, and where none of them applies its numbers and the columns are those of table t: only one h
---                      does, and then only such columns (proofs/Decoding)
---   refusal a          answer a beside no columns and no labels
+--   DecodingTo t i c   the columns c hold the first i rows of t, but for their directions, and 0 in every other place
+--   SameBeside c d     beside those columns, c and d are the same
+--   DecodesInto cs t a c
+--                      a answers the checks cs; where none of them applies, c holds table t, and else it counts no elements, rows or rings:
+--                      only one a does, and then only one c that holds a table (proofs/Decoding)
 --   Decodes cs t r     r answers the checks cs, and holds table t and its labels where none of them applies: only one r does
 --                      (proofs/Decoding)
-use Rattle.std.specs.Prelude.{◌≡◌, ◌≢◌, List, ℕ, ◌+◌, replicate}
-use Rattle.rules.specs.Bounds.{max_rows}
+use Rattle.std.specs.Prelude.{◌≡◌, List, ℕ, ◌+◌, Result, IfOk, IfErr}
 use Rattle.numbers.specs.Lists.{at}
 use Rattle.rules.specs.Bus.{Table, Labelled}
 use Rattle.rules.specs.TableFile.{read16}
 use Rattle.rules.specs.Refusals.{Check, Answers}
-use Rattle.table.specs.Columns.{ByRow, no_columns, no_labels, Holds, HoldsLabels}
-use Rattle.table.specs.declared.Answer.{Answer}
+use Rattle.table.specs.Columns.{ByRow, Holds, HoldsLabels}
+use Rattle.table.specs.Refusal.{number, place}
 use Rattle.table.specs.declared.Row.{Row}
 use Rattle.table.specs.declared.columns.Columns.{Columns}
-use Rattle.decoding.specs.declared.Head.{Head}
+use Rattle.table.specs.declared.refusals.Refusal.{Refusal}
 use Rattle.decoding.specs.declared.Decoded.{Decoded}
 
 pub record StandsAt (f : List ℕ) (p d : ℕ) (r : Row) : Type 0 where
@@ -34,44 +28,24 @@ pub record StandsAt (f : List ℕ) (p d : ℕ) (r : Row) : Type 0 where
   pub way : r.way ≡ d
   pub label : r.label ≡ 0
 
-pub record Decoding (t : Table) (i : ℕ) (cost period first second : List ℕ) : Type 0 where
-  pub costs : ByRow i t.cost cost
-  pub periods : ByRow i t.period period
-  pub firsts : ByRow i t.first first
-  pub seconds : ByRow i t.second second
+pub record DecodingTo (t : Table) (i : ℕ) (c : Columns) : Type 0 where
+  pub costs : ByRow i t.cost c.cost
+  pub periods : ByRow i t.period c.period
+  pub firsts : ByRow i t.first c.first
+  pub seconds : ByRow i t.second c.second
 
-pub record Empty (cost period first second way : List ℕ) : Type 0 where
-  pub costs : cost ≡ replicate max_rows 0
-  pub periods : period ≡ replicate max_rows 0
-  pub firsts : first ≡ replicate max_rows 0
-  pub seconds : second ≡ replicate max_rows 0
-  pub ways : way ≡ replicate max_rows 0
+pub record SameBeside (c d : Columns) : Type 0 where
+  pub elements : d.elements ≡ c.elements
+  pub rows : d.rows ≡ c.rows
+  pub rings : d.rings ≡ c.rings
+  pub ways : d.way ≡ c.way
 
-abbrev pub no_head : Answer → Head
-no_head a = record { answer = a; elements = 0; rows = 0; rings = 0 }
+pub record DecodesInto (cs : List Check) (t : Table) (a : Result Unit Refusal) (c : Columns) : Type 0 where
+  pub answers : Answers cs (number a) (place a)
+  pub passed : IfOk a (λ _. Holds t c)
+  pub refused : IfErr a (λ _. (c.elements ≡ 0) × (c.rows ≡ 0) × (c.rings ≡ 0))
 
-abbrev pub columns_by : Head → (cost period first second way : List ℕ) → Columns
-columns_by h cost period first second way = record {
-  elements = h.elements;
-  rows = h.rows;
-  rings = h.rings;
-  cost = cost;
-  period = period;
-  first = first;
-  second = second;
-  way = way;
-}
-
-pub record DecodesInto (cs : List Check) (t : Table) (h : Head) (cost period first second way : List ℕ) : Type 0 where
-  pub answers : Answers cs h.answer.number h.answer.place
-  pub passed : h.answer.number ≡ 0 → Holds t (columns_by h cost period first second way)
-  pub refused : h.answer.number ≢ 0 → h ≡ no_head h.answer
-
-abbrev pub refusal : Answer → Decoded
-refusal a = record { answer = a; columns = no_columns; labels = no_labels }
-
-pub record Decodes (cs : List Check) (t : Labelled) (r : Decoded) : Type 0 where
-  pub answers : Answers cs r.answer.number r.answer.place
-  pub passed : r.answer.number ≡ 0 → Holds t.table r.columns
-  pub labelled : r.answer.number ≡ 0 → HoldsLabels t.label r.labels
-  pub refused : r.answer.number ≢ 0 → (r.columns ≡ no_columns) × (r.labels ≡ no_labels)
+pub record Decodes (cs : List Check) (t : Labelled) (r : Result Decoded Refusal) : Type 0 where
+  pub answers : Answers cs (number r) (place r)
+  pub passed : IfOk r (λ d. Holds t.table d.columns)
+  pub labelled : IfOk r (λ d. HoldsLabels t.label d.labels)

@@ -1,18 +1,19 @@
 // From a file to a table in columns: the one place where the bytes of rows are read.
 #![tactic(auto)]
 
-ghost use Rattle.std.specs.Prelude.{◌≡◌, ◌≢◌, ◌+◌, ◌*◌, ◌≤◌, ◌<◌, length, replicate};
+ghost use Rattle.std.specs.Prelude.{◌≡◌, ◌≢◌, ◌+◌, ◌*◌, ◌≤◌, ◌<◌, length, replicate, IfOk};
 ghost use Rattle.rules.specs.Bounds.{max_rows};
 ghost use Rattle.rules.specs.TableFile.{table_mark, version_2, header_size, row_size, mark, version};
 ghost use Rattle.rules.specs.TableFile.{file_rings, file_table, file_labelled};
 ghost use Rattle.rules.specs.Refusals.{Answers, header_checks, row_checks, file_checks};
-ghost use Rattle.table.specs.Columns.{Whole, HoldsLabels};
-ghost use Rattle.decoding.specs.Decoded.{StandsAt, Decoding, Empty, no_head, DecodesInto, refusal, Decodes};
+ghost use Rattle.table.specs.Columns.{Whole, HoldsLabels, no_columns};
+ghost use Rattle.table.specs.Refusal.{why, number, place};
+ghost use Rattle.decoding.specs.Decoded.{StandsAt, DecodingTo, SameBeside, DecodesInto, Decodes};
 ghost use Rattle.numbers.specs.Decides.{Decides};
 
 use table::{
-    Answer, Columns, Row, Table, is_plain, is_strange, is_unknown, no_columns, read16, rings_of,
-    row_bytes, row_fault, row_place, size_fault, version_of, way_at,
+    Columns, Reason, Refusal, Row, Table, is_plain, is_strange, is_unknown, no_columns, read16,
+    rings_of, row_bytes, row_fault, row_place, size_fault, version_of, way_at,
 };
 
 // Whether a file has a header with the mark of one ring and version 2.
@@ -46,19 +47,19 @@ pub fn has_other_mark(file: &[u8]) -> bool
 }
 
 // Checks 1 to 6.
-fn header_fault(file: &[u8]) -> u32
-    ensures { Answers (header_checks file.now) result 0 }
+fn header_fault(file: &[u8]) -> Result<(), Reason>
+    ensures { Answers (header_checks file.now) (why result) 0 }
 {
     if file.len() < Table::HEADER {
-        return Answer::SHORT_FILE;
+        return Err(Reason::ShortFile);
     }
     if is_strange(file) {
-        return Answer::WRONG_MARK;
+        return Err(Reason::WrongMark);
     }
     let rings = rings_of(file);
     let version = version_of(file);
     if is_unknown(rings, version) {
-        return Answer::WRONG_VERSION;
+        return Err(Reason::WrongVersion);
     }
     let table = Table::of(file);
     size_fault(
@@ -88,11 +89,8 @@ fn put_ways(file: &[u8], way: &mut [u8; Table::ROWS])
     if rings_of(file) != Table::RINGS {
         return;
     }
-    let rows = Table::of(file).rows;
-    let mut i: usize = 0;
-    while i < rows {
+    for i in 0..Table::of(file).rows {
         way[i] = file[row_in(file, i) + Table::ROW_BYTES];
-        i += 1;
     }
 }
 
@@ -117,40 +115,29 @@ fn row_from(file: &[u8], at: usize, way: usize) -> Row
     }
 }
 
-// Checks 7 to 9 and 26 of that table, whose directions are read. Where all pass, its other columns stand in the arrays, which are 0: a row
-// is checked as it is written, so that no column is gone through twice.
-fn put_rows(
-    file: &[u8],
-    cost: &mut [u16; Table::ROWS],
-    period: &mut [u16; Table::ROWS],
-    first: &mut [u8; Table::ROWS],
-    second: &mut [u8; Table::ROWS],
-    way: &[u8; Table::ROWS],
-) -> Answer
-    requires { Whole file.now × Decoding (file_table file.now) 0 cost.old period.old first.old second.old
-        × HoldsLabels (file_table file.now).way way.now }
-    ensures { Answers (row_checks (file_table file.now)) result.number result.place
-        × (result.number ≡ 0 → Decoding (file_table file.now) (file_table file.now).rows
-        cost.new period.new first.new second.new) }
+// Checks 7 to 9 and 26 of that table, whose directions are read. Where all pass, its other columns are written, which are 0: a row is
+// checked as it is written, so that no column is gone through twice.
+fn put_rows(file: &[u8], table: &mut Columns) -> Result<(), Refusal>
+    requires { Whole file.now × DecodingTo (file_table file.now) 0 table.old × HoldsLabels (file_table file.now).way table.old.way }
+    ensures answers { Answers (row_checks (file_table file.now)) (number result) (place result) }
+    ensures rows { IfOk result (λ _. DecodingTo (file_table file.now) (file_table file.now).rows table.new) }
+    ensures rest { SameBeside table.old table.new }
 {
-    let table = Table::of(file);
+    let head = Table::of(file);
     let rings = rings_of(file);
     let version = version_of(file);
-    let mut i: usize = 0;
-    while i < table.rows {
+    for i in 0..head.rows {
         let at = row_place(rings, version, i);
-        let row = row_from(file, at, way_at(way, rings, i));
-        let number = row_fault(table.elements, rings, row);
-        if number != Answer::DONE {
-            return Answer::at(number, i);
+        let row = row_from(file, at, way_at(&table.way, rings, i));
+        if let Err(reason) = row_fault(head.elements, rings, row) {
+            return Err(Refusal::at(reason, i));
         }
-        cost[i] = row.cost;
-        period[i] = row.period;
-        first[i] = file[at + 4];
-        second[i] = file[at + 5];
-        i += 1;
+        table.cost[i] = row.cost;
+        table.period[i] = row.period;
+        table.first[i] = file[at + 4];
+        table.second[i] = file[at + 5];
     }
-    Answer::done()
+    Ok(())
 }
 
 // Its labels: with one ring, version 2 has them after those six bytes; else all are 0.
@@ -165,121 +152,42 @@ fn labels_of(file: &[u8]) -> [u16; Table::ROWS]
     if version_of(file) != Table::VERSION_2 {
         return labels;
     }
-    let rows = Table::of(file).rows;
-    let mut i: usize = 0;
-    while i < rows {
+    for i in 0..Table::of(file).rows {
         labels[i] = read16(file, row_in(file, i) + Table::ROW_BYTES);
-        i += 1;
     }
     labels
 }
 
-// What a file says of its table beside the columns, or why it is refused: then the rest is 0.
-#[derive(Clone, Copy)]
-pub struct Head {
-    pub answer: Answer,
-    pub elements: usize,
-    pub rows: usize,
-    pub rings: usize,
-}
-
-impl Head {
-    pub fn refused(answer: Answer) -> Head
-        ensures { result ≡ no_head answer }
-    {
-        Head {
-            answer: answer,
-            elements: 0,
-            rows: 0,
-            rings: 0,
-        }
-    }
-}
-
-// Checks 1 to 9 and 26. The columns of a passed file are written to arrays that are 0: lent, they are nowhere copied.
-pub fn decode_into(
-    file: &[u8],
-    cost: &mut [u16; Table::ROWS],
-    period: &mut [u16; Table::ROWS],
-    first: &mut [u8; Table::ROWS],
-    second: &mut [u8; Table::ROWS],
-    way: &mut [u8; Table::ROWS],
-) -> Head
-    requires { Empty cost.old period.old first.old second.old way.old }
-    ensures { DecodesInto (file_checks file.now) (file_table file.now) result
-        cost.new period.new first.new second.new way.new }
+// Checks 1 to 9 and 26. The table of a passed file is written to columns that are 0: lent, they are nowhere copied.
+pub fn decode_into(file: &[u8], table: &mut Columns) -> Result<(), Refusal>
+    requires { table.old ≡ no_columns }
+    ensures { DecodesInto (file_checks file.now) (file_table file.now) result table.new }
 {
-    let number = header_fault(file);
-    if number != Answer::DONE {
-        return Head::refused(Answer::at(number, 0));
-    }
-    put_ways(file, way);
-    let answer = put_rows(file, cost, period, first, second, way);
-    if answer.number != Answer::DONE {
-        return Head::refused(answer);
-    }
-    let table = Table::of(file);
-    Head {
-        answer: answer,
-        elements: table.elements,
-        rows: table.rows,
-        rings: rings_of(file),
-    }
+    header_fault(file)?;
+    put_ways(file, &mut table.way);
+    put_rows(file, table)?;
+    let head = Table::of(file);
+    table.elements = head.elements;
+    table.rows = head.rows;
+    table.rings = rings_of(file);
+    Ok(())
 }
 
-// A file's table and its labels, or why it is refused.
+// A file's table and its labels.
 #[derive(Clone, Copy)]
 pub struct Decoded {
-    pub answer: Answer,
     pub columns: Columns,
     pub labels: [u16; Table::ROWS],
 }
 
-impl Decoded {
-    pub fn refused(answer: Answer) -> Decoded
-        ensures { result ≡ refusal answer }
-    {
-        Decoded {
-            answer: answer,
-            columns: no_columns(),
-            labels: [0; Table::ROWS],
-        }
-    }
-}
-
-// The same with labels, in one struct. Columns and labels are a passed file's; all 0 beside a refusal.
-pub fn decode(file: &[u8]) -> Decoded
+// The same with labels, in one struct.
+pub fn decode(file: &[u8]) -> Result<Decoded, Refusal>
     ensures { Decodes (file_checks file.now) (file_labelled file.now) result }
 {
-    let mut cost = [0u16; Table::ROWS];
-    let mut period = [0u16; Table::ROWS];
-    let mut first = [0u8; Table::ROWS];
-    let mut second = [0u8; Table::ROWS];
-    let mut way = [0u8; Table::ROWS];
-    let head = decode_into(
-        file,
-        &mut cost,
-        &mut period,
-        &mut first,
-        &mut second,
-        &mut way,
-    );
-    let answer = head.answer;
-    if answer.number != Answer::DONE {
-        return Decoded::refused(answer);
-    }
-    Decoded {
-        answer: answer,
-        columns: Columns {
-            elements: head.elements,
-            rows: head.rows,
-            rings: head.rings,
-            cost: cost,
-            period: period,
-            first: first,
-            second: second,
-            way: way,
-        },
+    let mut columns = no_columns();
+    decode_into(file, &mut columns)?;
+    Ok(Decoded {
+        columns,
         labels: labels_of(file),
-    }
+    })
 }

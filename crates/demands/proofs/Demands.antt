@@ -1,6 +1,6 @@
 -- The three demands, proved of every answer that the calls' contracts allow.
-use mathlib.Core.Path.{◌≡◌, sym, ap, ◌∙◌, subst}
-use mathlib.Core.Logic.{⊎_elim}
+use mathlib.Core.Path.{◌≡◌, refl, sym, ap, ◌∙◌, subst}
+use mathlib.Core.Logic.{⊎_elim, ◌≢◌}
 use Prim.Native.Nat.{ℕ, ◌+◌, ◌-◌, ◌*◌}
 use native.Mathlib.Omega.{arith}
 use lib.ListN.{length, take}
@@ -21,8 +21,12 @@ use Rattle.verdict.proofs.Judging.{admits_by, demand_2}
 use Rattle.limited.proofs.Checked.{limited_numbered}
 use Rattle.promises.specs.Steps.{Serves}
 use Rattle.promises.proofs.Steps.{step_serves, run_serves}
-use Rattle.planner.specs.State.{stage_of, planner_of}
-use Rattle.planner.proofs.Only.{step_only}
+use Rattle.std.specs.Prelude.{Result, Ok, Err}
+use Rattle.table.specs.Refusal.{number, place}
+use Rattle.table.specs.declared.refusals.Refusal.{Refusal}
+use Rattle.planner.specs.declared.Planner.{Planner}
+use Rattle.planner.specs.State.{stage_of, planner_of, after}
+use Rattle.planner.proofs.MovedOnly.{moved_in_place_as_step}
 use Rattle.planner.proofs.Asks.{file_proper}
 use Rattle.planner.proofs.Promises.{admitted_table, steps_run, standings_between, never_refused, whole_is_steps, carried, exactly_one_plan}
 use Rattle.limited.proofs.Promises.{limited_proper, same_plan}
@@ -55,6 +59,11 @@ use Rattle.demands.proofs.Answered.{
 
 -- ---- demand 1
 
+-- a refused step leaves the planner as it was
+unmoved : (p : Planner) (r : Result Planner Refusal) → number r ≢ 0 → after p r ≡ p
+unmoved p (Ok q) h = absurd (h refl)
+unmoved p (Err e) h = refl
+
 first : Demand1
 first = record {
   read = read_answered;
@@ -86,7 +95,7 @@ first = record {
   verdict_refused = λ a r c h. c.refused h;
   list_refused = λ a was now number place sets c h. c.refused h;
   plan_refused = λ a r was now c h. c.planned.refused h;
-  step_refused = λ a p r was now c h. (c.same h, (c.stepped.refused h).1);
+  step_refused = λ a p r was now c h. (unmoved p r h, (c.stepped.refused h).1);
   standings_refused = λ a p r c h. c.stood.refused h;
   raise_refused = λ f was now number place c h. c.refused h;
 }
@@ -150,15 +159,15 @@ third = record {
   same_plan = same_plan;
   whole_is_steps = whole_is_steps;
   never_refused = never_refused;
-  in_place = λ f p q a r was now then m c. step_only (file_ask f) p _ r was now then m c;
+  in_place = λ f p q a r was now then m c. moved_in_place_as_step f p q a r was now then m c;
   step_serves = λ a p r was now k P c z s.
       let t = a.table in
-      let n = step_passed a (planner_of p) (length was) r.answer.place P.numbered (rw z at c.stepped.answers) in
+      let n = step_passed a (planner_of p) (length was) (place r) P.numbered (rw z at c.stepped.answers) in
       let w = c.stepped.done z in
       let l : ℕ = end t k - start t k in
-      let S = step_serves t (planner_of p) (planner_of r.planner) k w.0 (P.admissible n.0) n.1 (ap stage_of s) w.1 in
+      let S = step_serves t (planner_of p) (planner_of (after p r)) k w.0 (P.admissible n.0) n.1 (ap stage_of s) w.1 in
       let e : take l now ≡ w.0 = ap (take l) w.2 ∙ lent_take w.0 was l (omega (arith, S.size)) in
-      subst (Serves t (start t k) (end t k) (planner_of p) (planner_of r.planner)) (sym e) S;
+      subst (Serves t (start t k) (end t k) (planner_of p) (planner_of (after p r))) (sym e) S;
   first_steps = λ a k p ws P A s. run_serves a.table k (planner_of p) ws (admitted_table a P A) (steps_run s);
   relayed_carried = relayed_carried;
   two_held = two_held;

@@ -11,7 +11,7 @@
 -- relation, is proved of its function; a clause below speaks of every answer that the contract allows. `was` and `now` are what a lent
 -- slice holds before and after, `f` is the file. A clause about an ask `a` speaks of the calls on a file, of those with limits (#108) and
 -- of those with a relay (#113) alike.
-use Rattle.std.specs.Prelude.{◌≡◌, ◌⊎◌, ◌↔◌, ◌≢◌, List, ℕ, ◌+◌, ◌-◌, ◌*◌, ◌≤◌, ◌<◌, pos, length, take, get_or}
+use Rattle.std.specs.Prelude.{◌≡◌, ◌⊎◌, ◌↔◌, ◌≢◌, List, ℕ, ◌+◌, ◌-◌, ◌*◌, ◌≤◌, ◌<◌, ℤ, pos, length, take, get_or, Result}
 use Rattle.numbers.specs.Lists.{at}
 use Rattle.rules.specs.Bounds.{max_rows}
 use Rattle.rules.specs.Bus.{shared, common}
@@ -41,16 +41,15 @@ use Rattle.rules.specs.Refusals.{
 }
 use Rattle.rules.specs.Calls.{lent, no_mark, Read, ReadVersion1, Written, Met, Crowded, Admitted, Listed, Ask, file_ask, line_ask}
 use Rattle.rules.specs.Raising.{raised_file, raise_checks, Raised}
-use Rattle.table.specs.declared.Answer.{Answer}
-use Rattle.verdict.specs.declared.Verdict.{Verdict}
-use Rattle.verdict.specs.Verdict.{number_of, cut_of, other_of, interval_of, hyper_of, load_of, sets_of, JudgedBy, IsVerdict}
+use Rattle.table.specs.Refusal.{number, place}
+use Rattle.table.specs.declared.refusals.Refusal.{Refusal}
+use Rattle.verdict.specs.declared.Admitted.{Admitted as Values}
+use Rattle.verdict.specs.Verdict.{cut_of, other_of, interval_of, hyper_of, load_of, sets_of, JudgedBy, IsVerdict}
 use Rattle.verdict.specs.Demand.{Unrefused}
 use Rattle.promises.specs.Steps.{Serves, Served}
 use Rattle.planner.specs.declared.Stage.TheVariants.{Due}
 use Rattle.planner.specs.declared.Planner.{Planner}
-use Rattle.planner.specs.declared.MovedOn.{MovedOn}
-use Rattle.planner.specs.declared.Standings.{Standings}
-use Rattle.planner.specs.State.{planner_of}
+use Rattle.planner.specs.State.{planner_of, after, values as values_of}
 use Rattle.planner.specs.Answers.{StepAnswer, StandingsAnswer, PlanAnswer}
 use Rattle.planner.specs.Proper.{Proper, Admits}
 use Rattle.planner.specs.Promises.{FileProper, Steps, StandingsBetween, NeverRefused, WholeIsSteps, Carried, ExactlyOnePlan}
@@ -105,26 +104,26 @@ pub record Demand1 : Type 1 where
   pub met_refused : (f : List ℕ) (i j number place word : ℕ) → Met f i j number place word → number ≢ 0 → word ≡ 0
   pub crowd_refused : (f : List ℕ) (k number place rows segments : ℕ) → Crowded f k number place rows segments → number ≢ 0
       → (rows ≡ 0) × (segments ≡ 0)
-  pub verdict_refused : (a : Ask) (r : Verdict) → JudgedBy a.checks a.table r → number_of r ≢ 0
+  pub verdict_refused : (a : Ask) (r : Result Values Refusal) → JudgedBy a.checks a.table r → number r ≢ 0
       → (cut_of r ≡ 0) × (other_of r ≡ 0) × (interval_of r ≡ 0) × (hyper_of r ≡ 0) × (load_of r ≡ 0) × (sets_of r ≡ 0)
   pub list_refused : (a : Ask) (was now : List ℕ) (number place sets : ℕ) → Listed a was now number place sets → number ≢ 0
       → (sets ≡ 0) × (now ≡ was)
-  pub plan_refused : (a : Ask) (r : Answer) (was now : List ℕ) → PlanAnswer a r was now → r.number ≢ 0 → now ≡ was
-  pub step_refused : (a : Ask) (p : Planner) (r : MovedOn) (was now : List ℕ) → StepAnswer a p r was now
-      → r.answer.number ≢ 0 → (r.planner ≡ p) × (now ≡ was)
-  pub standings_refused : (a : Ask) (p : Planner) (r : Standings) → StandingsAnswer a p r → r.answer.number ≢ 0
-      → (i : ℕ) → i < max_rows → get_or r.values i (pos 0) ≡ pos 0
+  pub plan_refused : (a : Ask) (r : Result Unit Refusal) (was now : List ℕ) → PlanAnswer a r was now → number r ≢ 0 → now ≡ was
+  pub step_refused : (a : Ask) (p : Planner) (r : Result Planner Refusal) (was now : List ℕ) → StepAnswer a p r was now
+      → number r ≢ 0 → (after p r ≡ p) × (now ≡ was)
+  pub standings_refused : (a : Ask) (p : Planner) (r : Result (List ℤ) Refusal) → StandingsAnswer a p r → number r ≢ 0
+      → (i : ℕ) → i < max_rows → get_or (values_of r) i (pos 0) ≡ pos 0
   pub raise_refused : (f was now : List ℕ) (number place : ℕ) → Raised f was now number place → number ≢ 0 → now ≡ was
 
 pub record Demand2 : Type 1 where
   -- A table is admitted exactly if none of the refusals listed for the verdict applies, and with limits or a relay likewise;
-  pub admits : (f : List ℕ) (r : Verdict) → IsVerdict f r → (number_of r ≡ 0) ↔ Unrefused (verdict_checks f)
-  pub admits_limited : (f : List ℕ) (our their : ℕ) (r : Verdict) → JudgedBy (limited_checks f our their) (file_table f) r
-      → (number_of r ≡ 0) ↔ Unrefused (limited_checks f our their)
-  pub admits_relayed : (f : List ℕ) (r : ℕ) (v : Verdict) → JudgedBy (relayed_checks f r) (split (file_table f) r) v
-      → (number_of v ≡ 0) ↔ Unrefused (relayed_checks f r)
+  pub admits : (f : List ℕ) (r : Result Values Refusal) → IsVerdict f r → (number r ≡ 0) ↔ Unrefused (verdict_checks f)
+  pub admits_limited : (f : List ℕ) (our their : ℕ) (r : Result Values Refusal) → JudgedBy (limited_checks f our their) (file_table f) r
+      → (number r ≡ 0) ↔ Unrefused (limited_checks f our their)
+  pub admits_relayed : (f : List ℕ) (r : ℕ) (v : Result Values Refusal) → JudgedBy (relayed_checks f r) (split (file_table f) r) v
+      → (number v ≡ 0) ↔ Unrefused (relayed_checks f r)
   -- then the cut of each ring, L, h, reported load and number of sets are the documents'.
-  pub values : (a : Ask) (r : Verdict) → JudgedBy a.checks a.table r → number_of r ≡ 0
+  pub values : (a : Ask) (r : Result Values Refusal) → JudgedBy a.checks a.table r → number r ≡ 0
       → Admitted a.table (cut_of r) (other_of r) (interval_of r) (hyper_of r) (load_of r) (sets_of r)
   -- What is said of a party depends on its own rows, the element count and its limit alone (#108).
   pub own_rows_only : OwnRowsOnly
@@ -141,14 +140,14 @@ pub record Demand2 : Type 1 where
   pub crowded : (f : List ℕ) (k number place rows segments : ℕ) → Crowded f k number place rows segments → number ≡ 0
       → (ws : List ℕ) × Sets (file_table f) ws × (k < length ws) × (rows ≡ at ws k) × (segments ≡ common (file_table f) (set_at ws k))
   -- A step is the document's: its loads are the greatest that qualify, its words are the loads' slots, and its totals are the slots had.
-  pub steps : (a : Ask) (p : Planner) (r : MovedOn) (was now : List ℕ) → StepAnswer a p r was now → r.answer.number ≡ 0
-      → (ws : List ℕ) × rules.Step a.table (planner_of p) (planner_of r.planner) ws × (now ≡ lent ws was)
+  pub steps : (a : Ask) (p : Planner) (r : Result Planner Refusal) (was now : List ℕ) → StepAnswer a p r was now → number r ≡ 0
+      → (ws : List ℕ) × rules.Step a.table (planner_of p) (planner_of (after p r)) ws × (now ≡ lent ws was)
   -- Loads qualify exactly if each is the row's lag rounded down or up, and so the sum over each set, which fits the interval.
   pub lags : QualifyByLags
   -- Every standing is total × h − (h / period) × cost × slot, 0 past the last row, and lies strictly between −h and h.
-  pub standings : (a : Ask) (p : Planner) (r : Standings) → StandingsAnswer a p r → r.answer.number ≡ 0
-      → ((i : ℕ) → i < a.table.rows → get_or r.values i (pos 0) ≡ rules.standing a.table (planner_of p) i)
-      × ((i : ℕ) → a.table.rows ≤ i → i < max_rows → get_or r.values i (pos 0) ≡ pos 0)
+  pub standings : (a : Ask) (p : Planner) (r : Result (List ℤ) Refusal) → StandingsAnswer a p r → number r ≡ 0
+      → ((i : ℕ) → i < a.table.rows → get_or (values_of r) i (pos 0) ≡ rules.standing a.table (planner_of p) i)
+      × ((i : ℕ) → a.table.rows ≤ i → i < max_rows → get_or (values_of r) i (pos 0) ≡ pos 0)
   pub between : StandingsBetween
   -- A file of either mark and version that passes the reader's checks, with room, is read; what was read is written with its mark in its
   -- version, with room, as it stood in the file.
@@ -188,13 +187,14 @@ pub record Demand3 : Type 1 where
   pub whole_is_steps : WholeIsSteps
   -- A step on any admitted table, from any due state that isn't off and with room, is never refused; the planner handed back isn't off.
   pub never_refused : NeverRefused
-  -- A planner moved on where it is kept gives the same answers as a step.
-  pub in_place : (f : List ℕ) (p q : Planner) (a : Answer) (r : MovedOn) (was now then : List ℕ) → MovedInPlace f p q a was now
-      → StepAnswer (file_ask f) p r was then → (joined q a ≡ r) × (now ≡ then)
+  -- A planner moved on where it is kept gives the same answers as a step, and is then the planner after it.
+  pub in_place : (f : List ℕ) (p q : Planner) (a : Result Unit Refusal) (r : Result Planner Refusal) (was now then : List ℕ)
+      → MovedInPlace f p q a was now
+      → StepAnswer (file_ask f) p r was then → (joined q a ≡ r) × (q ≡ after p r) × (now ≡ then)
   -- Each step keeps rows that share a segment apart, adds to each total the slots that the row moves in, and brings each row to its share.
-  pub step_serves : (a : Ask) (p : Planner) (r : MovedOn) (was now : List ℕ) (k : ℕ) → Proper a → StepAnswer a p r was now
-      → r.answer.number ≡ 0 → p.stage ≡ Due k
-      → Serves a.table (start a.table k) (end a.table k) (planner_of p) (planner_of r.planner)
+  pub step_serves : (a : Ask) (p : Planner) (r : Result Planner Refusal) (was now : List ℕ) (k : ℕ) → Proper a → StepAnswer a p r was now
+      → number r ≡ 0 → p.stage ≡ Due k
+      → Serves a.table (start a.table k) (end a.table k) (planner_of p) (planner_of (after p r))
       (take (end a.table k - start a.table k) now)
   -- So do the first steps of a fresh planner together.
   pub first_steps : (a : Ask) (k : ℕ) (p : Planner) (ws : List ℕ) → Proper a → Admits a → Steps a k p ws

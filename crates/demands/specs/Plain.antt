@@ -5,7 +5,7 @@
 -- The two fills have one contract, `FilledSlots`, and the two whole plans have one, `PlanAnswer`; that each function's answer stands in
 -- its relation is proved of the function. `was` is what a lent slice holds before, `plain` and `now` what it holds after the plain one and
 -- after the other.
-use Rattle.std.specs.Prelude.{◌≡◌, List, ℕ, ◌-◌}
+use Rattle.std.specs.Prelude.{◌≡◌, List, ℕ, ◌-◌, Result}
 use Rattle.numbers.specs.Lists.{at}
 use Rattle.rules.specs.TableFile.{file_table}
 use Rattle.rules.specs.Line.{line_first, line_second}
@@ -13,7 +13,7 @@ use Rattle.rules.specs.Loads.{start, end}
 use Rattle.rules.specs.Interval.{Qualify}
 use Rattle.rules.specs.Calls.{file_ask}
 use Rattle.table.specs.Columns.{ByRow}
-use Rattle.table.specs.declared.Answer.{Answer}
+use Rattle.table.specs.declared.refusals.Refusal.{Refusal}
 use Rattle.placing.specs.Filled.{FilledSlots}
 use Rattle.planner.specs.Answers.{PlanAnswer}
 use Rattle.planner.specs.Proper.{Admits}
@@ -29,5 +29,5 @@ pub record PlainPlanner : Type 1 where
       → plain ≡ now
   -- Whatever bytes are handed in, with whatever room, `plain_plan` and `whole_plan` answer with the same number and place and leave the
   -- same words.
-  pub same_plan : (f : List ℕ) (r s : Answer) (was plain now : List ℕ) → PlanAnswer (file_ask f) r was plain
+  pub same_plan : (f : List ℕ) (r s : Result Unit Refusal) (was plain now : List ℕ) → PlanAnswer (file_ask f) r was plain
       → PlanAnswer (file_ask f) s was now → (r ≡ s) × (plain ≡ now)

@@ -1,5 +1,5 @@
 -- What the program writes, from what the readers and the writers answered. There is room for the rows of every table, so 17 is never given.
-use mathlib.Core.Path.{◌≡◌, sym, ap, ap₂, subst, ◌∙◌}
+use mathlib.Core.Path.{◌≡◌, refl, sym, ap, subst, ◌∙◌}
 use mathlib.Core.Logic.{⊎_elim, ◌≢◌}
 use mathlib.Core.List.{List, [], ◌∷◌, ◌++◌}
 use Prim.Native.Nat.{ℕ, ◌+◌, ◌*◌, ◌≤◌, ◌<◌}
@@ -11,6 +11,11 @@ use Rattle.rules.specs.Text.{text_of}
 use Rattle.rules.specs.Refusals.{Check, Answers, short_output, file_checks, reader_checks}
 use Rattle.rules.specs.Calls.{Read, Written}
 use Rattle.rules.proofs.Answers.{None, none_of, answered, answers_split}
+use Rattle.std.specs.Prelude.{Result, Ok, Err}
+use Rattle.std.specs.Result.{result_unwrap_or}
+use Rattle.table.specs.Refusal.{number, place}
+use Rattle.table.specs.declared.refusals.Refusal.{Refusal}
+use Rattle.text_writer.specs.Lines.{size_in}
 use Rattle.table.proofs.Faults.{file_numbered, passed_none}
 use Rattle.round_trip.proofs.RoundTrip.{Bytes}
 use Rattle.grammar.specs.TableText.{text_rings, text_table, text_checks, text_reader_checks, line_at, column_at, TextRead}
@@ -36,6 +41,11 @@ pub front : {P : List ℕ → Type 0} {was now : List ℕ} {next : ℕ} (size : 
 front size xs a l Q =
     record { bytes = take size xs; allowed = a; puts = Q; fits = omega (arith, Q.after, length-take size xs) }
 
+-- the size that the writer answers
+size_told : (r : Result ℕ Refusal) → result_unwrap_or r 0 ≡ size_in r
+size_told (Ok n) = refl
+size_told (Err e) = refl
+
 -- ---- a text
 
 module _ (t was now : List ℕ) (n p : ℕ) (m : List ℕ) (v M k : ℕ) (R : TextRead t was now n p m v M k)
@@ -46,9 +56,10 @@ module _ (t was now : List ℕ) (n p : ℕ) (m : List ℕ) (v M k : ℕ) (R : Te
       roomy (text_checks t) (length was < row_numbers * (text_table t).rows) n p
       (λ a (l : length was < row_numbers * (text_table t).rows). let z : ⊥ = omega (arith, (text_sound t a).rows_high) in z) R.answers
 
-  pub text_refused : (line column : ℕ) → n ≢ 0 → line ≡ line_at t p → column ≡ column_at t p → FileOf t (text_of (fault n line column))
-  text_refused line column h e f =
-      subst (FileOf t) (sym (ap₂ (λ (i j : ℕ). text_of (fault n i j)) e f)) (refused n p text_answers h)
+  pub text_refused : (number line column : ℕ) → number ≡ n → n ≢ 0 → line ≡ line_at t p → column ≡ column_at t p
+      → FileOf t (text_of (fault number line column))
+  text_refused number line column d h e f =
+      subst (FileOf t) (λ k. text_of (fault (sym d k) (sym e k) (sym f k))) (refused n p text_answers h)
 
   module _ (z : n ≡ 0) where
     none : None (text_checks t)
@@ -81,8 +92,8 @@ module _ (f was now : List ℕ) (n p : ℕ) (m : List ℕ) (v M k : ℕ) (R : Re
       (λ a (l : length was < row_numbers * (file_table f).rows). let z : ⊥ = omega (arith, (passed_none f a).sound.rows_high) in z)
       R.answers
 
-  pub file_refused : n ≢ 0 → TextOf f (text_of (refusal n p))
-  file_refused h = refused n p file_answers h
+  pub file_refused : (number : ℕ) → number ≡ n → n ≢ 0 → TextOf f (text_of (refusal number p))
+  file_refused number e h = subst (λ (m : ℕ). TextOf f (text_of (refusal m p))) (sym e) (refused n p file_answers h)
 
   module _ (z : n ≡ 0) where
     passes : None (file_checks f)
@@ -91,10 +102,19 @@ module _ (f was now : List ℕ) (n p : ℕ) (m : List ℕ) (v M k : ℕ) (R : Re
     pub file_few : k ≤ max_rows
     file_few = omega (arith, (R.done z).3, (passed_none f passes).sound.rows_high)
 
-    pub file_made : (was' now' : List ℕ) (number place size : ℕ) → Bytes f → longest_text ≤ length was'
+    file_made : (was' now' : List ℕ) (number place size : ℕ) → Bytes f → longest_text ≤ length was'
         → TextWritten m v M k (take (row_numbers * k) now) was' now' number place size
         → (size ≤ longest_text) × TextOf f (take size now')
     file_made was' now' number place size b l W =
         let s = file_short f b passes in
         let d = file_then_said f was now p m v M k was' now' number place size (rw z at R) (omega (arith, s)) W in
         (omega (arith, s, d.2), subst (TextOf f) (sym d.3) (made (answered (file_checks f) passes)))
+
+    -- the size that the writer answers is that of the text
+    pub file_told : (was' now' : List ℕ) (r : Result ℕ Refusal) (size : ℕ) → size ≡ result_unwrap_or r 0 → Bytes f → longest_text ≤ length was'
+        → TextWritten m v M k (take (row_numbers * k) now) was' now' (number r) (place r) (size_in r)
+        → (size ≤ longest_text) × TextOf f (take size now')
+    file_told was' now' r size e b l W =
+        let q : size ≡ size_in r = e ∙ size_told r in
+        let d = file_made was' now' (number r) (place r) (size_in r) b l W in
+        (omega (arith, q, d.0), subst (λ (j : ℕ). TextOf f (take j now')) (sym q) d.1)

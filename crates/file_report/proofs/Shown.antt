@@ -1,11 +1,12 @@
 -- What is read of a list file, as the program's lines.
-use mathlib.Core.Path.{◌≡◌, sym, ap, ◌∙◌}
+use mathlib.Core.Path.{◌≡◌, sym, ap, subst, ◌∙◌}
 use mathlib.Core.Logic.{⊎_elim, ◌≢◌}
 use mathlib.Core.List.{List, [], ◌∷◌}
 use Prim.Native.Nat.{ℕ, ◌+◌, ◌*◌, ◌≤◌, ◌<◌}
 use native.Mathlib.Omega.{arith}
 use lib.ListN.{length, take}
 use lib.Seq.{get_or-take}
+use Rattle.std.specs.Prelude.{Result}
 use Rattle.numbers.specs.Lists.{at, each}
 use Rattle.numbers.proofs.Lists.{each_eq}
 use Rattle.rules.specs.Bounds.{max_slots}
@@ -15,9 +16,29 @@ use Rattle.rules.specs.Calls.{ListRead}
 use Rattle.rules.specs.Program.{list, element, hyper, entry, entry_lines, ListPrinted, refused, shown}
 use Rattle.rules.proofs.Answers.{None, none_of, answered, answers_only, answers_split}
 use Rattle.rules.proofs.Calls.{lent_take}
+use Rattle.table.specs.Refusal.{number, place}
+use Rattle.table.specs.declared.refusals.Refusal.{Refusal}
+use Rattle.decimal.specs.Puts.{PutsLine}
+use Rattle.lists.specs.declared.Head.{Head}
+use Rattle.lists.specs.Entries.{element_of, hyper_of, entries_of}
 use Rattle.lists.proofs.Entries.{entries_few}
 use Rattle.lists.proofs.Heads.{file_numbered, file_right}
 use Rattle.lists.proofs.RoundTrip.{memory_back, numbers_length}
+
+-- the line of an answer
+pub line_told : {A : Type 0} {a b : Result A Refusal} → a ≡ b → {n p : ℕ} → n ≡ number a → p ≡ place a → {was now : List ℕ} {at size : ℕ}
+    → PutsLine (list n p) was at now size → PutsLine (list (number b) (place b)) was at now size
+line_told {b = b} e {n} {p} x y {was} {now} {at} {size} P =
+    let m : n ≡ number b = x ∙ ap number e in
+    let q : p ≡ place b = y ∙ ap place e in
+    subst (λ (u : ℕ × ℕ). PutsLine (list u.0 u.1) was at now size) (λ k. (m k, q k)) P
+
+-- what was read, of the same answer
+pub read_told : {a b : Result Head Refusal} → a ≡ b → (f was now : List ℕ)
+    → ListRead f was now (number a) (place a) (element_of a) (hyper_of a) (entries_of a)
+    → ListRead f was now (number b) (place b) (element_of b) (hyper_of b) (entries_of b)
+read_told e f was now R =
+    subst (λ (x : Result Head Refusal). ListRead f was now (number x) (place x) (element_of x) (hyper_of x) (entries_of x)) e R
 
 module _ (f was now : List ℕ) (n p e h k : ℕ) (R : ListRead f was now n p e h k) (room : entry_numbers * (2 * max_slots) ≤ length was) where
   abbrev l : ElementList

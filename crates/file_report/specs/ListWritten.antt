@@ -6,13 +6,13 @@
 --   ListWrittenFor f e      the list file of element e's moves in the plan of file f's table stands there, or a refusal's line
 --
 -- `was` and `now` are what the lent slice holds before and after. Only one answer fits (proofs/ListOnly).
-use Rattle.std.specs.Prelude.{◌≡◌, ◌≢◌, List, ℕ, ◌+◌, ◌*◌, ◌≤◌, replicate}
+use Rattle.std.specs.Prelude.{◌≡◌, ◌≢◌, List, ℕ, ◌+◌, ◌*◌, ◌≤◌, replicate, Result}
 use Rattle.rules.specs.Bounds.{max_slots}
 use Rattle.rules.specs.ElementList.{list_header, entry_size, list_bytes}
 use Rattle.rules.specs.Text.{Line, text}
 use Rattle.rules.specs.Program.{list}
 use Rattle.rules.specs.Calls.{file_ask, one_ring_ask, ListMade}
-use Rattle.table.specs.declared.Answer.{Answer}
+use Rattle.table.specs.declared.refusals.Refusal.{Refusal}
 use Rattle.planner.specs.Answers.{PlanAnswer}
 use Rattle.decimal.specs.Puts.{max_line, Puts, PutsLine}
 
@@ -30,7 +30,7 @@ abbrev pub blank : List ℕ
 blank = replicate max_slots 0
 
 pub record ListWrittenFor (f : List ℕ) (e : ℕ) (was now : List ℕ) (size : ℕ) : Type 0 where
-  pub answer : Answer
+  pub answer : Result Unit Refusal
   pub plan : List ℕ
   pub planned : PlanAnswer (file_ask f) answer blank plan
   pub number : ℕ

@@ -10,7 +10,7 @@ ghost use Rattle.file_report.specs.ListWritten.{Rendered, ListWrittenFor};
 
 use decimal::put_line;
 use lists::Head;
-use table::{Answer, Table};
+use table::Table;
 
 // The program's input: room for one entry more than a list can have, and a byte, so that a still longer file is refused for its length.
 pub const INPUT: usize = Head::BYTES + Head::ENTRY_BYTES * (Head::ENTRIES + 1) + 1;
@@ -53,11 +53,9 @@ fn put_entries(numbers: &[u16], entries: usize, out: &mut [u8], at: usize) -> us
         out.new result }
 {
     let mut next = at;
-    let mut k: usize = 0;
-    while k < entries {
+    for k in 0..entries {
         let p = Head::ENTRY_NUMBERS * k;
         next = put_entry(numbers[p], numbers[p + 1], numbers[p + 2], out, next);
-        k += 1;
     }
     next
 }
@@ -70,13 +68,13 @@ pub fn show(file: &[u8], out: &mut [u8]) -> usize
 {
     let mut numbers = [0u16; NUMBERS];
     let found = lists::read(file, &mut numbers);
-    let first = put_answer(found.answer.number, found.answer.place, out);
-    if found.answer.number != Answer::DONE {
+    let first = put_answer(table::number(&found), table::place(&found), out);
+    let Ok(head) = found else {
         return first;
-    }
-    let second = put_number(b"element", found.head.element as u64, out, first);
-    let third = put_number(b"hyper", found.head.hyper as u64, out, second);
-    put_entries(&numbers, found.head.entries, out, third)
+    };
+    let second = put_number(b"element", head.element as u64, out, first);
+    let third = put_number(b"hyper", head.hyper as u64, out, second);
+    put_entries(&numbers, head.entries, out, third)
 }
 
 // The list file of an element's moves in the plan of a table file, at the front of `out`; how many bytes it is. Of a refusal it is a line.
@@ -84,10 +82,11 @@ pub fn make(file: &[u8], element: u64, out: &mut [u8]) -> usize
     ensures { ListWrittenFor file.now element out.old out.new result }
 {
     let mut plan = [0u64; Table::SLOTS];
-    planner::whole_plan(file, &mut plan);
-    let made = maker::make_file(file, &plan, element, out);
-    if made.answer.number != Answer::DONE {
-        return put_answer(made.answer.number, made.answer.place, out);
-    }
+    // what refuses the plan refuses the list too
+    let _ = planner::whole_plan(file, &mut plan);
+    let made = match maker::make_file(file, &plan, element, out) {
+        Ok(made) => made,
+        Err(refusal) => return put_answer(refusal.reason.number(), refusal.place, out),
+    };
     Head::BYTES + Head::ENTRY_BYTES * made.entries
 }

@@ -6,7 +6,7 @@ ghost use Rattle.decimal.specs.Puts.{Puts};
 ghost use Rattle.grammar.specs.Reports.{fault, refusal, FileOf, TextOf, longest_text, Made};
 
 use decimal::{put_bytes, put_line};
-use table::{Answer, Table, rings_of, row_bytes};
+use table::{Table, rings_of, row_bytes};
 use text_reader::{Spot, spot_of};
 
 // The program's input: one byte more than a text may have, so that a longer one is refused for its length.
@@ -39,15 +39,16 @@ pub fn make(text: &[u8], out: &mut [u8]) -> usize
     ensures { Made (FileOf text.now) out.old out.new result }
 {
     let mut numbers = [0u16; NUMBERS];
-    let found = text_reader::read(text, &mut numbers);
-    if found.number != Answer::DONE {
-        return put_fault(found.number, spot_of(text, found.place), out);
-    }
+    let found = match text_reader::read(text, &mut numbers) {
+        Ok(found) => found,
+        Err(fault) => return put_fault(fault.wrong.number(), spot_of(text, fault.place), out),
+    };
     let mark = found.mark;
     let rows = found.table.rows;
     let count = Table::ROW_NUMBERS * rows;
     let mut file = [0u8; Table::FILE_BYTES];
-    writer::write(
+    // there is room for every table, so it isn't refused
+    let _ = writer::write(
         &mark,
         found.version,
         found.table.elements as u64,
@@ -64,10 +65,10 @@ pub fn show(file: &[u8], out: &mut [u8]) -> usize
     ensures { Made (TextOf file.now) out.old out.new result }
 {
     let mut numbers = [0u16; NUMBERS];
-    let found = reader::read(file, &mut numbers);
-    if found.answer.number != Answer::DONE {
-        return put_refusal(found.answer.number, found.answer.place, out);
-    }
+    let found = match reader::read(file, &mut numbers) {
+        Ok(found) => found,
+        Err(refusal) => return put_refusal(refusal.reason.number(), refusal.place, out),
+    };
     let mark = found.mark;
     let count = Table::ROW_NUMBERS * found.table.rows;
     let mut text = [0u8; SIZE];
@@ -79,6 +80,7 @@ pub fn show(file: &[u8], out: &mut [u8]) -> usize
         &numbers[..count],
         &mut text,
     );
-    let size = written.size;
+    // there is room for the text of every file, so it isn't refused
+    let size = written.unwrap_or(0);
     put_bytes(&text[..size], out, 0)
 }

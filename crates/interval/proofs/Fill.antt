@@ -1,5 +1,5 @@
 -- The totals with each row's load, as a loop over the rows gives it. What the loop keeps is what it gives, for the rows passed.
-use mathlib.Core.Path.{◌≡◌, refl, ap, ◌∙◌}
+use mathlib.Core.Path.{◌≡◌, ap, ◌∙◌}
 use Prim.Native.Nat.{ℕ, ◌+◌, ◌-◌, ◌≤◌, ◌<◌}
 use native.Mathlib.Decide.{ℕ_discrete}
 use native.Mathlib.Omega.{arith}
@@ -8,9 +8,6 @@ use Rattle.loads.specs.Loads.{digit}
 use Rattle.interval.specs.Interval.{Given}
 
 -- the rows below m have been given, and the totals of the others are as they were
-
-pub giving_none : (top : ℕ) (whole had x : ℕ → ℕ) → Given 0 top whole had x had
-giving_none top whole had x = record { rows = λ i l. absurd (omega arith); loads = λ i l. absurd (omega arith); spare = λ i l. refl }
 
 pub giving_next : (m top : ℕ) (whole had x now x' now' : ℕ → ℕ) → Given m top whole had x now → had m ≤ whole m
     → Put x m (whole m + digit top m - had m) x' → Put now m (whole m + digit top m) now' → Given (m + 1) top whole had x' now'

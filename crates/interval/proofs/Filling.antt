@@ -1,9 +1,9 @@
--- Laws of the loops that fill arrays: each holds of the first m entries, and one more is put in.
+-- Laws of the loop that sums parts: each holds of the rows in a word, and one more row is added.
 use mathlib.Core.Path.{◌≡◌, refl, sym, ap, ◌∙◌}
 use mathlib.Core.Bool.{Bool, true, false, ◌&&◌, ◌||◌}
 use mathlib.Core.List.{List}
-use Prim.Native.Nat.{ℕ, suc, ◌+◌, ◌-◌, ◌≤◌, ◌<◌}
-use native.Mathlib.Decide.{dec_lt, ℕ_discrete}
+use Prim.Native.Nat.{ℕ, suc, ◌+◌, ◌≤◌, ◌<◌}
+use native.Mathlib.Decide.{dec_lt}
 use native.Mathlib.Omega.{arith}
 use lib.Dec.{eqb, ltb}
 use borrow.Author.Tests.{eq-eqb, ne_eqb, lt-ltb}
@@ -13,19 +13,10 @@ use Rattle.numbers.specs.Word.{bit}
 use Rattle.numbers.proofs.Finite.{only_true, only_false, only_zero, sum_bump, sum_zero, sum_in_most}
 use Rattle.numbers.proofs.Word.{bit_zero}
 use Rattle.rules.specs.Bounds.{max_elements, max_rows, max_slots}
-use Rattle.loads.specs.Network.{Put}
 use Rattle.loads.proofs.Words.{or_same, or_right}
 use Rattle.loads.specs.Loads.{in_set, last, among, part_most, Spans, Parts, Summed}
 use Rattle.loads.proofs.Line.{covers_in, covers_before, covers_after}
-use Rattle.interval.specs.Taken.{Lifted, Lowered, Uneven}
-
--- what holds below m, and of m, holds below m + 1
-pub extend : (P : ℕ → Type 0) (m : ℕ) → ((i : ℕ) → i < m → P i) → P m → (i : ℕ) → i < m + 1 → P i
-extend P m f p i l = go (ℕ_discrete i m)
-  where
-    go : Dec (i ≡ m) → P i
-    go (yes q) = rw q p
-    go (no q) = f i (omega arith)
+use Rattle.interval.specs.Taken.{Lifted, Uneven}
 
 -- a row's sets, from its tail up to its head
 pub row_span : {n K : ℕ} (tail head : List ℕ) → Spans n K (at tail) (last head) → (i : ℕ) → i < n → 0 < at head i
@@ -54,38 +45,6 @@ among_uneven n w f h i = go (bit w i) refl
     go : (b : Bool) → bit w i ≡ b → b ≡ (ltb i n && ltb 0 (only b (f i)))
     go true e = let r = h i e in rw (lt-ltb i n r.0, only_true true (f i) refl, lt-ltb 0 (f i) r.1) refl
     go false e = rw (only_false false (f i) refl) (sym (none (ltb i n)))
-
--- ---- numbers from one up to another
-
-pub lifted_none : (x : ℕ → ℕ) (from v : ℕ) → Lifted x x from from v
-lifted_none x from v = record { inside = λ e l u. absurd (omega arith); below = λ e l. refl; beyond = λ e l. refl }
-
-pub lifted_next : (x x' x'' : ℕ → ℕ) (from e v : ℕ) → from ≤ e → Lifted x x' from e v → Put x' e (x' e + v) x''
-    → Lifted x x'' from (e + 1) v
-lifted_next x x' x'' from e v g s p = record {
-  inside = λ f l u. go f l u (ℕ_discrete f e);
-  below = λ f l. p.1 f (omega arith) ∙ s.below f l;
-  beyond = λ f l. p.1 f (omega arith) ∙ s.beyond f (omega arith);
-}
-  where
-    go : (f : ℕ) → from ≤ f → f < e + 1 → Dec (f ≡ e) → x'' f ≡ x f + v
-    go f l u (yes q) = omega (arith, ap x'' q, p.0, s.beyond e (omega arith), ap x q)
-    go f l u (no q) = omega (arith, p.1 f q, s.inside f l (omega arith))
-
-pub lowered_none : (x : ℕ → ℕ) (from v : ℕ) → Lowered x x from from v
-lowered_none x from v = record { inside = λ e l u. absurd (omega arith); below = λ e l. refl; beyond = λ e l. refl }
-
-pub lowered_next : (x x' x'' : ℕ → ℕ) (from e v : ℕ) → from ≤ e → Lowered x x' from e v → Put x' e (x' e - v) x''
-    → Lowered x x'' from (e + 1) v
-lowered_next x x' x'' from e v g s p = record {
-  inside = λ f l u. go f l u (ℕ_discrete f e);
-  below = λ f l. p.1 f (omega arith) ∙ s.below f l;
-  beyond = λ f l. p.1 f (omega arith) ∙ s.beyond f (omega arith);
-}
-  where
-    go : (f : ℕ) → from ≤ f → f < e + 1 → Dec (f ≡ e) → x'' f ≡ x f - v
-    go f l u (yes q) = omega (arith, ap x'' q, p.0, s.beyond e (omega arith), ap x q)
-    go f l u (no q) = omega (arith, p.1 f q, s.inside f l (omega arith))
 
 -- ---- the sums, of the rows in a word
 

@@ -91,7 +91,7 @@ module _ (K low upper : ℕ) (was : List ℕ) (e : length was ≡ max_rows) (few
 
 module _ (n bound K : ℕ) (first : ℕ → ℕ) (was : List ℕ) (e : length was ≡ max_rows) (few : K ≤ max_rows) (upper : ℕ)
     (is : upper ≡ upper_rows n bound first) where
-  pub folded_all : (low count : ℕ) (vs : List ℕ) → low ≡ low_sets upper (take K was) → count ≡ max low (K - low)
+  folded_all : (low count : ℕ) (vs : List ℕ) → low ≡ low_sets upper (take K was) → count ≡ max low (K - low)
       → Folding K low upper was count vs → FoldedSets n bound K first was (record { upper = upper; sets = count }) vs
   folded_all low count vs q c F = record {
     upper = is;

@@ -161,9 +161,6 @@ rings_few upper d l = go (eqb upper 0) l
     go false l = l
 
 module _ (n K : ℕ) (a b : ℕ → ℕ) (h upper : ℕ) (f : ℕ → ℕ) (pos : 0 < h) where
-  pub chosen_start : Chosen n K a b h upper f 0 0
-  chosen_start = record { nothing = λ e. refl; one = λ e. absurd (omega arith); both = λ e. absurd (omega arith) }
-
   pub chosen_next : (d rounded w : ℕ) → d < max_rings → Chosen n K a b h upper f d rounded
       → Greatest n (Qualified n K a b h (on_ring d upper f) none) (digit w) → Chosen n K a b h upper f (d + 1) (bit_or rounded w)
   chosen_next zero rounded w l C G = record {

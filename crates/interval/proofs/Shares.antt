@@ -28,12 +28,5 @@ module _ (h v n : ℕ) (some : 0 < h) (short : h ≤ max_slots) (I : Inverse h v
       mul-le-mul fits (let d : h - 1 ≤ max_slots - 1 = omega arith in d) in
       lt_of_mul-lt-mul_right h (omega (arith, mul-le-mul_left n a, mul-le-mul_right (2 ^ 36) b, c))
 
-  -- the product is no larger than a number can be
-  pub product_small : n * v ≤ share_most * (2 ^ 36 + max_slots)
-  product_small =
-      let a : v * 1 ≤ v * h = mul-le-mul_left v some in
-      let b : v ≤ 2 ^ 36 + max_slots = omega (arith, I.most) in
-      mul-le-mul fits b
-
   pub whole_is : n * v / 2 ^ 36 ≡ n / h
   whole_is = div-eq_of_lt-le (2 ^ 36) over under

@@ -30,10 +30,8 @@ fn lift(sum: &mut [u32; SETS], from: usize, to: usize, v: u32)
         × ((k : ℕ) → from ≤ k → k < to → at sum.old k + v ≤ part_most) }
     ensures { (length sum.new ≡ max_elements) × Lifted (at sum.old) (at sum.new) from to v }
 {
-    let mut k = from;
-    while k < to {
-        sum[k] = sum[k] + v;
-        k += 1;
+    for k in from..to {
+        sum[k] += v;
     }
 }
 
@@ -70,36 +68,23 @@ fn has_room(left: &[u32; SETS], from: usize, to: usize) -> bool
     requires { to ≤ max_elements }
     ensures { Open (at left.now) from to result }
 {
-    let mut k = from;
-    while k < to {
+    for k in from..to {
         if left[k] == 0 {
             return false;
         }
-        k += 1;
     }
     true
 }
 
-// What is left of v after h is taken, at least 0.
-fn less(v: u32, h: u32) -> u32
-    ensures { result ≡ v - h }
-{
-    if v < h {
-        return 0;
-    }
-    v - h
-}
-
 // Takes h from what is left of the sets from one up to another.
+// One function for this and `lift` would take a closure and one more definition: each is a line.
 fn lower(left: &mut [u32; SETS], from: usize, to: usize, h: u32)
     requires { (from ≤ to) × (to ≤ max_elements) × (length left.old ≡ max_elements) }
     ensures { (length left.new ≡ max_elements)
         × Lowered (at left.old) (at left.new) from to h }
 {
-    let mut k = from;
-    while k < to {
-        left[k] = less(left[k], h);
-        k += 1;
+    for k in from..to {
+        left[k] = left[k].saturating_sub(h);
     }
 }
 
@@ -135,12 +120,11 @@ fn all_less(left: &[u32; SETS], sets: usize, h: u32) -> bool
     requires { sets ≤ max_elements }
     ensures { result ≡ true → (k : ℕ) → k < sets → at left.now k < h }
 {
-    let mut k: usize = 0;
-    while k < sets {
-        if left[k] >= h {
+    // with `all` this takes twice the time
+    for x in &left[..sets] {
+        if *x >= h {
             return false;
         }
-        k += 1;
     }
     true
 }

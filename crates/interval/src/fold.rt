@@ -2,7 +2,7 @@
 // line is folded where the second ring's begins: word k has set k of each ring. Rows of different rings share no set, so loads qualify just
 // when they qualify on each ring by itself (proofs/Unfolding), and the greatest of a product is the product of the greatest
 // (proofs/Product): rows can be chosen once a ring, those of the other with part 0. With one ring nothing is folded.
-ghost use Rattle.std.specs.Prelude.{◌≡◌, cond, ℕ, ◌≤◌, ◌<◌, max, length, take};
+ghost use Rattle.std.specs.Prelude.{◌≡◌, cond, ℕ, ◌≤◌, ◌<◌, length, take};
 ghost use Rattle.numbers.specs.Lists.{at};
 ghost use Rattle.numbers.specs.Word.{bit};
 ghost use Rattle.rules.specs.Bounds.{max_rows};
@@ -18,10 +18,8 @@ fn upper_rows(rows: usize, first: &[u8; ROWS], bound: usize) -> u64
     ensures { result ≡ upper_rows rows bound (at first.now) }
 {
     let mut upper: u64 = 0;
-    let mut i: usize = 0;
-    while i < rows {
+    for i in 0..rows {
         upper = loads::mark(upper, i, bound < table::end_at(first, i));
-        i += 1;
     }
     upper
 }
@@ -31,12 +29,10 @@ fn low_sets(words: &[u64; ROWS], sets: usize, upper: u64) -> usize
     requires { (sets ≤ max_rows) × (length words.now ≡ max_rows) }
     ensures { result ≡ low_sets upper (take sets words.now) }
 {
-    let mut k: usize = 0;
-    while k < sets {
+    for k in 0..sets {
         if words[k] & upper != 0 {
             return k;
         }
-        k += 1;
     }
     sets
 }
@@ -57,16 +53,6 @@ fn merge(low: u64, high: u64, upper: u64) -> u64
     ensures { (i : ℕ) → bit result i ≡ cond (bit upper i) (bit high i) (bit low i) }
 {
     low ^ ((low ^ high) & upper)
-}
-
-// The larger of two numbers.
-fn larger(a: usize, b: usize) -> usize
-    ensures { result ≡ max a b }
-{
-    if a < b {
-        return b;
-    }
-    a
 }
 
 // The rows of the second ring, and how many sets the folded line has.
@@ -92,12 +78,10 @@ pub fn fold_sets(
         return Folded { upper, sets };
     }
     let low = low_sets(words, sets, upper);
-    let count = larger(low, sets - low);
-    let mut k: usize = 0;
-    while k < count {
+    let count = low.max(sets - low);
+    for k in 0..count {
         let high = set_at(words, sets, low + k);
         words[k] = merge(words[k], high, upper);
-        k += 1;
     }
     Folded { upper, sets: count }
 }

@@ -59,15 +59,13 @@ pub fn part_shares(
 {
     let h = size.hyper;
     let mut parted: u64 = 0;
-    let mut i: usize = 0;
-    while i < size.rows {
+    for i in 0..size.rows {
         let share = table::slots_at(rate, i) * slots;
         let w = whole_of(share, inverse);
         let rest = share - w * h;
         whole[i] = w as u16;
         part[i] = rest as u32;
         parted = loads::mark(parted, i, 0 < rest);
-        i += 1;
     }
     parted
 }
@@ -115,11 +113,9 @@ pub fn round_rows<'a>(
 {
     let rings = ring_count(upper);
     let mut rounded: u64 = 0;
-    let mut d: u64 = 0;
-    while d < rings {
+    for d in 0..rings {
         let rows = on_ring(d, upper, parted);
         rounded = rounded | choice::choose(tail, head, out, into, size, part, rows);
-        d += 1;
     }
     rounded
 }
@@ -134,11 +130,9 @@ pub fn give(top: u64, rows: usize, load: &mut [u16; Table::ROWS], totals: &mut [
     ensures { (length load.new ≡ max_rows) × (length totals.new ≡ max_rows)
         × Given rows top (at load.old) (at totals.old) (at load.new) (at totals.new) }
 {
-    let mut i: usize = 0;
-    while i < rows {
+    for i in 0..rows {
         let all = load[i] as u64 + (top >> i) % 2;
         load[i] = (all - totals[i]) as u16;
         totals[i] = all;
-        i += 1;
     }
 }

@@ -1,58 +1,22 @@
-// The live table changed where it is kept (#109), for those who keep one: the supervisor, a C program (include/ringlive.h). Each call takes
-// it by value, and what is handed back is stored where it was. Each answers 256 × number + place; an addition's place is the one taken.
-// The rows present are written as a table file from where they are kept.
+// The live table changed where it is kept (#109), for those who keep one: the supervisor, a C program (include/ringlive.h). Each call
+// answers 256 × number + place; an addition's place is the one taken. The rows present are written as a table file from where they are
+// kept.
 #![tactic(auto)]
 
-ghost use Rattle.std.specs.Prelude.{◌≤◌};
+ghost use Rattle.std.specs.Prelude.{◌≡◌, ◌≤◌};
 ghost use Rattle.rules.specs.Bounds.{max_rows};
+ghost use Rattle.rules.specs.Calls.{c_answer};
 ghost use Rattle.rules.specs.Refusals.{last_number};
-ghost use Rattle.kept_live.specs.InPlace.{NewInPlace, AddInPlace, RemoveInPlace, Told, FileToC};
+ghost use Rattle.kept_live.specs.InPlace.{NewInPlace, AddInPlace, RemoveInPlace, FileToC};
 
-use live::{Changed, Entry, Live};
-
-// A live table, and what is answered.
-#[repr(C)]
-#[derive(Clone, Copy)]
-pub struct Kept {
-    pub live: Live,
-    pub code: u32,
-}
+use live::{Entry, Live};
 
 // Number and place as one number.
-fn told(after: Changed) -> Kept
-    requires { (after.answer.number ≤ last_number) × (after.taken ≤ max_rows) }
-    ensures { Told after result }
+fn told(number: u32, place: u32) -> u32
+    requires { (number ≤ last_number) × (place ≤ max_rows) }
+    ensures { result ≡ c_answer number place }
 {
-    let live = after.live;
-    Kept {
-        live: live,
-        code: 256 * after.answer.number + after.taken,
-    }
-}
-
-fn made(elements: usize) -> Kept
-    ensures { NewInPlace elements result.live result.code }
-{
-    told(Live::new(elements))
-}
-
-fn added(was: Live, cost: u16, period: u16, first: u16, second: u16, label: u16) -> Kept
-    ensures { AddInPlace was cost period first second label result.live result.code }
-{
-    let entry = Entry {
-        cost: cost,
-        period: period,
-        first: first,
-        second: second,
-        label: label,
-    };
-    told(Live::add(was, entry))
-}
-
-fn removed(was: Live, place: usize) -> Kept
-    ensures { RemoveInPlace was place result.live result.code }
-{
-    told(Live::remove(was, place))
+    256 * number + place
 }
 
 // A new live table of a ring of `elements`; nothing but zeros where it is refused. What was there is not looked at.
@@ -60,9 +24,9 @@ fn removed(was: Live, place: usize) -> Kept
 pub extern "C" fn ring_live_new(live: &mut Live, elements: usize) -> u32
     ensures { NewInPlace elements live.new result }
 {
-    let after = made(elements);
-    *live = after.live;
-    after.code
+    let made = Live::new(elements);
+    *live = made.unwrap_or(Live::nothing());
+    told(table::number(&made), 0)
 }
 
 // A row is put in the lowest free place.
@@ -77,9 +41,15 @@ pub extern "C" fn ring_live_add(
 ) -> u32
     ensures { AddInPlace live.old cost period first second label live.new result }
 {
-    let after = added(*live, cost, period, first, second, label);
-    *live = after.live;
-    after.code
+    let entry = Entry {
+        cost: cost,
+        period: period,
+        first: first,
+        second: second,
+        label: label,
+    };
+    let taken = live.add(entry);
+    told(table::number(&taken), taken.unwrap_or(0))
 }
 
 // The row in place `place` is removed.
@@ -87,16 +57,8 @@ pub extern "C" fn ring_live_add(
 pub extern "C" fn ring_live_remove(live: &mut Live, place: usize) -> u32
     ensures { RemoveInPlace live.old place live.new result }
 {
-    let after = removed(*live, place);
-    *live = after.live;
-    after.code
-}
-
-fn written(was: Live, version: u64, out: &mut [u8]) -> u32
-    ensures { FileToC was version out.old out.new result }
-{
-    let answer = live::write_file(was, version, out);
-    256 * answer.number + answer.place
+    let removed = live.remove(place);
+    told(table::number(&removed), 0)
 }
 
 // The rows present, written as a table file in the version that is told.
@@ -104,5 +66,6 @@ fn written(was: Live, version: u64, out: &mut [u8]) -> u32
 pub extern "C" fn ring_live_file(live: &Live, version: u64, out: &mut [u8]) -> u32
     ensures { FileToC live.now version out.old out.new result }
 {
-    written(*live, version, out)
+    let written = live::write_file(live, version, out);
+    told(table::number(&written), table::place(&written))
 }

@@ -1,6 +1,6 @@
 -- The analysis within limits of each outcome: checks that pass stand before those that are left; and that only one verdict fits.
-use mathlib.Core.Path.{◌≡◌, sym, subst, ◌∙◌}
-use mathlib.Core.Logic.{◌≢◌, ⊎_elim, inl, inr}
+use mathlib.Core.Path.{◌≡◌, refl, sym, subst, ◌∙◌}
+use mathlib.Core.Logic.{⊎_elim, inl, inr}
 use mathlib.Core.Bool.{Bool, true, false, ◌||◌}
 use mathlib.Core.List.{List, ◌++◌}
 use Prim.Native.Nat.{ℕ, ◌≤◌, ◌<◌}
@@ -14,9 +14,11 @@ use Rattle.rules.specs.Parties.{max_limit}
 use Rattle.rules.specs.Refusals.{Check, Answers, wrong_limit, given_checks, one_ring_checks, line_checks, limit_checks, bound_checks}
 use Rattle.rules.specs.Refusals.{limited_checks, verdict_checks}
 use Rattle.rules.proofs.Answers.{None, Numbered, applied, passed, stopped, none_of, none_join, none_left, none_right, numbered_join}
-use Rattle.table.specs.declared.Answer.{Answer}
+use Rattle.std.specs.Prelude.{Result, Err}
+use Rattle.table.specs.Refusal.{number_of, number, place}
+use Rattle.table.specs.declared.refusals.Refusal.{Refusal}
+use Rattle.table.proofs.Reasons.{not_done}
 use Rattle.outline.specs.declared.Outline.{Outline}
-use Rattle.outline.specs.Outlined.{Outlined}
 use Rattle.limited.specs.Limits.{labelled}
 use Rattle.limited.proofs.Within.{limit_numbered}
 use Rattle.outline.proofs.Outlined.{line_numbered}
@@ -24,11 +26,11 @@ use Rattle.lags.specs.Lags.{Admissible}
 use Rattle.verdict.proofs.Bound.{bound_numbered, verdict_split, admissible_of}
 use Rattle.pasted.proofs.OneRing.{one_ring_numbered}
 use Rattle.verdict.specs.declared.Analysis.{Analysis}
-use Rattle.verdict.specs.declared.Verdict.{Verdict}
+use Rattle.verdict.specs.declared.Admitted.{Admitted}
 use Rattle.verdict.specs.Verdict.{JudgedBy}
-use Rattle.verdict.specs.Analysed.{table_checks, blank, Rated, Analysed}
+use Rattle.verdict.specs.Analysed.{table_checks, Rated, Analysed}
 use Rattle.verdict.proofs.Judging.{judged_by_only}
-use Rattle.verdict.proofs.Analysing.{analysed_refused, analysed_after, line_none}
+use Rattle.verdict.proofs.Analysing.{analysed_after, line_none}
 use Rattle.limited.specs.Limited.{within_checks}
 
 -- ---- of a table
@@ -41,27 +43,31 @@ module _ (t : Table) (label : List ℕ) (our their : ℕ) where
   past = limit_checks l our their ++ bound_checks t
 
   -- 10 or 11
-  pub within_line : (o : Outline) → Outlined (line_checks t) t o → o.answer.number ≢ 0
-      → Analysed (within_checks l our their) t (blank o.answer)
-  within_line o O h = analysed_refused o.answer h (stopped (line_checks t) past o.answer.number o.answer.place h O.answers)
+  pub within_line : (r : Refusal) → Answers (line_checks t) (number_of r.reason) r.place
+      → Analysed (within_checks l our their) t (Err r)
+  within_line r a = record { answers = stopped (line_checks t) past (number_of r.reason) r.place (not_done r.reason) a; found = tt }
 
-  module _ {o : Outline} {i : ℕ} {xs : List ℕ} (R : Rated t o i xs) (k : Answer)
-      (K : Answers (limit_checks l our their) k.number k.place) where
+  module _ {o : Outline} {i : ℕ} {xs : List ℕ} (R : Rated t o i xs) where
     -- 21 or 22
-    pub within_limit : k.number ≢ 0 → Analysed (within_checks l our their) t (blank k)
-    within_limit h =
+    pub within_limit : (r : Refusal) → Answers (limit_checks l our their) (number_of r.reason) r.place
+        → Analysed (within_checks l our their) t (Err r)
+    within_limit r k =
         analysed_after (line_checks t) past (line_none t R)
-        (analysed_refused k h (stopped (limit_checks l our their) (bound_checks t) k.number k.place h K))
+        (record {
+          answers = stopped (limit_checks l our their) (bound_checks t) (number_of r.reason) r.place (not_done r.reason) k;
+          found = tt;
+        })
 
     -- then what is weighed
-    pub within_bound : k.number ≡ 0 → {a : Analysis} → Analysed (bound_checks t) t a → Analysed (within_checks l our their) t a
-    within_bound z A =
+    pub within_bound : Answers (limit_checks l our their) 0 0 → {a : Result Analysis Refusal} → Analysed (bound_checks t) t a
+        → Analysed (within_checks l our their) t a
+    within_bound k A =
         analysed_after (line_checks t) past (line_none t R)
         (analysed_after (limit_checks l our their) (bound_checks t)
-        (none_of (limit_checks l our their) k.place (limit_numbered l our their) (rw z at K)) A)
+        (none_of (limit_checks l our their) 0 (limit_numbered l our their) k) A)
 
 -- a table with labels that columns hold
-pub within_held : (t : Table) (label : List ℕ) (u : Labelled) (our their : ℕ) → t ≡ u.table → at label ≡ u.label → {a : Analysis}
+pub within_held : (t : Table) (label : List ℕ) (u : Labelled) (our their : ℕ) → t ≡ u.table → at label ≡ u.label → {a : Result Analysis Refusal}
     → Analysed (within_checks (labelled t label) our their) t a → Analysed (within_checks u our their) u.table a
 within_held t label u our their e g {a} A =
     let held : labelled t label ≡ u = λ k. record { table = e k; label = g k } in
@@ -81,14 +87,12 @@ module _ (f : List ℕ) (our their : ℕ) where
   rest = first ++ within_checks (file_labelled f) our their
 
   -- 23
-  pub limits_wrong : {b : Bool} → b ≡ (ltb max_limit our || ltb max_limit their) → b ≡ true → (r : Answer)
-      → r.number ≡ 23 → r.place ≡ 0 → Analysed (limited_checks f our their) (file_table f) (blank r)
+  pub limits_wrong : {b : Bool} → b ≡ (ltb max_limit our || ltb max_limit their) → b ≡ true → Answers (limited_checks f our their) 23 0
   unfolding limited_checks
-  limits_wrong e t r n p =
-      analysed_refused r (omega (arith, n))
-      (applied wrong rest r.number r.place
+  limits_wrong e t =
+      applied wrong rest 23 0
       (⊎_elim (λ x. inl (ltb→lt max_limit our x)) (λ x. inr (ltb→lt max_limit their x))
-      (or_cases (ltb max_limit our) (ltb max_limit their) (of_true (sym e ∙ t)))) n p)
+      (or_cases (ltb max_limit our) (ltb max_limit their) (of_true (sym e ∙ t)))) refl refl
 
   module _ {b : Bool} (e : b ≡ (ltb max_limit our || ltb max_limit their)) (w : b ≡ false) where
     pub limits_low : (our ≤ max_limit) × (their ≤ max_limit)
@@ -105,24 +109,20 @@ module _ (f : List ℕ) (our their : ℕ) where
     after = within_checks (file_labelled f) our their
 
     -- 1 to 9 or 18
-    pub limits_given : (r : Answer) → r.number ≢ 0 → Answers first r.number r.place
-        → Analysed (limited_checks f our their) (file_table f) (blank r)
+    pub limits_given : (r : Refusal) → Answers first (number_of r.reason) r.place
+        → Answers (limited_checks f our their) (number_of r.reason) r.place
     unfolding limited_checks
-    limits_given r h a =
-        analysed_refused r h
-        (passed wrong rest r.number r.place not_wrong (stopped first after r.number r.place h a))
+    limits_given r a =
+        passed wrong rest (number_of r.reason) r.place not_wrong
+        (stopped first after (number_of r.reason) r.place (not_done r.reason) a)
 
     -- past these its table's analysis within limits is the file's
-    pub limits_past : (p : ℕ) → Answers first 0 p → {a : Analysis}
+    pub limits_past : Answers first 0 0 → {a : Result Analysis Refusal}
         → Analysed (within_checks (file_labelled f) our their) (file_table f) a → Analysed (limited_checks f our their) (file_table f) a
     unfolding limited_checks
-    limits_past p g {a} A =
-        let B = analysed_after first after (none_of first p (one_ring_numbered f) g) A in
-        record {
-          answers = passed wrong rest a.outline.answer.number a.outline.answer.place not_wrong B.answers;
-          found = B.found;
-          refused = B.refused;
-        }
+    limits_past g {a} A =
+        let B = analysed_after first after (none_of first 0 (one_ring_numbered f) g) A in
+        record { answers = passed wrong rest (number a) (place a) not_wrong B.answers; found = B.found }
 
 -- ---- the checks as a whole
 
@@ -156,5 +156,5 @@ module _ (f : List ℕ) (our their : ℕ) where
   pub limited_admissible : None (limited_checks f our their) → Admissible t
   limited_admissible n = admissible_of f (limited_none n)
 
-  pub limited_only : (r s : Verdict) → JudgedBy (limited_checks f our their) t r → JudgedBy (limited_checks f our their) t s → r ≡ s
+  pub limited_only : (r s : Result Admitted Refusal) → JudgedBy (limited_checks f our their) t r → JudgedBy (limited_checks f our their) t s → r ≡ s
   limited_only = judged_by_only (λ n. (limited_admissible n).sound.rows_low) limited_numbered

@@ -4,7 +4,6 @@ use mathlib.Core.Logic.{◌≢◌, ⊎_elim}
 use mathlib.Core.Bool.{Bool, ◌&&◌}
 use mathlib.Core.List.{List, ◌++◌}
 use Prim.Native.Nat.{ℕ, suc, ◌+◌, ◌*◌, ◌≤◌, ◌<◌}
-use native.Mathlib.Decide.{ℕ_discrete}
 use native.Mathlib.Numerals.{add-one}
 use native.Mathlib.Omega.{arith}
 use lib.Dec.{ltb, lt→ltb}
@@ -20,10 +19,15 @@ use Rattle.rules.specs.Parties.{ours, theirs, owns, own, is_over_limit}
 use Rattle.rules.specs.Refusals.{Check, Answers, over_limit, segment_checks, limit_checks}
 use Rattle.rules.proofs.Answers.{None, Numbered, stopped, joined, answered, none_of, numbered_join}
 use Rattle.rules.proofs.Answers.{single_none, single_numbered, single_stopped}
-use Rattle.table.specs.declared.Answer.{Answer}
+use Rattle.std.specs.Prelude.{Result}
+use Rattle.table.specs.Refusal as told
+use Rattle.table.specs.Refusal.{number_of}
+use Rattle.table.specs.declared.refusals.Reason.{Reason}
+use Rattle.table.specs.declared.refusals.Refusal.{Refusal}
+use Rattle.table.proofs.Reasons.{not_done}
 use Rattle.ring.specs.Route.{row_segments}
 use Rattle.lags.proofs.Intervals.{rate_le}
-use Rattle.limited.specs.Limits.{party, RatesFit, weight_on, Limited, OverAt, FirstOf}
+use Rattle.limited.specs.Limits.{party, RatesFit, weight_on, Limited, OverAt}
 use Rattle.limited.proofs.Own.{over_among}
 
 module _ {t : Table} {M n h : ℕ} {rate words : List ℕ} (L : Limited t M n h rate words) where
@@ -86,12 +90,12 @@ module _ {t : Table} {M n h : ℕ} {rate words : List ℕ} (L : Limited t M n h 
           lowest_below M test s (omega (arith, e, L.elements_is)) (along (over_is s m) u))
 
       -- what is answered of a party
-      pub limit_answers : number ≢ 0 → (a : Answer) → OverAt number M r a
-          → Answers (segment_checks number alone limit) a.number a.place
-      limit_answers z a O =
+      pub limit_answers : (w : Reason) → number_of w ≡ number → (a : Result Unit Refusal) → OverAt w M r a
+          → Answers (segment_checks number alone limit) (told.number a) (told.place a)
+      limit_answers w q a O =
           ⊎_elim
-          (λ l. rw ((O.within l).0, (O.within l).1) (answered (segment_checks number alone limit) (limit_none l)))
-          (λ l. rw ((O.over l).0, (O.over l).1) (limit_refused z l))
+          (λ l. rw (O.within l) (answered (segment_checks number alone limit) (limit_none l)))
+          (λ l. rw (O.over l, q) (limit_refused (λ z. not_done w (q ∙ z)) l))
           (le_or_lt M r)
 
 pub segment_numbered : (number : ℕ) (t : Table) (limit : ℕ) → number ≢ 0 → Numbered (segment_checks number t limit)
@@ -106,17 +110,16 @@ module _ (t : Labelled) (our their : ℕ) where
   abbrev of_theirs : List Check
   of_theirs = segment_checks 22 (own theirs t) their
 
-  pub both_answer : {a b r : Answer} → Answers of_ours a.number a.place → Answers of_theirs b.number b.place → FirstOf a b r
-      → Answers (limit_checks t our their) r.number r.place
+  -- ours are over
+  pub ours_over : (r : Refusal) → Answers of_ours (number_of r.reason) r.place → Answers (limit_checks t our their) (number_of r.reason) r.place
   unfolding limit_checks
-  both_answer {a} {b} {r} A B F = go (ℕ_discrete a.number 0)
-    where
-      go : Dec (a.number ≡ 0) → Answers (of_ours ++ of_theirs) r.number r.place
-      go (yes z) =
-          rw (F.passed z)
-          (joined of_ours of_theirs b.number b.place
-          (none_of of_ours a.place (segment_numbered 21 (own ours t) our (omega arith)) (rw z at A)) B)
-      go (no h) = rw (F.refused h) (stopped of_ours of_theirs a.number a.place h A)
+  ours_over r A = stopped of_ours of_theirs (number_of r.reason) r.place (not_done r.reason) A
+
+  -- they are not
+  pub ours_within : (n p : ℕ) → Answers of_ours 0 0 → Answers of_theirs n p → Answers (limit_checks t our their) n p
+  unfolding limit_checks
+  ours_within n p A B =
+      joined of_ours of_theirs n p (none_of of_ours 0 (segment_numbered 21 (own ours t) our (omega arith)) A) B
 
   pub limit_numbered : Numbered (limit_checks t our their)
   unfolding limit_checks

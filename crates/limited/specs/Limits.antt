@@ -5,9 +5,8 @@
 --   weight_on n ..      what a party's rows among n weigh on the segment whose bit is s
 --   labelled t xs      the table t with the labels xs
 --   Limited t ..       the table t is sound, has one ring and a short h, and its rates and words of segments are these
---   OverAt n M s r     r answers with number n and segment s, counted from 0, or with 0 where s is none of M
---   FirstOf a b r      r is a where a refuses, else b
-use Rattle.std.specs.Prelude.{◌≡◌, ◌≢◌, Bool, ◌&&◌, cond, List, ℕ, ◌+◌, ◌≤◌, ◌<◌}
+--   OverAt w M s r     r refuses for reason w and segment s, counted from 0, or not at all where s is none of M
+use Rattle.std.specs.Prelude.{◌≡◌, Bool, ◌&&◌, cond, List, ℕ, ◌+◌, ◌≤◌, ◌<◌, Result, Ok, Err}
 use Rattle.numbers.specs.Finite.{sum_in}
 use Rattle.numbers.specs.Lists.{at}
 use Rattle.numbers.specs.Word.{bit}
@@ -18,7 +17,8 @@ use Rattle.rules.specs.Loads as loads
 use Rattle.rules.specs.Parties.{Party, ours, theirs, owns}
 use Rattle.table.specs.Sound.{Sound}
 use Rattle.table.specs.Columns.{ByRow}
-use Rattle.table.specs.declared.Answer.{Answer}
+use Rattle.table.specs.declared.refusals.Reason.{Reason}
+use Rattle.table.specs.declared.refusals.Refusal.{Refusal}
 use Rattle.ring.specs.Route as route
 
 abbrev pub party : Bool → Party
@@ -45,10 +45,6 @@ pub record Limited (t : Table) (elements rows hyper : ℕ) (rate segments : List
   pub rate_is : ByRow t.rows (loads.rate t) rate
   pub segments_is : ByRow t.rows (λ i. route.row_segments t.elements (t.way i) (t.first i) (t.second i)) segments
 
-pub record OverAt (number elements s : ℕ) (r : Answer) : Type 0 where
-  pub over : s < elements → (r.number ≡ number) × (r.place ≡ s + 1)
-  pub within : elements ≤ s → (r.number ≡ 0) × (r.place ≡ 0)
-
-pub record FirstOf (first second r : Answer) : Type 0 where
-  pub refused : first.number ≢ 0 → r ≡ first
-  pub passed : first.number ≡ 0 → r ≡ second
+pub record OverAt (reason : Reason) (elements s : ℕ) (r : Result Unit Refusal) : Type 0 where
+  pub over : s < elements → r ≡ Err (record { reason = reason; place = s + 1 })
+  pub within : elements ≤ s → r ≡ Ok tt

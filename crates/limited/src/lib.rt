@@ -11,79 +11,65 @@ ghost use Rattle.rules.specs.Refusals.{limited_checks};
 ghost use Rattle.rules.specs.Calls.{limited_ask, Judged};
 ghost use Rattle.table.specs.Sound.{Sound};
 ghost use Rattle.table.specs.Columns.{table_of};
+ghost use Rattle.table.specs.Refusal.{number, place};
 ghost use Rattle.limited.specs.Limits.{labelled};
-ghost use Rattle.verdict.specs.Analysed.{blank, Analysed};
-ghost use Rattle.verdict.specs.Verdict.{number_of, place_of, cut_of, other_of, interval_of, hyper_of, load_of, sets_of};
+ghost use Rattle.verdict.specs.Analysed.{Analysed};
+ghost use Rattle.verdict.specs.Verdict.{cut_of, other_of, interval_of, hyper_of, load_of, sets_of};
 ghost use Rattle.planner.specs.Answers.{StepAnswer, PlanAnswer};
 ghost use Rattle.limited.specs.Limited.{within_checks};
 
 pub use limits::Limits;
-use planner::{MovedOn, Planner};
-use table::{Answer, Columns, Table};
-use verdict::{Analysis, Verdict};
+use planner::Planner;
+use table::{Columns, Reason, Refusal, Table};
+use verdict::{Admitted, Analysis};
 
 // ---- the analysis and the verdict
 
 // The analysis of a table with labels and one ring: 10 and 11, then 21 and 22, then 13 and 14.
-fn analysis_within(columns: Columns, label: &[u16; Table::ROWS], limits: Limits) -> Analysis
-    requires { Sound (table_of columns) × (columns.rings ≡ 1) × (limits.ours ≤ max_limit) × (limits.theirs ≤ max_limit) }
-    ensures { Analysed (within_checks (labelled (table_of columns) label.now) limits.ours limits.theirs)
-        (table_of columns) result }
+fn analysis_within(
+    table: &Columns,
+    label: &[u16; Table::ROWS],
+    limits: Limits,
+) -> Result<Analysis, Refusal>
+    requires { Sound (table_of table.now) × (table.now.rings ≡ 1) × (limits.ours ≤ max_limit) × (limits.theirs ≤ max_limit) }
+    ensures { Analysed (within_checks (labelled (table_of table.now) label.now) limits.ours limits.theirs)
+        (table_of table.now) result }
 {
-    let elements = columns.elements;
-    let rows = columns.rows;
-    let outline = outline::outline_of(
-        elements,
-        rows,
-        columns.rings,
-        &columns.period,
-        &columns.first,
-        &columns.second,
-        &columns.way,
-    );
-    let answer = outline.answer;
-    if answer.number != Answer::DONE {
-        return Analysis::refused(answer);
-    }
+    let outline = outline::outline_of(table)?;
     let time = outline.time;
     let mut rate = [0u16; Table::ROWS];
     let light = verdict::put_rates(
-        rows,
+        table.rows,
         time.hyper,
         time.interval,
-        &columns.cost,
-        &columns.period,
+        &table.cost,
+        &table.period,
         &mut rate,
     );
-    let segments = ring::lay_segments(
-        elements,
-        rows,
-        &columns.first,
-        &columns.second,
-        &columns.way,
-    );
-    let kept = limits::kept_within(elements, rows, time.hyper, &rate, &segments, label, limits);
-    if kept.number != Answer::DONE {
-        return Analysis::refused(kept);
-    }
+    let segments = ring::lay_segments(table);
+    limits::kept_within(
+        table.elements,
+        table.rows,
+        time.hyper,
+        &rate,
+        &segments,
+        label,
+        limits,
+    )?;
     let weighing = verdict::weigh(
-        rows,
+        table.rows,
         light,
         outline.top,
         time,
         &outline.first,
         &outline.second,
         &rate,
-    );
-    let next = weighing.answer;
-    if next.number != Answer::DONE {
-        return Analysis::refused(next);
-    }
-    Analysis {
-        outline: outline,
+    )?;
+    Ok(Analysis {
+        outline,
         load: weighing.load,
-        rate: rate,
-    }
+        rate,
+    })
 }
 
 // A limit is above 1,000 thousandths.
@@ -94,24 +80,19 @@ fn are_wrong(limits: Limits) -> bool
 }
 
 // The analysis of a file's table within limits, or the first refusal.
-pub fn analyse(file: &[u8], limits: Limits) -> Analysis
+pub fn analyse(file: &[u8], limits: Limits) -> Result<Analysis, Refusal>
     ensures { Analysed (limited_checks file.now limits.ours limits.theirs) (file_table file.now) result }
 {
     if are_wrong(limits) {
-        return Analysis::refused(Answer::at(Answer::WRONG_LIMIT, 0));
+        return Err(Refusal::from(Reason::WrongLimit));
     }
-    let found = pasted::given_one_ring(file);
-    let answer = found.answer;
-    if answer.number != Answer::DONE {
-        return Analysis::refused(answer);
-    }
-    let columns = found.columns;
-    analysis_within(columns, &found.labels, limits)
+    let found = pasted::given_one_ring(file)?;
+    analysis_within(&found.columns, &found.labels, limits)
 }
 
 // Whether the bus can carry the table of a file within limits.
-pub fn judge(file: &[u8], limits: Limits) -> Verdict
-    ensures { Judged (limited_ask file.now limits.ours limits.theirs) (number_of result) (place_of result)
+pub fn judge(file: &[u8], limits: Limits) -> Result<Admitted, Refusal>
+    ensures { Judged (limited_ask file.now limits.ours limits.theirs) (number result) (place result)
         (cut_of result) (other_of result) (interval_of result) (hyper_of result) (load_of result) (sets_of result) }
 {
     verdict::verdict_of(analyse(file, limits))
@@ -120,7 +101,7 @@ pub fn judge(file: &[u8], limits: Limits) -> Verdict
 // ---- the plan
 
 // One interval of a file's table within limits.
-pub fn step(p: Planner, file: &[u8], limits: Limits, out: &mut [u64]) -> MovedOn
+pub fn step(p: Planner, file: &[u8], limits: Limits, out: &mut [u64]) -> Result<Planner, Refusal>
     ensures { StepAnswer (limited_ask file.now limits.ours limits.theirs) p result
         out.old out.new }
 {
@@ -128,7 +109,7 @@ pub fn step(p: Planner, file: &[u8], limits: Limits, out: &mut [u64]) -> MovedOn
 }
 
 // The whole plan of a file's table within limits.
-pub fn whole_plan(file: &[u8], limits: Limits, plan: &mut [u64]) -> Answer
+pub fn whole_plan(file: &[u8], limits: Limits, plan: &mut [u64]) -> Result<(), Refusal>
     ensures { PlanAnswer (limited_ask file.now limits.ours limits.theirs) result
         plan.old plan.new }
 {

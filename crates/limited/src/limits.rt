@@ -10,9 +10,10 @@ ghost use Rattle.rules.specs.Bounds.{max_elements, max_rows, max_slots};
 ghost use Rattle.rules.specs.Bus as bus;
 ghost use Rattle.rules.specs.Parties.{max_limit, owns};
 ghost use Rattle.rules.specs.Refusals.{Answers, limit_checks};
-ghost use Rattle.limited.specs.Limits.{party, RatesFit, weight_on, labelled, Limited, OverAt, FirstOf};
+ghost use Rattle.table.specs.Refusal.{number, place};
+ghost use Rattle.limited.specs.Limits.{party, RatesFit, weight_on, labelled, Limited, OverAt};
 
-use table::{Answer, Table};
+use table::{Reason, Refusal, Table};
 
 // Each party's limit in thousandths.
 #[derive(Clone, Copy)]
@@ -59,12 +60,10 @@ fn load_on<'a>(
         × (result ≤ max_rows * max_slots) }
 {
     let mut sum: u64 = 0;
-    let mut i: usize = 0;
-    while i < rows {
+    for i in 0..rows {
         if counts(table::slots_at(label, i), theirs, segments[i], s) {
             sum += table::slots_at(rate, i);
         }
-        i += 1;
     }
     sum
 }
@@ -85,35 +84,23 @@ fn lowest_over<'a>(
         (λ s. ltb (limit * hyper) (1000 * weight_on rows rate.now segments.now label.now theirs s)) }
 {
     let most = limit as u64 * hyper;
-    let mut s: usize = 0;
-    while s < elements {
+    for s in 0..elements {
         if most < 1000 * load_on(rows, rate, segments, label, theirs, s) {
             return s;
         }
-        s += 1;
     }
-    s
+    elements
 }
 
-// What is answered of a party that is over its limit on segment `s`, counted from 0, or on none where `s` is no segment.
-fn over_at(number: u32, elements: usize, s: usize) -> Answer
+// The refusal of a party that is over its limit on segment `s`, counted from 0; none where `s` is no segment.
+fn over_at(reason: Reason, elements: usize, s: usize) -> Result<(), Refusal>
     requires { elements ≤ max_elements }
-    ensures { OverAt number elements s result }
+    ensures { OverAt reason elements s result }
 {
     if s < elements {
-        return Answer::at(number, s + 1);
+        return Err(Refusal::at(reason, s + 1));
     }
-    Answer::done()
-}
-
-// The first of two answers, where it refuses, or the second.
-fn first_of(first: Answer, second: Answer) -> Answer
-    ensures { FirstOf first second result }
-{
-    if first.number != Answer::DONE {
-        return first;
-    }
-    second
+    Ok(())
 }
 
 // The first refusal of 21 and 22 of a table whose h and rates are found.
@@ -125,11 +112,11 @@ pub fn kept_within<'a>(
     segments: &'a [u32; Table::ROWS],
     label: &'a [u16; Table::ROWS],
     limits: Limits,
-) -> Answer
+) -> Result<(), Refusal>
     requires { ((t : bus.Table) × Limited t elements rows hyper rate.now segments.now)
         × (limits.ours ≤ max_limit) × (limits.theirs ≤ max_limit) }
     ensures { (t : bus.Table) → Limited t elements rows hyper rate.now segments.now
-        → Answers (limit_checks (labelled t label.now) limits.ours limits.theirs) result.number result.place }
+        → Answers (limit_checks (labelled t label.now) limits.ours limits.theirs) (number result) (place result) }
 {
     let our = lowest_over(
         elements,
@@ -141,6 +128,7 @@ pub fn kept_within<'a>(
         false,
         limits.ours,
     );
+    over_at(Reason::OurLimit, elements, our)?;
     let their = lowest_over(
         elements,
         rows,
@@ -151,7 +139,5 @@ pub fn kept_within<'a>(
         true,
         limits.theirs,
     );
-    let of_ours = over_at(Answer::OUR_LIMIT, elements, our);
-    let of_theirs = over_at(Answer::THEIR_LIMIT, elements, their);
-    first_of(of_ours, of_theirs)
+    over_at(Reason::TheirLimit, elements, their)
 }

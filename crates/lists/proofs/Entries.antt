@@ -2,7 +2,7 @@
 --
 --   Checked l k least  the first k entries of list l pass check 31, and leave ranks from `least` on to those after them
 use mathlib.Core.Path.{◌≡◌, refl}
-use mathlib.Core.Logic.{inl, inr, ⊎_elim, ◌⊎◌, ◌≢◌}
+use mathlib.Core.Logic.{inl, inr, ⊎_elim, ◌⊎◌}
 use mathlib.Core.List.{[], ◌∷◌}
 use Prim.Native.Nat.{ℕ, zero, suc, ◌+◌, ◌-◌, ◌*◌, ◌≤◌, ◌<◌}
 use native.Mathlib.Omega.{arith}
@@ -11,7 +11,7 @@ use Rattle.numbers.proofs.Truth.{le_or_lt}
 use Rattle.rules.specs.ElementList.{Entry, ElementList, Rises}
 use Rattle.rules.specs.Refusals.{Answers, wrong_entry}
 use Rattle.rules.proofs.Answers.{single_none, single_stopped, answered}
-use Rattle.lists.specs.Entries.{rank, Wrong, Leaves, FirstWrong, IsEntry, entry_of}
+use Rattle.lists.specs.Entries.{rank, Wrong, IsEntry, entry_of}
 use Rattle.lists.specs.declared.Entry.{Entry as Place}
 
 pub record Checked (l : ElementList) (k least : ℕ) : Type 0 where
@@ -93,32 +93,26 @@ checked_all l n h (suc k) m =
 pub entries_few : (l : ElementList) (n : ℕ) → ((k : ℕ) → k < n → (wrong_entry l k).applies → ⊥) → n ≤ 2 * l.hyper
 entries_few l n h = let C = (checked_all l n h n (omega arith)).1 in omega (arith, C.few, C.within)
 
--- ---- the first wrong one, from what the code reads of entry k and what this leaves
+-- ---- an entry as the code reads it
 
-module _ {l : ElementList} {k least m : ℕ} {x : Place} (q : IsEntry (l.entry k) x) (L : Leaves l.hyper least (entry_of x) m)
-    (C : Checked l k least) where
-  same : Wrong l.hyper least (entry_of x) → Wrong l.hyper least (l.entry k)
-  same w = rw (q.slot, q.row, q.way) at w
+-- the bounds of Checked hold of any entries that pass
+pub few_next : {h k least m : ℕ} {x : Entry} → k ≤ least → (Wrong h least x → ⊥) × (m ≡ rank x + 1) → (k + 1 ≤ m) × (m ≤ 2 * h)
+few_next {h} {k} {least} {m} {x} l w =
+    let slot : x.slot < h = ⊎_elim (λ h. absurd (w.0 (inl h))) (λ h. h) (le_or_lt h x.slot) in
+    let way : x.way ≤ 1 = ⊎_elim (λ h. h) (λ h. absurd (w.0 (inr (inr (inl h))))) (le_or_lt x.way 1) in
+    let rank : least ≤ rank x = ⊎_elim (λ h. h) (λ h. absurd (w.0 (inr (inr (inr h))))) (le_or_lt least (rank x)) in
+    (omega (arith, w.1), omega (arith, w.1))
 
-  pub read_next : m ≢ 0 → Checked l (k + 1) m
-  read_next n = rw (L.next n, q.slot, q.way) (checked_next C (rw (q.slot, q.row, q.way) at (L.right n)))
+module _ {l : ElementList} {k least : ℕ} {x : Place} (q : IsEntry (l.entry k) x) (C : Checked l k least) where
+  pub read_next : {m : ℕ} → (Wrong l.hyper least (entry_of x) → ⊥) × (m ≡ rank (entry_of x) + 1) → Checked l (k + 1) m
+  read_next w = rw (w.1, q.slot, q.way) (checked_next C (rw (q.slot, q.row, q.way) at w.0))
 
-  pub read_stop : (n : ℕ) → k < n → m ≡ 0 → FirstWrong l n k
-  read_stop n h z = record { most = omega arith; clean = C.clean; wrong = λ y. is_wrong C (same (L.wrong z)) }
+  -- check 31 applies to it, and to none before it
+  pub read_stop : (n : ℕ) → k < n → Wrong l.hyper least (entry_of x) → Answers (each n (λ k. wrong_entry l k ∷ [])) 31 k
+  read_stop n h w =
+      single_stopped (wrong_entry l) n k h (λ z. let y : ⊥ = omega arith in y) C.clean (is_wrong C (rw (q.slot, q.row, q.way) at w))
 
-pub checked_end : {l : ElementList} {k least : ℕ} (n : ℕ) → Checked l k least → k ≡ n → FirstWrong l n k
-checked_end n C q = record { most = omega arith; clean = C.clean; wrong = λ y. absurd (let z : ⊥ = omega arith in z) }
-
--- ---- check 31, by the first wrong one
-
-module _ {l : ElementList} {n k : ℕ} (F : FirstWrong l n k) where
-  pub first_few : k ≤ 2 * l.hyper
-  first_few = entries_few l k F.clean
-
-  pub first_stops : k < n → Answers (each n (λ k. wrong_entry l k ∷ [])) 31 k
-  first_stops h = single_stopped (wrong_entry l) n k h (λ z. let y : ⊥ = omega arith in y) F.clean (F.wrong h)
-
-  pub first_none : n ≤ k → Answers (each n (λ k. wrong_entry l k ∷ [])) 0 0
-  first_none h =
-      let none : (j : ℕ) → j < n → (wrong_entry l j).applies → ⊥ = λ j i. F.clean j (omega arith) in
-      answered (each n (λ k. wrong_entry l k ∷ [])) (single_none (wrong_entry l) n none)
+pub checked_end : {l : ElementList} {k least : ℕ} (n : ℕ) → Checked l k least → n ≤ k → Answers (each n (λ k. wrong_entry l k ∷ [])) 0 0
+checked_end {l} n C h =
+    let none : (j : ℕ) → j < n → (wrong_entry l j).applies → ⊥ = λ j i. C.clean j (omega arith) in
+    answered (each n (λ k. wrong_entry l k ∷ [])) (single_none (wrong_entry l) n none)

@@ -1,14 +1,14 @@
 // Lists of the moves of one element (#101): their reader, from a list file to numbers in memory, and their writer.
 #![tactic(auto)]
 
-ghost use Rattle.std.specs.Prelude.{◌≡◌, [], ◌∷◌, ◌++◌, ◌+◌, ◌*◌, ◌<◌, ◌≤◌, length, take};
+ghost use Rattle.std.specs.Prelude.{◌≡◌, ℕ, [], ◌∷◌, ◌++◌, ◌+◌, ◌*◌, ◌<◌, ◌≤◌, length, take, IfOk};
 ghost use Rattle.std.proofs.lemmas.List.Edits.{sets};
 ghost use Rattle.numbers.specs.Decides.{Decides};
 ghost use Rattle.numbers.specs.Lists.{each};
 ghost use Rattle.rules.specs.Bounds.{max_slots};
 ghost use Rattle.rules.specs.TableFile.{mark};
+ghost use Rattle.rules.specs.ElementList as rules;
 ghost use Rattle.rules.specs.ElementList.{
-  ElementList,
   move,
   list_mark,
   list_header,
@@ -23,9 +23,11 @@ ghost use Rattle.rules.specs.ElementList.{
 };
 ghost use Rattle.rules.specs.Refusals.{Answers, wrong_list, wrong_entry, list_file_checks, list_memory_checks};
 ghost use Rattle.rules.specs.Calls.{lent, ListRead, ListWritten};
-ghost use Rattle.lists.specs.Entries.{IsHead, IsEntry, entry_of, Leaves, FirstWrong, Fit, told, head_checks};
+ghost use Rattle.table.specs.Refusal.{why, number, place};
+ghost use Rattle.lists.specs.Entries.{IsHead, IsEntry, entry_of, Leaves, Gives, Fit, told, head_checks};
+ghost use Rattle.lists.specs.Entries.{element_of, hyper_of, entries_of};
 
-use table::{Answer, Table, put16, read16};
+use table::{Reason, Refusal, Table, put16, read16};
 
 // What stands before the entries: the element, the hyperperiod, and how many entries follow.
 #[derive(Clone, Copy)]
@@ -61,8 +63,8 @@ impl Head {
         ensures { IsHead (file_list file.now) result }
     {
         Head {
-            element: byte_wide(file[Head::ELEMENT_AT]) as usize,
-            hyper: read16(file, Head::HYPER_AT) as usize,
+            element: usize::from(file[Head::ELEMENT_AT]),
+            hyper: usize::from(read16(file, Head::HYPER_AT)),
             entries: (file.len() - Head::BYTES) / Head::ENTRY_BYTES,
         }
     }
@@ -82,18 +84,6 @@ impl Entry {
     pub const SEND: u16 = 1;
 }
 
-fn byte_wide(x: u8) -> u16
-    ensures { result ≡ x }
-{
-    x as u16
-}
-
-fn wide(x: u16) -> u64
-    ensures { result ≡ x }
-{
-    x as u64
-}
-
 // ---- entries
 
 // Entry `k` of a list file that holds it.
@@ -104,8 +94,8 @@ fn entry_in(file: &[u8], k: usize) -> Entry
     let at = Head::BYTES + Head::ENTRY_BYTES * k;
     Entry {
         slot: read16(file, at),
-        row: byte_wide(file[at + 2]),
-        way: byte_wide(file[at + 3]),
+        row: u16::from(file[at + 2]),
+        way: u16::from(file[at + 3]),
     }
 }
 
@@ -157,143 +147,109 @@ pub fn put_head(element: u8, hyper: u16, out: &mut [u8])
 fn in_range(x: u64, most: u64) -> bool
     ensures { Decides ((1 ≤ x) × (x ≤ most)) result }
 {
-    if x == 0 {
-        return false;
-    }
-    x <= most
+    (1..=most).contains(&x)
 }
 
 // Check 30.
-fn bounds_fault(element: u64, hyper: u64) -> u32
-    ensures { Answers (wrong_list (told element hyper (λ k. move 0 0 0)) ∷ []) result 0 }
+fn bounds_fault(element: u64, hyper: u64) -> Result<(), Reason>
+    ensures { Answers (wrong_list (told element hyper (λ k. move 0 0 0)) ∷ []) (why result) 0 }
 {
     if !in_range(element, Table::ELEMENTS as u64) {
-        return Answer::WRONG_LIST;
+        return Err(Reason::WrongList);
     }
     if !in_range(hyper, Table::SLOTS as u64) {
-        return Answer::WRONG_LIST;
+        return Err(Reason::WrongList);
     }
-    Answer::DONE
+    Ok(())
 }
 
-// What an entry leaves to those after it: twice its slot and its way, and 1, from which on theirs stand. 0 where check 31 applies to the
-// entry itself, to which those before it leave what stands from `least` on.
-fn least_after(hyper: u64, least: u64, entry: Entry) -> u64
+// What an entry leaves to those after it: twice its slot and its way, and 1, from which on theirs stand. Nothing where check 31 applies to
+// the entry itself, to which those before it leave what stands from `least` on.
+fn least_after(hyper: u64, least: u64, entry: Entry) -> Option<u64>
     ensures { Leaves hyper least (entry_of entry) result }
 {
-    if wide(entry.slot) >= hyper {
-        return 0;
+    if u64::from(entry.slot) >= hyper {
+        return None;
     }
     if entry.row as usize >= Table::ROWS {
-        return 0;
+        return None;
     }
     if entry.way > Entry::SEND {
-        return 0;
+        return None;
     }
-    let rank = 2 * wide(entry.slot) + wide(entry.way);
+    let rank = 2 * u64::from(entry.slot) + u64::from(entry.way);
     if rank < least {
-        return 0;
+        return None;
     }
-    rank + 1
+    Some(rank + 1)
 }
 
-// The first entry of a list file to which check 31 applies, of `entries` that it holds; `entries` where there is none.
-fn first_wrong_in(file: &[u8], hyper: u64, entries: usize) -> usize
-    requires { list_header + entry_size * entries ≤ length file.now }
-    ensures { FirstWrong (told 0 hyper (file_entry file.now)) entries result }
+// Check 31 of `entries` entries, wherever they stand.
+fn check_entries<F: Fn(usize) -> Entry>(entry: F, hyper: u64, entries: usize) -> Result<(), Refusal>
+    requires bound { hyper ≤ max_slots }
+    requires there { (k : ℕ) → k < entries → F.pre entry k }
+    ensures { (g : ℕ → rules.Entry) → Gives (F.post entry) entries g
+        → Answers (each entries (λ k. wrong_entry (told 0 hyper g) k ∷ [])) (number result) (place result) }
 {
     let mut least: u64 = 0;
-    let mut k: usize = 0;
-    while k < entries {
-        least = least_after(hyper, least, entry_in(file, k));
-        if least == 0 {
-            return k;
-        }
-        k += 1;
-    }
-    k
-}
-
-// The same of a slice of numbers.
-fn first_wrong_of(numbers: &[u16], hyper: u64, entries: usize) -> usize
-    requires { entry_numbers * entries ≤ length numbers.now }
-    ensures { FirstWrong (told 0 hyper (memory_entry numbers.now)) entries result }
-{
-    let mut least: u64 = 0;
-    let mut k: usize = 0;
-    while k < entries {
-        least = least_after(hyper, least, entry_of(numbers, k));
-        if least == 0 {
-            return k;
-        }
-        k += 1;
-    }
-    k
-}
-
-// Check 31, from the first entry of `entries` to which it applies. That one can stand past all that a list has room for.
-fn check_entries(first: usize, entries: usize) -> Answer
-    requires { first ≤ 2 * max_slots }
-    ensures { (l : ElementList) → FirstWrong l entries first
-        → Answers (each entries (λ k. wrong_entry l k ∷ [])) result.number result.place }
-{
-    if first < entries {
-        return Answer {
-            number: Answer::WRONG_ENTRY,
-            place: first as u32,
+    for k in 0..entries {
+        let Some(next) = least_after(hyper, least, entry(k)) else {
+            // it can stand past all that a list has room for
+            return Err(Refusal {
+                reason: Reason::WrongEntry,
+                place: k as u32,
+            });
         };
+        least = next;
     }
-    Answer::done()
+    Ok(())
 }
 
-// Checks 1, 2, 3, 6 and 30 of a list file.
-fn head_fault(file: &[u8]) -> u32
-    ensures { Answers (head_checks file.now) result 0 }
+// What a list file says of its list, where checks 1, 2, 3, 6 and 30 pass.
+fn head_in(file: &[u8]) -> Result<Head, Reason>
+    ensures answers { Answers (head_checks file.now) (why result) 0 }
+    ensures passed { IfOk result (λ h. IsHead (file_list file.now) h) }
 {
     if file.len() < Head::BYTES {
-        return Answer::SHORT_FILE;
+        return Err(Reason::ShortFile);
     }
     if !table::begins(file, Head::MARK) {
-        return Answer::WRONG_MARK;
+        return Err(Reason::WrongMark);
     }
     if read16(file, Head::VERSION_AT) != Head::VERSION {
-        return Answer::WRONG_VERSION;
+        return Err(Reason::WrongVersion);
     }
     if (file.len() - Head::BYTES) % Head::ENTRY_BYTES != 0 {
-        return Answer::WRONG_LENGTH;
+        return Err(Reason::WrongLength);
     }
     let head = Head::of(file);
-    bounds_fault(head.element as u64, head.hyper as u64)
+    bounds_fault(head.element as u64, head.hyper as u64)?;
+    Ok(head)
 }
 
-// Checks 1, 2, 3, 6, 30 and 31 of a list file.
-fn check_file(file: &[u8]) -> Answer
-    ensures { Answers (list_file_checks file.now) result.number result.place }
+// The same, where check 31 passes too.
+fn check_file(file: &[u8]) -> Result<Head, Refusal>
+    ensures answers { Answers (list_file_checks file.now) (number result) (place result) }
+    ensures passed { IfOk result (λ h. IsHead (file_list file.now) h) }
 {
-    let number = head_fault(file);
-    if number != Answer::DONE {
-        return Answer::at(number, 0);
-    }
-    let head = Head::of(file);
-    check_entries(
-        first_wrong_in(file, head.hyper as u64, head.entries),
-        head.entries,
-    )
+    let head = head_in(file)?;
+    check_entries(|k| entry_in(file, k), head.hyper as u64, head.entries)?;
+    Ok(head)
 }
 
 // Checks 6, 30 and 31 of a slice of numbers.
-fn check_numbers(element: u64, hyper: u64, numbers: &[u16]) -> Answer
-    ensures { Answers (list_memory_checks element hyper numbers.now) result.number result.place }
+fn check_numbers(element: u64, hyper: u64, numbers: &[u16]) -> Result<(), Refusal>
+    ensures { Answers (list_memory_checks element hyper numbers.now) (number result) (place result) }
 {
     if numbers.len() % Head::ENTRY_NUMBERS != 0 {
-        return Answer::at(Answer::WRONG_LENGTH, 0);
+        return Err(Refusal::from(Reason::WrongLength));
     }
-    let number = bounds_fault(element, hyper);
-    if number != Answer::DONE {
-        return Answer::at(number, 0);
-    }
-    let entries = numbers.len() / Head::ENTRY_NUMBERS;
-    check_entries(first_wrong_of(numbers, hyper, entries), entries)
+    bounds_fault(element, hyper)?;
+    check_entries(
+        |k| entry_of(numbers, k),
+        hyper,
+        numbers.len() / Head::ENTRY_NUMBERS,
+    )
 }
 
 // ---- the reader
@@ -303,56 +259,28 @@ fn put_all_numbers(file: &[u8], entries: usize, out: &mut [u16])
     requires { (list_header + entry_size * entries ≤ length file.now) × (entry_numbers * entries ≤ length out.old) }
     ensures { out.new ≡ lent (each entries (λ k. in_memory (file_entry file.now k))) out.old }
 {
-    let mut k: usize = 0;
-    while k < entries {
+    for k in 0..entries {
         put_numbers(entry_in(file, k), Head::ENTRY_NUMBERS * k, out);
-        k += 1;
-    }
-}
-
-// What the reader returns beside the numbers that it fills in.
-#[derive(Clone, Copy)]
-pub struct Reading {
-    pub answer: Answer,
-    pub head: Head,
-}
-
-fn refuse_read(answer: Answer) -> Reading
-    ensures { (result.answer ≡ answer) × (result.head.element ≡ 0) × (result.head.hyper ≡ 0) × (result.head.entries ≡ 0) }
-{
-    Reading {
-        answer: answer,
-        head: Head {
-            element: 0,
-            hyper: 0,
-            entries: 0,
-        },
     }
 }
 
 // The reader: checks 1, 2, 3, 6, 30, 31, then 17. Fills the front of `out` with three numbers an entry.
-pub fn read(file: &[u8], out: &mut [u16]) -> Reading
+pub fn read(file: &[u8], out: &mut [u16]) -> Result<Head, Refusal>
     ensures { ListRead file.now out.old out.new
-        result.answer.number result.answer.place result.head.element result.head.hyper result.head.entries }
+        (number result) (place result) (element_of result) (hyper_of result) (entries_of result) }
 {
-    let answer = check_file(file);
-    if answer.number != Answer::DONE {
-        return refuse_read(answer);
-    }
-    let head = Head::of(file);
+    let head = check_file(file)?;
     if out.len() / Head::ENTRY_NUMBERS < head.entries {
-        return refuse_read(Answer::at(Answer::SHORT_OUTPUT, 0));
+        return Err(Refusal::from(Reason::ShortOutput));
     }
     put_all_numbers(file, head.entries, out);
-    Reading {
-        answer: answer,
-        head: head,
-    }
+    Ok(head)
 }
 
 // ---- the writer
 
 // The bytes of all entries of a slice of numbers that are right, past the header.
+// (Beside the reader's loop: where entries come from, how they are put and where the first stands differ, so that `for` alone is common.)
 fn put_all_bytes(numbers: &[u16], entries: usize, out: &mut [u8])
     requires { (entry_numbers * entries ≤ length numbers.now) × (list_header + entry_size * entries ≤ length out.old)
         × Fit entries (memory_entry numbers.now) }
@@ -360,30 +288,25 @@ fn put_all_bytes(numbers: &[u16], entries: usize, out: &mut [u8])
         lent (take list_header out.old ++ each entries (λ k. in_file (memory_entry numbers.now k)))
         out.old }
 {
-    let mut k: usize = 0;
-    while k < entries {
+    for k in 0..entries {
         put_bytes(
             entry_of(numbers, k),
             Head::BYTES + Head::ENTRY_BYTES * k,
             out,
         );
-        k += 1;
     }
 }
 
 // The writer: checks 6, 30, 31, then 17. Fills the front of `out` with the bytes of the list file.
-pub fn write(element: u64, hyper: u64, numbers: &[u16], out: &mut [u8]) -> Answer
-    ensures { ListWritten element hyper numbers.now out.old out.new result.number result.place }
+pub fn write(element: u64, hyper: u64, numbers: &[u16], out: &mut [u8]) -> Result<(), Refusal>
+    ensures { ListWritten element hyper numbers.now out.old out.new (number result) (place result) }
 {
-    let answer = check_numbers(element, hyper, numbers);
-    if answer.number != Answer::DONE {
-        return answer;
-    }
+    check_numbers(element, hyper, numbers)?;
     let entries = numbers.len() / Head::ENTRY_NUMBERS;
     if out.len() < Head::BYTES + Head::ENTRY_BYTES * entries {
-        return Answer::at(Answer::SHORT_OUTPUT, 0);
+        return Err(Refusal::from(Reason::ShortOutput));
     }
     put_head(element as u8, hyper as u16, out);
     put_all_bytes(numbers, entries, out);
-    answer
+    Ok(())
 }

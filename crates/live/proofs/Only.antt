@@ -1,37 +1,28 @@
 -- Only one answer fits each call of a live table.
-use mathlib.Core.Path.{◌≡◌, sym, ◌∙◌}
-use mathlib.Core.Logic.{⊎_elim}
-use Rattle.rules.proofs.Calls.{call_only}
-use Rattle.live.specs.declared.Changed.{Changed}
-use Rattle.live.specs.State.{live_of}
-use Rattle.live.specs.Answers.{Sized}
+use mathlib.Core.Path.{refl, sym, ap, ◌∙◌}
+use Rattle.std.specs.Prelude.{Ok, Err}
+use Rattle.table.proofs.Reasons.{refused_not, same_refusal}
 use Rattle.live.specs.Promises.{OneNew, OneAddition, OneRemoval}
 use Rattle.live.proofs.State.{live_same}
 
--- the same numbers, and live tables that hold the same
-joined : (r s : Changed) → r.answer.number ≡ s.answer.number → r.answer.place ≡ s.answer.place → r.taken ≡ s.taken
-    → Sized r.live → Sized s.live → live_of r.live ≡ live_of s.live → r ≡ s
-joined r s n p t A B e = λ j. record {
-  answer = record { number = n j; place = p j };
-  taken = t j;
-  live = live_same r.live s.live A B e j;
-}
-
 pub new_only : OneNew
-new_only M r s A B =
-    let c = call_only A.made B.made in
-    joined r s c.0 c.1 (A.taken ∙ sym B.taken) A.size B.size
-    (⊎_elim (λ d. d.0 ∙ sym d.1) (λ d. d.0 ∙ sym d.1) c.2)
+new_only M (Ok a) (Ok b) A B = ap Ok (live_same a b A.size B.size (A.made.done refl ∙ sym (B.made.done refl)))
+new_only M (Ok a) (Err e) A B = refused_not _ e A.made.answers B.made.answers
+new_only M (Err e) (Ok b) A B = refused_not _ e B.made.answers A.made.answers
+new_only M (Err e) (Err g) A B = same_refusal _ e g A.made.answers B.made.answers
 
 pub addition_only : OneAddition
-addition_only l row r s A B =
-    let c = call_only A.added B.added in
-    joined r s c.0 c.1
-    (⊎_elim (λ d. d.0.0 ∙ sym d.1.0) (λ d. d.0.0 ∙ sym d.1.0) c.2) A.size B.size
-    (⊎_elim (λ d. d.0.1 ∙ sym d.1.1) (λ d. d.0.1 ∙ sym d.1.1) c.2)
+addition_only l row m n (Ok j) (Ok k) A B =
+    let c = A.added.done refl in
+    let d = B.added.done refl in
+    (live_same m n A.size B.size (c.1 ∙ sym d.1), ap Ok (c.0 ∙ sym d.0))
+addition_only l row m n (Ok j) (Err e) A B = refused_not _ e A.added.answers B.added.answers
+addition_only l row m n (Err e) (Ok k) A B = refused_not _ e B.added.answers A.added.answers
+addition_only l row m n (Err e) (Err g) A B = (A.same ∙ sym B.same, same_refusal _ e g A.added.answers B.added.answers)
 
 pub removal_only : OneRemoval
-removal_only l k r s A B =
-    let c = call_only A.removed B.removed in
-    joined r s c.0 c.1 (A.taken ∙ sym B.taken) A.size B.size
-    (⊎_elim (λ d. d.0 ∙ sym d.1) (λ d. d.0 ∙ sym d.1) c.2)
+removal_only l k m n (Ok _) (Ok _) A B =
+    (live_same m n A.size B.size (A.removed.done refl ∙ sym (B.removed.done refl)), refl)
+removal_only l k m n (Ok _) (Err e) A B = refused_not _ e A.removed.answers B.removed.answers
+removal_only l k m n (Err e) (Ok _) A B = refused_not _ e B.removed.answers A.removed.answers
+removal_only l k m n (Err e) (Err g) A B = (A.same ∙ sym B.same, same_refusal _ e g A.removed.answers B.removed.answers)

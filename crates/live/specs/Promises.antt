@@ -3,12 +3,12 @@
 --   StaysInOrder     new, and a call on a live table in order, leave one in order
 --   SumsAfresh        after any calls, refused ones among them, denominator and sums are those worked out afresh from the rows present
 --   OneNew, OneAddition, OneRemoval   only one answer fits
-use Rattle.std.specs.Prelude.{◌≡◌, ℕ, ◌<◌}
+use Rattle.std.specs.Prelude.{◌≡◌, ℕ, ◌<◌, Result}
 use Rattle.rules.specs.Bounds.{max_elements}
 use Rattle.rules.specs.Live.{Live, Entry, InOrder, Made, Added, Removed, Reached, common, sum_over}
+use Rattle.table.specs.declared.refusals.Refusal.{Refusal}
 use Rattle.live.specs.declared.Entry.{Entry as LiveEntry}
 use Rattle.live.specs.declared.Live.{Live as LiveTable}
-use Rattle.live.specs.declared.Changed.{Changed}
 use Rattle.live.specs.Answers.{NewAnswer, AddAnswer, RemoveAnswer}
 
 pub record StaysInOrder : Type 0 where
@@ -21,10 +21,13 @@ SumsAfresh =
     (l : Live) → Reached l → (l.denominator ≡ common l) × ((s : ℕ) → s < max_elements → l.sum s ≡ sum_over (common l) l s)
 
 abbrev pub OneNew : Type 0
-OneNew = (M : ℕ) (r s : Changed) → NewAnswer M r → NewAnswer M s → r ≡ s
+OneNew = (M : ℕ) (r s : Result LiveTable Refusal) → NewAnswer M r → NewAnswer M s → r ≡ s
 
 abbrev pub OneAddition : Type 0
-OneAddition = (l : LiveTable) (e : LiveEntry) (r s : Changed) → AddAnswer l e r → AddAnswer l e s → r ≡ s
+OneAddition =
+    (l : LiveTable) (e : LiveEntry) (m n : LiveTable) (r s : Result ℕ Refusal) → AddAnswer l e m r → AddAnswer l e n s → (m ≡ n) × (r ≡ s)
 
 abbrev pub OneRemoval : Type 0
-OneRemoval = (l : LiveTable) (k : ℕ) (r s : Changed) → RemoveAnswer l k r → RemoveAnswer l k s → r ≡ s
+OneRemoval =
+    (l : LiveTable) (k : ℕ) (m n : LiveTable) (r s : Result Unit Refusal) → RemoveAnswer l k m r → RemoveAnswer l k n s
+    → (m ≡ n) × (r ≡ s)

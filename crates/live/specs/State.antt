@@ -4,7 +4,6 @@
 --   entry_of e          an entry that is to be put in a place
 --   row_of e            its row on the one ring
 --   blank M d          a live table with no rows
---   unchanged l n      the answer of a call refused with number n: the live table it was given
 --   NewSeat M e        e passes 7 to 9 on a ring of M, or is zeros
 --   PutIn l k e r      r is l with e in place k, and with the sums over r's denominator, which is 0 where it would be above 4096
 use Rattle.std.specs.Prelude.{◌≡◌, ◌⊎◌, ℕ, length, set, replicate}
@@ -19,7 +18,6 @@ use Rattle.time.specs.Time.{Capped}
 use Rattle.live.specs.Seats.{Zeros}
 use Rattle.live.specs.declared.Live.{Live}
 use Rattle.live.specs.declared.Entry.{Entry}
-use Rattle.live.specs.declared.Changed.{Changed}
 
 abbrev pub live_of : Live → rules.Live
 live_of l = record {
@@ -51,9 +49,6 @@ blank M d = record {
   denominator = d;
   sums = replicate max_elements 0;
 }
-
-abbrev pub unchanged : Live → ℕ → Changed
-unchanged l n = record { answer = record { number = n; place = 0 }; taken = 0; live = l }
 
 abbrev pub NewSeat : ℕ → Entry → Type 0
 NewSeat M e = SoundRow (single M 1 (row_of e)) 0 ⊎ Zeros (row_of e)

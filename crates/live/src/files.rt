@@ -3,11 +3,12 @@ ghost use Rattle.std.specs.Prelude.{◌*◌, ◌≤◌, length};
 ghost use Rattle.rules.specs.Bounds.{max_rows};
 ghost use Rattle.rules.specs.TableFile.{row_numbers};
 ghost use Rattle.rules.specs.Live.{Filed};
+ghost use Rattle.table.specs.Refusal.{number, place};
 ghost use Rattle.live.specs.State.{live_of};
 ghost use Rattle.live.specs.Present.{PutPresent};
 
 use crate::Live;
-use table::{Answer, Table};
+use table::{Reason, Refusal, Table};
 
 // The numbers of the rows present, in the order of their places, at the front of `out`; how many rows they are.
 fn put_present<'a>(
@@ -23,8 +24,7 @@ fn put_present<'a>(
         out.old out.new result }
 {
     let mut rows: usize = 0;
-    let mut i: usize = 0;
-    while i < Table::ROWS {
+    for i in 0..Table::ROWS {
         if table::slots_at(period, i) != 0 {
             reader::put_numbers(
                 table::row_at(cost, period, first, second, i, 0, label[i]),
@@ -33,17 +33,16 @@ fn put_present<'a>(
             );
             rows += 1;
         }
-        i += 1;
     }
     rows
 }
 
 // The rows present, written as a table file in the version that is told: 15, then the writer's refusals. 5 says that there are no rows.
-pub fn write_file(live: Live, version: u64, out: &mut [u8]) -> Answer
-    ensures { Filed version (live_of live) out.old out.new result.number result.place }
+pub fn write_file(live: &Live, version: u64, out: &mut [u8]) -> Result<(), Refusal>
+    ensures { Filed version (live_of live.now) out.old out.new (number result) (place result) }
 {
-    if !Live::is_in_order(live) {
-        return Answer::at(Answer::OFF_STATE, 0);
+    if !live.is_in_order() {
+        return Err(Reason::OffState.into());
     }
     let mut numbers = [0u16; Table::ROW_NUMBERS * Table::ROWS];
     let rows = put_present(

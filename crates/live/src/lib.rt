@@ -1,7 +1,7 @@
 // The live table (#109): 64 places for rows, and for each segment of the ring its exact load sum over one denominator, the least common
 // multiple of the periods present. An operator adds and removes one row at a time between reels.
 //
-// Every call first looks whether the live table that it is handed keeps the rules, which works denominator and sums out afresh. So a change
+// Every call first looks whether the live table that it is lent keeps the rules, which works denominator and sums out afresh. So a change
 // works them out afresh too, by the same functions, and nothing is carried along that could drift.
 #![tactic(auto)]
 
@@ -9,17 +9,17 @@ mod files;
 mod seats;
 mod tally;
 
-ghost use Rattle.std.specs.Prelude.{◌≡◌, not, cond, ℕ, ◌<◌, ltb};
+ghost use Rattle.std.specs.Prelude.{◌≡◌, not, ℕ, ◌<◌, ltb, MatchOption};
 ghost use Rattle.numbers.specs.Decides.{Decides};
 ghost use Rattle.numbers.specs.Finite.{lowest};
 ghost use Rattle.numbers.specs.Lists.{at};
 ghost use Rattle.rules.specs.Bounds.{max_elements, max_rows};
 ghost use Rattle.rules.specs.Live.{InOrder};
-ghost use Rattle.live.specs.State.{live_of, row_of, NewSeat, PutIn, unchanged};
+ghost use Rattle.live.specs.State.{live_of, row_of, NewSeat, PutIn};
 ghost use Rattle.live.specs.Answers.{NewAnswer, AddAnswer, RemoveAnswer};
 
 pub use files::write_file;
-use table::{Answer, Row, Table};
+use table::{Reason, Refusal, Row, Table};
 
 // The sum of segment s + 1 stands at s.
 #[repr(C)]
@@ -58,52 +58,19 @@ fn clockwise(entry: Entry) -> Row
     }
 }
 
-// What a call answers: number and place, the place that a row has taken, and the live table after it.
-#[derive(Clone, Copy)]
-pub struct Changed {
-    pub answer: Answer,
-    pub taken: u32,
-    pub live: Live,
-}
-
+#[tactic(auto, using(crate::proofs::Seated::same_decided))]
 fn are_same<'a>(a: &'a [u64; Table::ELEMENTS], b: &'a [u64; Table::ELEMENTS]) -> bool
     ensures { Decides ((s : ℕ) → s < max_elements → at a.now s ≡ at b.now s) result }
 {
-    let mut s: usize = 0;
-    while s < Table::ELEMENTS {
-        if a[s] != b[s] {
-            return false;
-        }
-        s += 1;
-    }
-    true
+    a == b
 }
 
-// The lowest free place, 64 where all hold rows.
-fn lowest_free(period: &[u16; Table::ROWS]) -> usize
-    ensures { result ≡ lowest max_rows (λ i. not (ltb 0 (at period.now i))) }
+// The lowest free place, none where all hold rows.
+fn lowest_free(period: &[u16; Table::ROWS]) -> Option<usize>
+    ensures { let k = lowest max_rows (λ i. not (ltb 0 (at period.now i))) in
+        MatchOption result (k ≡ max_rows) (λ i. (i ≡ k) × (i < max_rows)) }
 {
-    let mut i: usize = 0;
-    while i < Table::ROWS {
-        if table::slots_at(period, i) == 0 {
-            return i;
-        }
-        i += 1;
-    }
-    i
-}
-
-// The number of the first of two refusals that applies, else 0.
-fn earlier_of(first: bool, number: u32, second: bool, other: u32) -> u32
-    ensures { result ≡ cond first number (cond second other 0) }
-{
-    if first {
-        return number;
-    }
-    if second {
-        return other;
-    }
-    Answer::DONE
+    period.iter().position(|p| *p == 0)
 }
 
 impl Live {
@@ -123,43 +90,50 @@ impl Live {
         }
     }
 
-    // It keeps the rules: any other is off.
-    pub fn is_in_order(self) -> bool
-        ensures { Decides (InOrder (live_of self)) result }
+    // Nothing but zeros: what stands in the place of a live table that is not made.
+    pub fn nothing() -> Live
+        ensures { result ≡ Rattle.live.specs.State.blank 0 0 }
     {
-        let live = self;
+        Live::blank(0, 0)
+    }
+
+    // It keeps the rules: any other is off.
+    pub fn is_in_order(&self) -> bool
+        ensures { Decides (InOrder (live_of self.now)) result }
+    {
         if !seats::are_seated(
-            live.elements,
-            &live.cost,
-            &live.period,
-            &live.first,
-            &live.second,
-            &live.label,
+            self.elements,
+            &self.cost,
+            &self.period,
+            &self.first,
+            &self.second,
+            &self.label,
         ) {
             return false;
         }
-        let d = tally::denominator_of(&live.period);
+        let d = tally::denominator_of(&self.period);
         if d == 0 {
             return false;
         }
-        if d != live.denominator {
+        if d != self.denominator {
             return false;
         }
         let sums = tally::sums_of(
-            live.elements,
+            self.elements,
             d,
-            &live.cost,
-            &live.period,
-            &live.first,
-            &live.second,
+            &self.cost,
+            &self.period,
+            &self.first,
+            &self.second,
         );
-        are_same(&live.sums, &sums)
+        are_same(&self.sums, &sums)
     }
 
-    // Place `k` holds the entry, and denominator and sums are worked out afresh. The denominator is 0 where it would be above 4096.
-    fn put(self, k: usize, entry: Entry) -> Live
-        requires { (k < max_rows) × InOrder (live_of self) × NewSeat self.elements entry }
-        ensures { PutIn self k entry result }
+    // What it is once place `k` holds the entry: denominator and sums are worked out afresh. The denominator is 0 where it would be above
+    // 4096.
+    fn put(&self, k: usize, entry: Entry) -> Live
+        requires { (k < max_rows) × InOrder (live_of self.now) × NewSeat self.now.elements entry }
+        ensures { PutIn self.now k entry result }
     {
         let mut cost = self.cost;
         let mut period = self.period;
@@ -185,78 +159,52 @@ impl Live {
         }
     }
 
-    // A refusal hands back the very live table.
-    fn refused(self, number: u32) -> Changed
-        ensures { result ≡ unchanged self number }
-    {
-        Changed {
-            answer: Answer::at(number, 0),
-            taken: 0,
-            live: self,
-        }
-    }
-
-    // A live table of a ring of `elements`, with no rows; nothing but zeros where it is refused.
-    pub fn new(elements: usize) -> Changed
+    // A live table of a ring of `elements`, with no rows.
+    pub fn new(elements: usize) -> Result<Live, Refusal>
         ensures { NewAnswer elements result }
     {
         if elements < 2 {
-            return Live::refused(Live::blank(0, 0), Answer::WRONG_ELEMENTS);
+            return Err(Reason::WrongElements.into());
         }
         if elements > Table::ELEMENTS {
-            return Live::refused(Live::blank(0, 0), Answer::WRONG_ELEMENTS);
+            return Err(Reason::WrongElements.into());
         }
-        Changed {
-            answer: Answer::done(),
-            taken: 0,
-            live: Live::blank(elements, 1),
-        }
+        Ok(Live::blank(elements, 1))
     }
 
-    // An entry is put in the lowest free place.
-    pub fn add(self, entry: Entry) -> Changed
-        ensures { AddAnswer self entry result }
+    // An entry is put in the lowest free place, which is answered. A refusal leaves the live table as it was.
+    pub fn add(&mut self, entry: Entry) -> Result<u32, Refusal>
+        ensures { AddAnswer self.old entry self.new result }
     {
-        let live = self;
-        if !Live::is_in_order(live) {
-            return Live::refused(live, Answer::OFF_STATE);
+        if !self.is_in_order() {
+            return Err(Reason::OffState.into());
         }
         let row = clockwise(entry);
-        let number = table::row_fault(live.elements, 1, row);
-        if number != Answer::DONE {
-            return Live::refused(live, number);
+        table::row_fault(self.elements, 1, row)?;
+        if seats::has_row(Table::ROWS, &self.period, &self.first, &self.second, row) {
+            return Err(Reason::PastedRow.into());
         }
-        let pasted = seats::has_row(Table::ROWS, &live.period, &live.first, &live.second, row);
-        let k = lowest_free(&live.period);
-        let full = k == Table::ROWS;
-        let other = earlier_of(pasted, Answer::PASTED_ROW, full, Answer::NO_FREE_PLACE);
-        if other != Answer::DONE {
-            return Live::refused(live, other);
-        }
-        let after = Live::put(live, k, entry);
+        let k = lowest_free(&self.period).ok_or(Reason::NoFreePlace)?;
+        let after = self.put(k, entry);
         if after.denominator == 0 {
-            return Live::refused(live, Answer::LONG_HYPERPERIOD);
+            return Err(Reason::LongHyperperiod.into());
         }
-        Changed {
-            answer: Answer::done(),
-            taken: k as u32,
-            live: after,
-        }
+        *self = after;
+        Ok(k as u32)
     }
 
-    // The row in place `k` is removed, and the place is free again.
-    pub fn remove(self, k: usize) -> Changed
-        ensures { RemoveAnswer self k result }
+    // The row in place `k` is removed, and the place is free again. A refusal leaves the live table as it was.
+    pub fn remove(&mut self, k: usize) -> Result<(), Refusal>
+        ensures { RemoveAnswer self.old k self.new result }
     {
-        let live = self;
-        if !Live::is_in_order(live) {
-            return Live::refused(live, Answer::OFF_STATE);
+        if !self.is_in_order() {
+            return Err(Reason::OffState.into());
         }
         if k >= Table::ROWS {
-            return Live::refused(live, Answer::NO_ROW_THERE);
+            return Err(Reason::NoRowThere.into());
         }
-        if table::slots_at(&live.period, k) == 0 {
-            return Live::refused(live, Answer::NO_ROW_THERE);
+        if table::slots_at(&self.period, k) == 0 {
+            return Err(Reason::NoRowThere.into());
         }
         let free = Entry {
             cost: 0,
@@ -265,10 +213,7 @@ impl Live {
             second: 0,
             label: 0,
         };
-        Changed {
-            answer: Answer::done(),
-            taken: 0,
-            live: Live::put(live, k, free),
-        }
+        *self = self.put(k, free);
+        Ok(())
     }
 }

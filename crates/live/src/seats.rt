@@ -12,25 +12,13 @@ ghost use Rattle.table.specs.Rows.{single};
 ghost use Rattle.live.specs.Tally.{column_live, column_places};
 ghost use Rattle.live.specs.Seats.{Zeros, Seat, equal};
 
-use table::{Answer, Row, Table};
+use table::{Row, Table};
 
 // A free place holds zeros, the label too.
 fn is_free(row: Row) -> bool
     ensures { Decides (Zeros row) result }
 {
-    if row.cost != 0 {
-        return false;
-    }
-    if row.period != 0 {
-        return false;
-    }
-    if row.first != 0 {
-        return false;
-    }
-    if row.second != 0 {
-        return false;
-    }
-    row.label == 0
+    row.cost == 0 && row.period == 0 && row.first == 0 && row.second == 0 && row.label == 0
 }
 
 fn is_seat(elements: usize, row: Row) -> bool
@@ -39,7 +27,7 @@ fn is_seat(elements: usize, row: Row) -> bool
     if is_free(row) {
         return true;
     }
-    table::row_fault(elements, 1, row) == Answer::DONE
+    table::row_fault(elements, 1, row).is_ok()
 }
 
 // Each place is free, or holds a row that passes 7 to 9. A live table has one ring, so 26 never applies.
@@ -56,17 +44,12 @@ fn are_seats<'a>(
         (column_live elements cost.now period.now first.now second.now label.now) i)
         result }
 {
-    let mut i: usize = 0;
-    while i < Table::ROWS {
-        if !is_seat(
+    (0..Table::ROWS).all(|i| {
+        is_seat(
             elements,
             table::row_at(cost, period, first, second, i, 0, label[i]),
-        ) {
-            return false;
-        }
-        i += 1;
-    }
-    true
+        )
+    })
 }
 
 // Place `j` has the row's ends and period.
@@ -80,13 +63,9 @@ fn is_equal<'a>(
     requires { j < max_rows }
     ensures { result ≡ equal (at period.now) (at first.now) (at second.now) row j }
 {
-    if table::end_at(first, j) != row.first as usize {
-        return false;
-    }
-    if table::end_at(second, j) != row.second as usize {
-        return false;
-    }
-    table::slots_at(period, j) == row.period as u64
+    table::end_at(first, j) == row.first as usize
+        && table::end_at(second, j) == row.second as usize
+        && table::slots_at(period, j) == row.period as u64
 }
 
 // One of the first `count` places has the row's ends and period.
@@ -100,14 +79,7 @@ pub fn has_row<'a>(
     requires { count ≤ max_rows }
     ensures { result ≡ any count (equal (at period.now) (at first.now) (at second.now) row) }
 {
-    let mut j: usize = 0;
-    while j < count {
-        if is_equal(period, first, second, j, row) {
-            return true;
-        }
-        j += 1;
-    }
-    false
+    (0..count).any(|j| is_equal(period, first, second, j, row))
 }
 
 // Place `i` holds a row that stands in an earlier place too.
@@ -123,16 +95,8 @@ fn is_repeated<'a>(
         && pasted
         (column_places elements cost.now period.now first.now second.now) i) }
 {
-    if table::slots_at(period, i) == 0 {
-        return false;
-    }
-    has_row(
-        i,
-        period,
-        first,
-        second,
-        table::row_at(cost, period, first, second, i, 0, 0),
-    )
+    let row = table::row_at(cost, period, first, second, i, 0, 0);
+    row.period != 0 && has_row(i, period, first, second, row)
 }
 
 // No row has the ends and the period of another.
@@ -147,14 +111,7 @@ fn are_single<'a>(
         (column_places elements cost.now period.now first.now second.now) i) → ⊥)
         result }
 {
-    let mut i: usize = 0;
-    while i < Table::ROWS {
-        if is_repeated(cost, period, first, second, i) {
-            return false;
-        }
-        i += 1;
-    }
-    true
+    (0..Table::ROWS).all(|i| !is_repeated(cost, period, first, second, i))
 }
 
 // The ring and the rows keep the live table's rules.
@@ -171,14 +128,7 @@ pub fn are_seated<'a>(
         (column_live elements cost.now period.now first.now second.now label.now))
         result }
 {
-    if elements < 2 {
-        return false;
-    }
-    if elements > Table::ELEMENTS {
-        return false;
-    }
-    if !are_seats(elements, cost, period, first, second, label) {
-        return false;
-    }
-    are_single(cost, period, first, second)
+    (2..=Table::ELEMENTS).contains(&elements)
+        && are_seats(elements, cost, period, first, second, label)
+        && are_single(cost, period, first, second)
 }

@@ -15,26 +15,18 @@ use table::{Row, Table};
 fn at_least_one(x: u16) -> u16
     ensures { result ≡ max 1 x }
 {
-    if x == 0 {
-        return 1;
-    }
-    x
+    x.max(1)
 }
 
 // The periods, and 1 for a free place, which is no multiple of anything more.
 fn counted(period: &[u16; Table::ROWS]) -> [u16; Table::ROWS]
     ensures { ByRow max_rows (λ i. max 1 (at period.now i)) result }
 {
-    let mut all = [0u16; Table::ROWS];
-    let mut i: usize = 0;
-    while i < Table::ROWS {
-        all[i] = at_least_one(period[i]);
-        i += 1;
-    }
-    all
+    period.map(at_least_one)
 }
 
 // The least common multiple of the periods present, or 0 where it is above 4096.
+#[tactic(auto, using(crate::proofs::Sums::counted_periods, crate::proofs::Sums::counted_common))]
 pub fn denominator_of(period: &[u16; Table::ROWS]) -> u64
     requires { (i : ℕ) → i < max_rows → at period.now i ≤ max_slots }
     ensures { Capped (common_of (at period.now)) result }
@@ -74,16 +66,9 @@ fn sum_of<'a>(
         ≡ sum_over d (column_live elements cost.now period.now first.now second.now label) s }
 {
     let mut total: u64 = 0;
-    let mut i: usize = 0;
-    while i < Table::ROWS {
-        total = total
-            + load_of(
-                elements,
-                d,
-                table::row_at(cost, period, first, second, i, 0, 0),
-                s,
-            );
-        i += 1;
+    for i in 0..Table::ROWS {
+        let row = table::row_at(cost, period, first, second, i, 0, 0);
+        total += load_of(elements, d, row, s);
     }
     total
 }
@@ -103,10 +88,8 @@ pub fn sums_of<'a>(
         ≡ sum_over d (column_live elements cost.now period.now first.now second.now label)) }
 {
     let mut sums = [0u64; Table::ELEMENTS];
-    let mut s: usize = 0;
-    while s < elements {
+    for s in 0..elements {
         sums[s] = sum_of(elements, d, cost, period, first, second, s);
-        s += 1;
     }
     sums
 }

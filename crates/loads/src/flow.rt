@@ -75,28 +75,16 @@ fn visit(far: &[u8; Table::ROWS], rows: u64, way: u64, seen: u64, by: &mut [u64;
     all
 }
 
-// The nodes seen, with the one before u where the set that leads there can carry one more.
-fn step_down(more: u64, u: usize, way: u64, seen: u64, by: &mut [u64; NODES]) -> u64
-    requires { (u < nodes_most) × (bit more u ≡ true → 0 < u) × (length by.old ≡ nodes_most) }
+// The nodes seen, with node p beside u where the word `sets` has u: the set between the two can carry one more, or one less.
+fn step(sets: u64, u: usize, p: usize, way: u64, seen: u64, by: &mut [u64; NODES]) -> u64
+    requires { (u < nodes_most) × (bit sets u ≡ true → p < nodes_most) × (length by.old ≡ nodes_most) }
     ensures { (length by.new ≡ nodes_most)
-        × Entered (bit more u) (u - 1) way seen result (at by.old) (at by.new) }
+        × Entered (bit sets u) p way seen result (at by.old) (at by.new) }
 {
-    if (more >> u) % 2 == 0 {
+    if (sets >> u) % 2 == 0 {
         return seen;
     }
-    reach(u - 1, way, seen, by)
-}
-
-// The nodes seen, with the one after u where the set that leads from there can carry one less.
-fn step_up(less: u64, u: usize, way: u64, seen: u64, by: &mut [u64; NODES]) -> u64
-    requires { (u < nodes_most) × (bit less u ≡ true → u + 1 < nodes_most) × (length by.old ≡ nodes_most) }
-    ensures { (length by.new ≡ nodes_most)
-        × Entered (bit less u) (u + 1) way seen result (at by.old) (at by.new) }
-{
-    if (less >> u) % 2 == 0 {
-        return seen;
-    }
-    reach(u + 1, way, seen, by)
+    reach(p, way, seen, by)
 }
 
 // Whether one more can be brought from node s to node t, and the rows that are toggled on the way. Row i leads from node tail[i] to
@@ -132,8 +120,9 @@ pub fn find_way(
         let way = by[u];
         let ahead = visit(head, out[u] & arcs.up, way, seen, &mut by);
         let back = visit(tail, into[u] & arcs.down, way, ahead, &mut by);
-        let lower = step_down(arcs.more, u, way, back, &mut by);
-        seen = step_up(arcs.less, u, way, lower, &mut by);
+        // no set starts at node 0: the node before it is not looked at
+        let lower = step(arcs.more, u, u.wrapping_sub(1), way, back, &mut by);
+        seen = step(arcs.less, u, u + 1, way, lower, &mut by);
         done = done | (1u64 << u);
     }
     Outcome {

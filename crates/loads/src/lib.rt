@@ -86,15 +86,13 @@ pub fn compare(
     let mut more: u64 = 0;
     let mut less: u64 = 0;
     let mut low: u64 = 0;
-    let mut k: usize = 0;
-    while k < size.sets {
+    for k in 0..size.sets {
         rows = rows ^ out[k] ^ into[k];
         let used = h * (u64::count_ones(top & rows) as u64);
         let all = sum[k] as u64;
         more = mark(more, k + 1, used < all);
         less = mark(less, k, all < used);
         low = mark(low, k, used + h <= all);
-        k += 1;
     }
     Sides {
         parted,
@@ -213,14 +211,12 @@ pub fn raise_rows(
 {
     let mut s = start;
     let mut later = s.parted;
-    let mut i: usize = 0;
-    while i < size.rows {
+    for i in 0..size.rows {
         later = without(later, i);
         let way = seek(tail, head, out, into, s, later, i);
         if way != 0 {
             s = compare(out, into, sum, size, s.parted, s.top ^ way);
         }
-        i += 1;
     }
     s.top
 }

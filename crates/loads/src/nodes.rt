@@ -53,20 +53,18 @@ fn put_starts(
         × ByNode rows max_elements (at tail.new) (at out.new) }
 {
     let mut left = all_rows(rows);
-    let mut k: usize = 0;
-    while k < sets {
+    for k in 0..sets {
         let here = left & words[k];
         put(here, k as u8, tail);
         out[k] = out[k] | here;
         left = left ^ here;
-        k += 1;
     }
     put(left, sets as u8, tail);
     out[sets] = out[sets] | left;
 }
 
 // Writes the node where each row ends, after its highest set, to `head`, and the rows that end at each node to `into`; both are 0. The sets
-// from the last on.
+// from the last on. Not one function with `put_starts`: the order, the nodes and the node of rows in no set all differ.
 fn put_stops(
     rows: usize,
     sets: usize,
@@ -80,13 +78,11 @@ fn put_stops(
         × ByNode rows max_elements (at head.new) (at into.new) }
 {
     let mut left = all_rows(rows);
-    let mut k = sets;
-    while k > 0 {
-        let here = left & words[k - 1];
-        put(here, k as u8, head);
-        into[k] = into[k] | here;
+    for k in (0..sets).rev() {
+        let here = left & words[k];
+        put(here, k as u8 + 1, head);
+        into[k + 1] = into[k + 1] | here;
         left = left ^ here;
-        k -= 1;
     }
     put(left, 1, head);
     into[1] = into[1] | left;

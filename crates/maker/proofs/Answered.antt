@@ -20,19 +20,21 @@ use Rattle.rules.proofs.Answers.{
   done,
   stopped,
   joined,
-  answered,
   none_of,
   none_left,
   none_right,
-  answers_only,
   answers_split,
 }
 use Rattle.rules.proofs.Calls.{call_only}
-use Rattle.table.specs.declared.Answer.{Answer}
+use Rattle.std.specs.Prelude.{Result, Ok, Err}
+use Rattle.table.specs.Refusal.{number_of, number, place}
+use Rattle.table.specs.declared.refusals.Reason.TheVariants.{ShortOutput}
+use Rattle.table.specs.declared.refusals.Refusal.{Refusal}
+use Rattle.table.proofs.Reasons.{not_done}
 use Rattle.maker.specs.Words.{flat}
 use Rattle.maker.specs.declared.Source.{Source}
 use Rattle.maker.specs.declared.Making.{Making}
-use Rattle.maker.specs.Finding.{word_checks, early_checks, Finds, Fits, IsNothing, IsMade}
+use Rattle.maker.specs.Finding.{word_checks, early_checks, Finds, Fits, hyper_of, entries_of}
 use Rattle.maker.proofs.Finding.{early_numbered}
 
 -- ---- the list's numbers and bytes, entry by entry
@@ -85,77 +87,70 @@ module _ (a : Ask) (N : Numbered a.checks) (plan : List ℕ) (e room wants : ℕ
   unfolding maker_checks
   split = refl
 
-  early_none : (p : ℕ) → Answers early 0 p → None early
-  early_none p q = none_of early p (early_numbered t plan e a.checks N) q
-
   late : (n p : ℕ) → n ≢ 0 → Answers (short_output brief ∷ []) n p → Answers last n p
   unfolding Answers
   late n p z q = ⊎_elim (λ w. inl (inl w.0, w.1, w.2)) (λ w. absurd (z w.1.0)) q
 
-  module _ {s : Source} (F : Finds a.checks t plan e s) where
-    -- a check before that of the output refuses
-    pub fits_refused : (r : Source) → s.answer.number ≢ 0 → IsNothing s.answer r → Fits a plan e room wants r
-    fits_refused r z q =
-        let n = s.answer.number in
-        let p = s.answer.place in
-        record {
-          answers = rw (q.answer, split) (⊎_elim
-              (λ w. stopped words last n p z w)
-              (λ w. joined words last n p w.0 (late n p z w.1))
-              (answers_split words (short_output brief ∷ []) n p F.answers));
-          ready = λ k. absurd (z (sym (ap (λ (b : Answer). b.number) q.answer) ∙ k));
-          enough = λ k. absurd (z (sym (ap (λ (b : Answer). b.number) q.answer) ∙ k));
-          none = λ k. (q.hyper, q.entries);
-        }
-
-    module _ (z : s.answer.number ≡ 0) where
-      none : None early
-      none = early_none s.answer.place (rw z at F.answers)
-
-      -- the output is too short
-      pub fits_short : (x : Answer) (r : Source) → cramped → (x.number ≡ 17) × (x.place ≡ 0) → IsNothing x r → Fits a plan e room wants r
-      fits_short x r l y q = record {
-        answers = rw (q.answer, y.0, y.1, split) (joined words last 17 0 (none_left words (short_output brief ∷ []) none)
-            (applied (short_output (brief ⊎ cramped)) [] 17 0 (inr l) refl refl));
-        ready = λ k. absurd (let w : ⊥ = omega (arith, k, y.0, ap (λ (b : Answer). b.number) q.answer) in w);
-        enough = λ k. absurd (let w : ⊥ = omega (arith, k, y.0, ap (λ (b : Answer). b.number) q.answer) in w);
-        none = λ k. (q.hyper, q.entries);
+  -- a check before that of the output refuses
+  pub fits_refused : (r : Refusal) → Finds a.checks t plan e (Err r) → Fits a plan e room wants (Err r)
+  fits_refused r F =
+      let n = number_of r.reason in
+      let p = r.place in
+      record {
+        answers = rw split (⊎_elim
+            (λ w. stopped words last n p (not_done r.reason) w)
+            (λ w. joined words last n p w.0 (late n p (not_done r.reason) w.1))
+            (answers_split words (short_output brief ∷ []) n p F.answers));
+        ready = tt;
+        enough = tt;
       }
 
-      -- nothing refuses
-      pub fits_all : wants ≤ room → Fits a plan e room wants s
-      unfolding None
-      fits_all l =
-          let same = answers_only early s.answer.number 0 s.answer.place 0 F.answers (answered early none) in
-          let long : brief → ⊥ = (none_right words (short_output brief ∷ []) none).0 in
-          let wide : cramped → ⊥ = λ k. omega arith in
-          record {
-            answers = rw (same.0, same.1, split) (joined words last 0 0 (none_left words (short_output brief ∷ []) none)
-                (passed (short_output (brief ⊎ cramped)) [] 0 0 (⊎_elim long wide) done));
-            ready = F.ready;
-            enough = λ k. l;
-            none = λ k. absurd (k z);
-          }
+  module _ {s : Source} (F : Finds a.checks t plan e (Ok s)) where
+    none : None early
+    none = none_of early 0 (early_numbered t plan e a.checks N) F.answers
+
+    -- the output is too short
+    pub fits_short : cramped → Fits a plan e room wants (Err (record { reason = ShortOutput; place = 0 }))
+    fits_short l = record {
+      answers = rw split (joined words last 17 0 (none_left words (short_output brief ∷ []) none)
+          (applied (short_output (brief ⊎ cramped)) [] 17 0 (inr l) refl refl));
+      ready = tt;
+      enough = tt;
+    }
+
+    -- nothing refuses
+    pub fits_all : wants ≤ room → Fits a plan e room wants (Ok s)
+    unfolding None
+    fits_all l =
+        let long : brief → ⊥ = (none_right words (short_output brief ∷ []) none).0 in
+        let wide : cramped → ⊥ = λ k. omega arith in
+        record {
+          answers = rw split (joined words last 0 0 (none_left words (short_output brief ∷ []) none)
+              (passed (short_output (brief ⊎ cramped)) [] 0 0 (⊎_elim long wide) done));
+          ready = F.ready;
+          enough = l;
+        }
 
 -- ---- what is told of it
 
-module _ (a : Ask) (plan : List ℕ) (e : ℕ) (form : ElementList → List ℕ) (was : List ℕ) {s : Source} {r : Making} {k : ℕ}
-    (size : length (form (moves_list a.table e plan)) ≡ k) (F : Fits a plan e (length was) k s) (q : IsMade s r) where
-  abbrev Told : List ℕ → Type 0
-  Told now = ListMade a plan e form was now r.answer.number r.answer.place r.hyper r.entries
+module _ (a : Ask) (plan : List ℕ) (e : ℕ) (form : ElementList → List ℕ) (was : List ℕ) {k : ℕ}
+    (size : length (form (moves_list a.table e plan)) ≡ k) where
+  abbrev Told : List ℕ → Result Making Refusal → Type 0
+  Told now r = ListMade a plan e form was now (number r) (place r) (hyper_of r) (entries_of r)
 
-  pub made_refused : s.answer.number ≢ 0 → Told was
-  made_refused z = rw (q.answer, q.hyper, q.entries, size) record {
+  pub made_refused : (r : Refusal) → Fits a plan e (length was) k (Err r) → Told was (Err r)
+  made_refused r F = rw size record {
     answers = F.answers;
-    done = λ y. absurd (z y);
-    refused = λ y. ((F.none z).0, (F.none z).1, refl);
+    done = λ y. absurd (not_done r.reason y);
+    refused = λ y. (refl, refl, refl);
   }
 
-  pub made_done : s.answer.number ≡ 0 → (now : List ℕ) → now ≡ lent (form (moves_list a.table e plan)) was → Told now
-  made_done z now w = rw (q.answer, q.hyper, q.entries, size) record {
+  pub made_done : {s : Source} → Fits a plan e (length was) k (Ok s) → (now : List ℕ) → now ≡ lent (form (moves_list a.table e plan)) was
+      → Told now (Ok (record { hyper = s.picks.hyper; entries = s.entries }))
+  made_done F now w = rw size record {
     answers = F.answers;
-    done = λ y. ((F.ready z).hyper, (F.ready z).entries, w);
-    refused = λ y. absurd (y z);
+    done = λ y. (F.ready.hyper, F.ready.entries, w);
+    refused = λ y. absurd (y refl);
   }
 
 -- ---- only one answer fits

@@ -8,6 +8,8 @@
 --   AtMostOne x        the word x has at most one bit
 --   IsMove x s d r     the word x has one bit, and r is its entry in slot s and way d
 --   OneEach a b n ws   each of the first n words has at most one of a and at most one of b
+--   Clear p ws         the words that p picks from, of the plan ws, are there, and each has at most one move each way
+--   moves_of p ws      the moves that p picks in the plan ws
 --   flat g xs          g of each entry of xs, joined
 --   PutMoves g xs p was now n m   the entries xs, n before them and m then, stand from place p on, each as g has it
 --   LowestBad t ws n r r is the lowest of the first n slots whose word is bad, and n where none is
@@ -16,12 +18,13 @@ use Rattle.std.specs.Int.Bits.{bit_and}
 use Rattle.std.proofs.lemmas.List.Edits.{sets}
 use Rattle.numbers.specs.Word.{bit, word}
 use Rattle.numbers.specs.Lists.{at, each}
-use Rattle.rules.specs.Bounds.{max_rows}
+use Rattle.rules.specs.Bounds.{max_rows, max_slots}
 use Rattle.rules.specs.Bus.{Table, clockwise}
 use Rattle.rules.specs.ElementList.{Entry, move, BadWord}
 use Rattle.ring.specs.Route.{row_segments}
 use Rattle.lists.specs.declared.Entry.{Entry as Place}
 use Rattle.lists.specs.Entries.{entry_of}
+use Rattle.maker.specs.declared.moves.Picks.{Picks}
 
 abbrev pub ending_at : (n : ℕ) (ends : ℕ → ℕ) (e : ℕ) → ℕ
 ending_at n ends e = word n (λ i. eqb (ends i) e)
@@ -50,6 +53,14 @@ pub record IsMove (x s d : ℕ) (r : Place) : Type 0 where
 pub record OneEach (a b n : ℕ) (ws : List ℕ) : Type 0 where
   pub into : (s : ℕ) → s < n → AtMostOne (bit_and (at ws s) a)
   pub from : (s : ℕ) → s < n → AtMostOne (bit_and (at ws s) b)
+
+pub record Clear (p : Picks) (ws : List ℕ) : Type 0 where
+  pub long : p.hyper ≤ length ws
+  pub short : p.hyper ≤ max_slots
+  pub each : OneEach p.into p.from p.hyper ws
+
+abbrev pub moves_of : Picks → List ℕ → List Entry
+moves_of p ws = plan_moves p.into p.from p.hyper ws
 
 unfoldable pub flat : (Entry → List ℕ) → List Entry → List ℕ
 flat g [] = []

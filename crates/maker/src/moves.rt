@@ -12,10 +12,10 @@ ghost use Rattle.maker.specs.Words.{
   ending_at,
   Segmented,
   picked,
-  plan_moves,
   AtMostOne,
   IsMove,
-  OneEach,
+  Clear,
+  moves_of,
   flat,
   PutMoves,
   LowestBad,
@@ -24,18 +24,24 @@ ghost use Rattle.maker.specs.Words.{
 use lists::{Entry, Head};
 use table::Table;
 
+// Which moves of a plan are one element's: those of the first `hyper` words, received by the rows of `into` and sent by those of `from`.
+#[derive(Clone, Copy)]
+pub struct Picks {
+    pub hyper: usize,
+    pub into: u64,
+    pub from: u64,
+}
+
 // The word of the rows that end at an element.
 pub fn ending_at(rows: usize, ends: &[u8; Table::ROWS], element: usize) -> u64
     requires { rows ≤ max_rows }
     ensures { result ≡ ending_at rows (at ends.now) element }
 {
     let mut word: u64 = 0;
-    let mut i: usize = 0;
-    while i < rows {
+    for i in 0..rows {
         if table::end_at(ends, i) == element {
-            word = word | (1u64 << i);
+            word |= 1u64 << i;
         }
-        i += 1;
     }
     word
 }
@@ -53,13 +59,6 @@ fn past_last(rows: usize, word: u64) -> bool
     word >> rows != 0
 }
 
-fn segments_at(routes: &[u32; Table::ROWS], i: usize) -> u32
-    requires { i < max_rows }
-    ensures { result ≡ at routes.now i }
-{
-    routes[i]
-}
-
 // Whether a word has overlapping rows, or a bit past the last row. `used` are the segments of its rows so far.
 fn is_bad(rows: usize, routes: &[u32; Table::ROWS], word: u64) -> bool
     requires { rows ≤ max_rows }
@@ -69,16 +68,14 @@ fn is_bad(rows: usize, routes: &[u32; Table::ROWS], word: u64) -> bool
         return true;
     }
     let mut used: u32 = 0;
-    let mut i: usize = 0;
-    while i < rows {
+    for i in 0..rows {
         if (word >> i) % 2 == 1 {
-            let segments = segments_at(routes, i);
+            let segments = routes[i];
             if used & segments != 0 {
                 return true;
             }
-            used = used | segments;
+            used |= segments;
         }
-        i += 1;
     }
     false
 }
@@ -88,15 +85,13 @@ pub fn lowest_bad(rows: usize, routes: &[u32; Table::ROWS], plan: &[u64], hyper:
     requires { rows ≤ max_rows }
     ensures { (t : bus.Table) → t.rows ≡ rows → Segmented t routes.now → LowestBad t plan.now hyper result }
 {
-    let mut slot: usize = 0;
-    while slot < hyper {
+    for slot in 0..hyper {
         if slot >= plan.len() {
             return hyper;
         }
         if is_bad(rows, routes, plan[slot]) {
             return slot;
         }
-        slot += 1;
     }
     hyper
 }
@@ -113,22 +108,6 @@ fn one(word: u64) -> usize
     1
 }
 
-// How many moves there are in the first `hyper` words.
-pub fn count(plan: &[u64], hyper: usize, into: u64, from: u64) -> usize
-    requires { (hyper ≤ length plan.now) × (hyper ≤ max_slots) × OneEach into from hyper plan.now }
-    ensures { (result ≡ length (plan_moves into from hyper plan.now)) × (result ≤ 2 * hyper) }
-{
-    let mut n: usize = 0;
-    let mut slot: usize = 0;
-    while slot < hyper {
-        let word = plan[slot];
-        n += one(word & into);
-        n += one(word & from);
-        slot += 1;
-    }
-    n
-}
-
 // The move of a word that has exactly one.
 fn move_of(word: u64, slot: usize, way: u16) -> Entry
     requires { AtMostOne word × (word ≢ 0) × (slot < max_slots) }
@@ -137,7 +116,7 @@ fn move_of(word: u64, slot: usize, way: u16) -> Entry
     Entry {
         slot: slot as u16,
         row: sets::lowest_row(word) as u16,
-        way: way,
+        way,
     }
 }
 
@@ -151,22 +130,6 @@ fn put_number(word: u64, slot: usize, way: u16, out: &mut [u16], n: usize) -> us
     }
     lists::put_numbers(move_of(word, slot, way), Head::ENTRY_NUMBERS * n, out);
     n + 1
-}
-
-// The numbers of all moves, at the front of `out`.
-pub fn put_numbers(plan: &[u64], hyper: usize, into: u64, from: u64, out: &mut [u16])
-    requires { (hyper ≤ length plan.now) × (hyper ≤ max_slots) × OneEach into from hyper plan.now
-        × (entry_numbers * length (plan_moves into from hyper plan.now) ≤ length out.old) }
-    ensures { out.new ≡ lent (flat in_memory (plan_moves into from hyper plan.now)) out.old }
-{
-    let mut n: usize = 0;
-    let mut slot: usize = 0;
-    while slot < hyper {
-        let word = plan[slot];
-        n = put_number(word & into, slot, Entry::RECEIVE, out, n);
-        n = put_number(word & from, slot, Entry::SEND, out, n);
-        slot += 1;
-    }
 }
 
 // The same in bytes, after a list file's head.
@@ -186,19 +149,45 @@ fn put_byte(word: u64, slot: usize, way: u16, out: &mut [u8], n: usize) -> usize
     n + 1
 }
 
-// The bytes of all moves, past the head.
-pub fn put_bytes(plan: &[u64], hyper: usize, into: u64, from: u64, out: &mut [u8])
-    requires { (hyper ≤ length plan.now) × (hyper ≤ max_slots) × OneEach into from hyper plan.now
-        × (list_header + entry_size * length (plan_moves into from hyper plan.now) ≤ length out.old) }
-    ensures { out.new ≡
-        lent (take list_header out.old ++ flat in_file (plan_moves into from hyper plan.now)) out.old }
-{
-    let mut n: usize = 0;
-    let mut slot: usize = 0;
-    while slot < hyper {
-        let word = plan[slot];
-        n = put_byte(word & into, slot, Entry::RECEIVE, out, n);
-        n = put_byte(word & from, slot, Entry::SEND, out, n);
-        slot += 1;
+impl Picks {
+    // How many moves there are.
+    pub fn count(self, plan: &[u64]) -> usize
+        requires { Clear self plan.now }
+        ensures { (result ≡ length (moves_of self plan.now)) × (result ≤ 2 * self.hyper) }
+    {
+        let mut n: usize = 0;
+        for slot in 0..self.hyper {
+            let word = plan[slot];
+            n += one(word & self.into);
+            n += one(word & self.from);
+        }
+        n
+    }
+
+    // The numbers of all moves, at the front of `out`.
+    pub fn put_numbers(self, plan: &[u64], out: &mut [u16])
+        requires { Clear self plan.now × (entry_numbers * length (moves_of self plan.now) ≤ length out.old) }
+        ensures { out.new ≡ lent (flat in_memory (moves_of self plan.now)) out.old }
+    {
+        let mut n: usize = 0;
+        for slot in 0..self.hyper {
+            let word = plan[slot];
+            n = put_number(word & self.into, slot, Entry::RECEIVE, out, n);
+            n = put_number(word & self.from, slot, Entry::SEND, out, n);
+        }
+    }
+
+    // The bytes of all moves, past the head. (A trait of both forms, with their widths and fronts, would be longer than these two loops.)
+    pub fn put_bytes(self, plan: &[u64], out: &mut [u8])
+        requires { Clear self plan.now × (list_header + entry_size * length (moves_of self plan.now) ≤ length out.old) }
+        ensures { out.new ≡
+            lent (take list_header out.old ++ flat in_file (moves_of self plan.now)) out.old }
+    {
+        let mut n: usize = 0;
+        for slot in 0..self.hyper {
+            let word = plan[slot];
+            n = put_byte(word & self.into, slot, Entry::RECEIVE, out, n);
+            n = put_byte(word & self.from, slot, Entry::SEND, out, n);
+        }
     }
 }

@@ -5,25 +5,16 @@ ghost use Rattle.numbers.specs.Lists.{at};
 ghost use Rattle.numbers.specs.Word.{bit, word, Stretch};
 ghost use Rattle.rules.specs.Bounds.{max_elements, max_rows};
 ghost use Rattle.rules.specs.Calls.{Crowded};
+ghost use Rattle.table.specs.Refusal.{number, place};
+ghost use Rattle.meeting.specs.Told.{rows_of, segments_of};
 
-use table::{Answer, Table};
+use table::{Reason, Refusal, Table};
 
-// What is answered of a set, the word of its rows, and that of the segments that all of them use; 0 beside a refusal.
+// The word of a set's rows, and that of the segments that all of them use.
 #[derive(Clone, Copy)]
 pub struct Crowd {
-    pub answer: Answer,
     pub rows: u64,
     pub segments: u32,
-}
-
-fn refused(answer: Answer) -> Crowd
-    ensures { (result.answer ≡ answer) × (result.rows ≡ 0) × (result.segments ≡ 0) }
-{
-    Crowd {
-        answer: answer,
-        rows: 0,
-        segments: 0,
-    }
 }
 
 // The word of all segments of a board.
@@ -40,54 +31,28 @@ fn common(segments: &[u32; Table::ROWS], rows: usize, set: u64, elements: usize)
     ensures { result ≡ word elements (λ s. every rows (λ i. not (bit set i) || bit (at segments.now i) s)) }
 {
     let mut left = all_segments(elements);
-    let mut i: usize = 0;
-    while i < rows {
+    for i in 0..rows {
         if (set >> i) % 2 == 1 {
-            left = left & segments[i];
+            left &= segments[i];
         }
-        i += 1;
     }
     left
 }
 
 // The rows of set number `k` of a file's table and the segments that all of them use, or a refusal of 1 to 9, 18, 10 and 11, or 32 for a
 // set past the last.
-pub fn of_set(file: &[u8], k: usize) -> Crowd
-    ensures { Crowded file.now k result.answer.number result.answer.place result.rows result.segments }
+pub fn of_set(file: &[u8], k: usize) -> Result<Crowd, Refusal>
+    ensures { Crowded file.now k (number result) (place result) (rows_of result) (segments_of result) }
 {
-    let found = pasted::given(file);
-    let answer = found.answer;
-    if answer.number != Answer::DONE {
-        return refused(answer);
-    }
-    let outline = outline::outline_of(
-        found.columns.elements,
-        found.columns.rows,
-        found.columns.rings,
-        &found.columns.period,
-        &found.columns.first,
-        &found.columns.second,
-        &found.columns.way,
-    );
-    let placed = outline.answer;
-    if placed.number != Answer::DONE {
-        return refused(placed);
-    }
+    let found = pasted::given(file)?;
+    let outline = outline::outline_of(&found.columns)?;
     if k >= outline.sets {
-        return refused(Answer::at(Answer::NO_ROW, 0));
+        return Err(Refusal::from(Reason::NoRow));
     }
-    let words = outline.words;
-    let set = words[k];
-    let segments = ring::lay_segments(
-        found.columns.elements,
-        found.columns.rows,
-        &found.columns.first,
-        &found.columns.second,
-        &found.columns.way,
-    );
-    Crowd {
-        answer: Answer::done(),
-        rows: set,
-        segments: common(&segments, found.columns.rows, set, found.columns.elements),
-    }
+    let rows = outline.words[k];
+    let segments = ring::lay_segments(&found.columns);
+    Ok(Crowd {
+        rows,
+        segments: common(&segments, found.columns.rows, rows, found.columns.elements),
+    })
 }

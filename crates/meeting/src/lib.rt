@@ -4,51 +4,23 @@
 mod crowd;
 
 ghost use Rattle.rules.specs.Calls.{Met};
+ghost use Rattle.table.specs.Refusal.{number, place};
+ghost use Rattle.meeting.specs.Told.{word_of};
 
 pub use crowd::{Crowd, of_set};
-use table::Answer;
+use table::{Reason, Refusal};
 
-// What is answered of two rows, and the word of the segments that they share, bit s - 1 for segment s; 0 beside a refusal.
-#[derive(Clone, Copy)]
-pub struct Meeting {
-    pub answer: Answer,
-    pub word: u32,
-}
-
-// The segments that rows `i` and `j` of a file's table share, or a refusal of 1 to 9, or 32 for a row past the last.
-pub fn meet(file: &[u8], i: usize, j: usize) -> Meeting
-    ensures { Met file.now i j result.answer.number result.answer.place result.word }
+// The word of the segments that rows `i` and `j` of a file's table share, bit s - 1 for segment s, or a refusal of 1 to 9, or 32 for a row
+// past the last.
+pub fn meet(file: &[u8], i: usize, j: usize) -> Result<u32, Refusal>
+    ensures { Met file.now i j (number result) (place result) (word_of result) }
 {
-    let found = decoding::decode(file);
-    let answer = found.answer;
-    if answer.number != Answer::DONE {
-        return Meeting {
-            answer: answer,
-            word: 0,
-        };
+    let found = decoding::decode(file)?;
+    if i >= found.columns.rows {
+        return Err(Refusal::at(Reason::NoRow, 0));
     }
-    let rows = found.columns.rows;
-    if i >= rows {
-        return Meeting {
-            answer: Answer::at(Answer::NO_ROW, 0),
-            word: 0,
-        };
+    if j >= found.columns.rows {
+        return Err(Refusal::at(Reason::NoRow, 1));
     }
-    if j >= rows {
-        return Meeting {
-            answer: Answer::at(Answer::NO_ROW, 1),
-            word: 0,
-        };
-    }
-    Meeting {
-        answer: Answer::done(),
-        word: ring::shared(
-            found.columns.elements,
-            &found.columns.first,
-            &found.columns.second,
-            &found.columns.way,
-            i,
-            j,
-        ),
-    }
+    Ok(ring::shared(&found.columns, i, j))
 }

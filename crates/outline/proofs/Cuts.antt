@@ -1,24 +1,21 @@
--- The cuts of a table's rings, of one or of two, and the lowest ring that has none.
+-- The cuts of a table's rings, of one or of two, and a ring that has none.
 use mathlib.Core.Path.{◌≡◌, sym, ap, ◌∙◌}
 use mathlib.Core.Logic.{⊎_elim}
-use mathlib.Core.Bool.{Bool, true, false, not, cond}
-use Prim.Native.Nat.{ℕ, ◌≤◌, ◌<◌}
+use mathlib.Core.Bool.{Bool, true, false, cond}
+use Prim.Native.Nat.{ℕ, ◌+◌, ◌≤◌, ◌<◌}
 use native.Mathlib.Decide.{ℕ_discrete}
 use native.Mathlib.Omega.{arith}
 use lib.Dec.{T, ltb, ltb→lt, lt→ltb}
-use Rattle.numbers.specs.Finite.{any, lowest}
-use Rattle.numbers.proofs.Finite.{any_of, any_none, lowest_is, lowest_none, lowest_has, lowest_below, lowest_eq, Sought}
 use Rattle.numbers.proofs.Truth.{is_true, is_false, le_or_lt}
-use Rattle.rules.specs.Bounds.{max_rings}
 use Rattle.rules.specs.Bus.{Table, clockwise, counterclockwise, mirror}
 use Rattle.rules.specs.Line.{cut, HasCuts, idle, board_cut}
-use Rattle.rules.specs.Refusals.{Answers, no_cut, line_checks}
+use Rattle.rules.specs.Refusals.{Answers, line_checks}
 use Rattle.table.specs.Sound.{Sound}
 use Rattle.ring.specs.Route.{Element}
-use Rattle.ring.specs.Rows.{on_ring, cut_of}
+use Rattle.ring.specs.Rows.{on_ring}
 use Rattle.ring.proofs.Cut.{cut_low, cut_idle}
 use Rattle.ring.proofs.Mirror.{mirror_element}
-use Rattle.ring.proofs.Rows.{cut_of_lem, ring_cut}
+use Rattle.ring.proofs.Rows.{ring_cut}
 use Rattle.outline.proofs.Outlined.{cut_refused}
 
 -- ---- rings that the table has, and rings that it has not
@@ -44,37 +41,26 @@ module _ {t : Table} (s : Sound t) where
       → x ≡ cond (ltb d t.rings) (cut (on_ring t.elements t.rows t.first t.second t.way) d) 1 → x ≡ cut t d
   cut_searched d e = e ∙ ap (λ (k : ℕ). cond (ltb d t.rings) k 1) (ring_cut t d) ∙ cut_there d
 
-  -- ---- the lowest ring without a cut
+  -- ring d is the lowest without a cut
+  pub uncut_refused : (d : ℕ) → cut t d ≡ t.elements + 1 → ((e : ℕ) → e < d → cut t e ≤ t.elements) → Answers (line_checks t) 10 d
+  uncut_refused d e has =
+      cut_refused t d (⊎_elim (λ m. absurd (omega (arith, cut_off d m, s.elements_low, e))) (λ m. m) (le_or_lt t.rings d)) has
+      (omega (arith, e))
 
-  module _ {c q u : ℕ} (e : c ≡ cut t clockwise) (f : q ≡ cut t counterclockwise)
-      (U : u ≡ lowest max_rings (λ d. ltb t.elements (cut_of c q d))) where
-    abbrev lacking : ℕ → Bool
-    lacking d = ltb t.elements (cut t d)
+  -- both rings have one
+  module _ {c q : ℕ} (e : c ≡ cut t clockwise) (f : q ≡ cut t counterclockwise) (l : c ≤ t.elements) (m : q ≤ t.elements) where
+    pub all_cut : HasCuts t
+    all_cut d k = go (ℕ_discrete d clockwise)
+      where
+        go : Dec (d ≡ clockwise) → cut t d ≤ t.elements
+        go (yes z) = rw z (rw e at l)
+        go (no n) = let z : d ≡ counterclockwise = omega (arith, n, k, s.rings_few) in rw z (rw f at m)
 
-    lowest_lacking : u ≡ lowest max_rings lacking
-    lowest_lacking = U ∙ lowest_eq max_rings _ lacking (λ d l. ap (ltb t.elements) (cut_of_lem (cut t) e f l))
+    pub cut_element : Element t.elements c
+    cut_element = record { low = omega (arith, e, cut_low t clockwise); high = l }
 
-    has_below : (d : ℕ) → d < u → cut t d ≤ t.elements
-    has_below d l =
-        ⊎_elim (λ m. m) (λ m. absurd (lowest_below max_rings lacking d (rw lowest_lacking at l) (lt→ltb t.elements (cut t d) m)))
-        (le_or_lt (cut t d) t.elements)
-
-    pub uncut_refused : u < max_rings → Answers (line_checks t) (no_cut t u).number u
-    uncut_refused l =
-        let high : t.elements < cut t u =
-        ltb→lt t.elements (cut t u) (rw lowest_lacking (lowest_has max_rings lacking (rw lowest_lacking at l))) in
-        let there : u < t.rings = ⊎_elim (λ m. absurd (omega (arith, cut_off u m, s.elements_low))) (λ m. m) (le_or_lt t.rings u) in
-        cut_refused t u there has_below high
-
-    module _ (l : max_rings ≤ u) where
-      pub all_cut : HasCuts t
-      all_cut d m = has_below d (omega (arith, s.rings_few))
-
-      pub cut_element : Element t.elements c
-      cut_element = rw e (record { low = cut_low t clockwise; high = has_below clockwise (omega arith) })
-
-      pub other_element : Element t.elements q
-      other_element = rw f (record { low = cut_low t counterclockwise; high = has_below counterclockwise (omega arith) })
+    pub other_element : Element t.elements q
+    other_element = record { low = omega (arith, f, cut_low t counterclockwise); high = m }
 
   -- as the board's own number
   pub cut_board : (d : ℕ) {x y : ℕ} → x ≡ cut t d
@@ -98,62 +84,3 @@ module _ {t : Table} (s : Sound t) where
   pub board_high : HasCuts t → (d : ℕ) → board_cut t d ≤ t.elements
   board_high has d =
       ⊎_elim (λ l. omega (arith, board_none d l)) (λ l. (board_element has d l).high) (le_or_lt t.rings d)
-
--- ---- a ring without rows
-
-module _ (n : ℕ) (p : ℕ → Bool) where
-  pub some_row : (i : ℕ) → i < n → T (p i) → false ≡ not (any n p)
-  some_row i l h = sym (ap not (is_true (any n p) (any_of n p i l h)))
-
-  pub no_row : {i : ℕ} → Sought n p i → n ≤ i → true ≡ not (any n p)
-  no_row S l = sym (ap not (any_none n p (λ j m. S.none j (omega arith))))
-
--- ---- a cut as the board's own number, of a ring that is there: whether it is idle is tested
-
-module _ {a : Bool} (b : Bool) (x : ℕ) where
-  pub board_idle : a ≡ true → b ≡ true → 1 ≡ cond a (cond b 1 x) 0
-  board_idle e f = rw (e, f)
-
-  pub board_busy : a ≡ true → b ≡ false → x ≡ cond a (cond b 1 x) 0
-  board_busy e f = rw (e, f)
-
--- ---- the searches: a ring that is there is searched, and of two cuts the first past the last element is looked for
-
-pub searched_there : {d r x y : ℕ} → d < r → x ≡ y → x ≡ cond (ltb d r) y 1
-searched_there {d} {r} l e = rw (there l) e
-
-pub searched_not : {d r : ℕ} (y : ℕ) → r ≤ d → 1 ≡ cond (ltb d r) y 1
-searched_not {d} {r} y l = rw (not_there l)
-
-module _ (M c q : ℕ) where
-  abbrev past : ℕ → Bool
-  past d = ltb M (cut_of c q d)
-
-  -- the cut of the first ring, or of the other
-  first_past : c ≤ M → T (past clockwise) → ⊥
-  unfolding cut_of
-  first_past h p = let l : M < c = ltb→lt M c p in omega arith
-
-  other_past : q ≤ M → T (past counterclockwise) → ⊥
-  unfolding cut_of
-  other_past h p = let l : M < q = ltb→lt M q p in omega arith
-
-  pub uncut_first : M < c → clockwise ≡ lowest max_rings past
-  unfolding cut_of
-  uncut_first l = sym (lowest_is max_rings past clockwise (omega arith) (lt→ltb M c l) (λ j m p. absurd (let z : ⊥ = omega arith in z)))
-
-  pub uncut_other : c ≤ M → M < q → counterclockwise ≡ lowest max_rings past
-  unfolding cut_of
-  uncut_other h l =
-      sym (lowest_is max_rings past counterclockwise (omega arith) (lt→ltb M q l)
-      (λ j m p. let z : j ≡ clockwise = omega arith in first_past h (rw z at p)))
-
-  pub uncut_none : c ≤ M → q ≤ M → max_rings ≡ lowest max_rings past
-  uncut_none h l = sym (lowest_none max_rings past none)
-    where
-      none : (j : ℕ) → j < max_rings → T (past j) → ⊥
-      none j m p = go (ℕ_discrete j clockwise)
-        where
-          go : Dec (j ≡ clockwise) → ⊥
-          go (yes z) = first_past h (rw z at p)
-          go (no n) = let z : j ≡ counterclockwise = omega (arith, n) in other_past l (rw z at p)

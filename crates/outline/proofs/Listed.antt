@@ -1,6 +1,5 @@
 -- The list of sets as a call: what it answers follows from the outline, and only one answer fits.
 use mathlib.Core.Path.{◌≡◌, refl, sym, ap, ◌∙◌}
-use mathlib.Core.Logic.{◌≢◌}
 use mathlib.Core.List.{List, [], ◌∷◌}
 use Prim.Native.Nat.{ℕ, ◌≤◌, ◌<◌}
 use native.Mathlib.Decide.{ℕ_discrete}
@@ -14,10 +13,13 @@ use Rattle.rules.proofs.Answers.{None, Numbered, none_of, none_left, numbered_jo
 use Rattle.rules.proofs.Calls.{call_refused, call_short, call_done, call_after}
 use Rattle.rules.proofs.Sets.{sets_only}
 use Rattle.outline.specs.declared.Outline.{Outline}
-use Rattle.outline.specs.declared.Listing.{Listing}
 use Rattle.outline.specs.Outlined.{Found, Outlined}
-use Rattle.outline.specs.Listed.{Traced, unlisted, ListedOn}
-use Rattle.outline.proofs.Outlined.{outline_numbered, outline_passed, outlined_none, found_count}
+use Rattle.std.specs.Prelude.{Result, Ok, Err}
+use Rattle.table.specs.Refusal.{number, place}
+use Rattle.table.specs.declared.refusals.Refusal.{Refusal}
+use Rattle.table.proofs.Reasons.{not_done, refusal_only}
+use Rattle.outline.specs.Listed.{Traced, count, ListedOn}
+use Rattle.outline.proofs.Outlined.{outline_numbered, outline_passed, found_count}
 
 -- the output is too short
 abbrev short : Table → ℕ → Type 0
@@ -25,51 +27,32 @@ short t room = (ws : List ℕ) × Sets t ws × (room < length ws)
 
 -- ---- on an outline
 
-module _ (was : List ℕ) {o : Outline} where
-  pub on_refused : o.answer.number ≢ 0 → ListedOn o (unlisted o.answer) was was
-  on_refused h = record { done = λ z. absurd (h z); refused = λ z. (refl, refl) }
+module _ (was : List ℕ) {o : Outline} {t : Table} (F : Found t o) where
+  pub on_short : length was < o.sets → Listed (admitted t) was was 17 0 0
+  unfolding sets_checks None
+  on_short l = call_short [] (short t (length was)) tt (take o.sets o.words, F.list, omega (arith, found_count F)) (refl, refl)
 
-  module _ (z : o.answer.number ≡ 0) where
-    -- whatever table it is of
-    on_any : (r : Listing) (now : List ℕ)
-        → ((t : Table) → Found t o → Listed (admitted t) was now r.answer.number r.answer.place r.sets) → ListedOn o r was now
-    on_any r now h = record { done = λ y. h; refused = λ n. absurd (n z) }
-
-    pub on_short : (r : Listing) → (r.answer.number ≡ 17) × (r.answer.place ≡ 0) → r.sets ≡ 0 → length was < o.sets
-        → ListedOn o r was was
-    unfolding sets_checks None
-    on_short r e s l =
-        on_any r was
-        (λ t F.
-        rw (e.0, e.1)
-        (call_short [] (short t (length was)) tt (take o.sets o.words, F.list, omega (arith, found_count F)) (s, refl)))
-
-    pub on_done : (r : Listing) (now : List ℕ) → (r.answer.number ≡ 0) × (r.answer.place ≡ 0) → r.sets ≡ o.sets
-        → o.sets ≤ length was → now ≡ lent (take o.sets o.words) was → ListedOn o r was now
-    unfolding sets_checks Answers Numbered
-    on_done r now e s l h =
-        on_any r now
-        (λ t F.
-        rw (e.0, e.1)
-        (call_done [] (short t (length was)) tt (refl, refl) refl
-        (λ w. omega (arith, w.2, found_count F, ap length (sets_only F.timed.sound.rows_low w.1 F.list)))
-        (take o.sets o.words, F.list, s ∙ sym (found_count F), h)))
+  pub on_done : (now : List ℕ) → o.sets ≤ length was → now ≡ lent (take o.sets o.words) was
+      → Listed (admitted t) was now 0 0 o.sets
+  unfolding sets_checks Answers Numbered
+  on_done now l h =
+      call_done [] (short t (length was)) tt (refl, refl) refl
+      (λ w. omega (arith, w.2, found_count F, ap length (sets_only F.timed.sound.rows_low w.1 F.list)))
+      (take o.sets o.words, F.list, sym (found_count F), h)
 
 -- ---- from an outline to its ask
 
-pub traced : {o : Outline} (a : Ask) → Outlined a.checks a.table o → Traced o
-traced a O z = (a.table, O.found z)
+pub traced : (a : Ask) {o : Result Outline Refusal} → Outlined a.checks a.table o → Traced o
+traced a {o = Ok x} O = (a.table, O.found)
+traced a {o = Err e} O = tt
 
-pub list_asked : (a : Ask) → Numbered a.checks → {o : Outline} → Outlined a.checks a.table o → (r : Listing) (was now : List ℕ)
-    → ListedOn o r was now → Listed a was now r.answer.number r.answer.place r.sets
+pub list_asked : (a : Ask) → Numbered a.checks → {o : Result Outline Refusal} → Outlined a.checks a.table o → {r : Result ℕ Refusal}
+    {was now : List ℕ} → ListedOn o r was now → Listed a was now (number r) (place r) (count r)
 unfolding sets_checks
-list_asked a N {o} O r was now L = go (ℕ_discrete o.answer.number 0)
-  where
-    go : Dec (o.answer.number ≡ 0) → Listed a was now r.answer.number r.answer.place r.sets
-    go (yes z) = call_after a.checks _ (outlined_none N O z) (L.done z a.table (O.found z))
-    go (no z) =
-        let e = L.refused z in
-        rw (e.0, e.1) (call_refused a.checks (short a.table (length was)) O.answers z (refl, refl))
+list_asked a N {o = Ok x} O L = call_after a.checks _ (none_of a.checks 0 N O.answers) (L.done a.table O.found)
+list_asked a N {o = Err e} O {r = r} {was = was} L =
+    let w = L.refused in
+    rw (w.0, w.1) (call_refused a.checks (short a.table (length was)) O.answers (not_done e.reason) (refl, refl))
 
 -- ---- only one answer fits
 
@@ -106,17 +89,24 @@ pub file_listed_only : (f was now now' : List ℕ) (n n' p p' s s' : ℕ) → Li
     → Listed (line_ask f) was now' n' p' s' → (now ≡ now') × (n ≡ n') × (p ≡ p') × (s ≡ s')
 file_listed_only f = listed_only (line_ask f) (outline_numbered f) (λ n. (outline_passed f n).sound.rows_low)
 
+-- two answers of the same number, place and count
+same_count : (r s : Result ℕ Refusal) → number r ≡ number s → place r ≡ place s → count r ≡ count s → r ≡ s
+same_count (Ok m) (Ok n) e f g = ap Ok g
+same_count (Ok m) (Err q) e f g = absurd (not_done q.reason (sym e))
+same_count (Err p) (Ok n) e f g = absurd (not_done p.reason e)
+same_count (Err p) (Err q) e f g = ap Err (refusal_only p q e f)
+
 -- on an outline
-pub listed_on_only : {o : Outline} → Traced o → (r s : Listing) (was now then : List ℕ) → ListedOn o r was now → ListedOn o s was then
-    → (r ≡ s) × (now ≡ then)
+pub listed_on_only : {o : Result Outline Refusal} → Traced o → {r s : Result ℕ Refusal} (was now then : List ℕ) → ListedOn o r was now
+    → ListedOn o s was then → (r ≡ s) × (now ≡ then)
 unfolding Numbered
-listed_on_only {o} T r s was now then A B = go (ℕ_discrete o.answer.number 0)
-  where
-    go : Dec (o.answer.number ≡ 0) → (r ≡ s) × (now ≡ then)
-    go (yes z) =
-        let w = T z in
-        let e =
-        listed_only (admitted w.0) tt (λ n. w.1.timed.sound.rows_low) was now then _ _ _ _ _ _ (A.done z w.0 w.1)
-        (B.done z w.0 w.1) in
-        ((λ k. record { answer = record { number = e.1 k; place = e.2 k }; sets = e.3 k }), e.0)
-    go (no z) = let e = A.refused z in let f = B.refused z in (e.0 ∙ sym f.0, e.1 ∙ sym f.1)
+listed_on_only {o = Ok x} T {r} {s} was now then A B =
+    let t = T.0 in
+    let e =
+    listed_only (admitted t) tt (λ n. T.1.timed.sound.rows_low) was now then (number r) (number s) (place r) (place s) (count r)
+    (count s) (A.done t T.1) (B.done t T.1) in
+    (same_count r s e.1 e.2 e.3, e.0)
+listed_on_only {o = Err x} T was now then A B =
+    let e = A.refused in
+    let f = B.refused in
+    (e.0 ∙ sym f.0, e.1 ∙ sym f.1)

@@ -1,10 +1,9 @@
 -- Refusals 1 to 9, 26, 18, 10 and 11, and that only one outline fits. Past the checks of a table as it is given each ring has a cut or 10
 -- is given, and the hyperperiod is at most 4096 slots or 11 is given.
 use mathlib.Core.Path.{◌≡◌, refl, sym, ap, ◌∙◌}
-use mathlib.Core.Logic.{◌≢◌, ⊎_elim}
+use mathlib.Core.Logic.{⊎_elim}
 use mathlib.Core.List.{List, [], ◌∷◌}
 use Prim.Native.Nat.{ℕ, ◌≤◌, ◌<◌}
-use native.Mathlib.Decide.{ℕ_discrete}
 use native.Mathlib.Omega.{arith}
 use lib.ListN.{length, take, length-take}
 use Rattle.numbers.specs.Lists.{at}
@@ -37,28 +36,16 @@ use Rattle.table.specs.Sound.{Passed}
 use Rattle.ring.proofs.Cut.{cut_high, cut_none}
 use Rattle.sets.specs.Sets.{OnLine, SetWords}
 use Rattle.sets.proofs.SetWords.{set_words_only}
-use Rattle.table.specs.declared.Answer.{Answer}
+use Rattle.std.specs.Prelude.{Result, Ok, Err}
+use Rattle.table.specs.Refusal.{number_of, number, place}
+use Rattle.table.specs.declared.refusals.Refusal.{Refusal}
+use Rattle.table.proofs.Reasons.{not_done, refused_not, same_refusal}
 use Rattle.table.proofs.ByRow.{by_row_only}
 use Rattle.outline.specs.declared.Outline.{Outline}
 use Rattle.time.proofs.Periods.{time_only}
-use Rattle.outline.specs.Outlined.{Found, blank, outline_checks, Outlined}
+use Rattle.outline.specs.Outlined.{Found, outline_checks, Outlined}
 use Rattle.pasted.proofs.AsGiven.{given_numbered, given_passed}
 use Rattle.outline.proofs.Sets.{Ends, own_ends, ends_on_line, line_list}
-
--- ---- one shape for number and place
-
-pub answer_only : (cs : List Check) (r s : Answer) → Answers cs r.number r.place → Answers cs s.number s.place → r ≡ s
-answer_only cs r s A B =
-    let e = answers_only cs _ _ _ _ A B in
-    λ k. record { number = e.0 k; place = e.1 k }
-
--- an answer that was made for a number and a place
-pub answers_at : (cs : List Check) (r : Answer) (n p : ℕ) → (r.number ≡ n) × (r.place ≡ p) → Answers cs n p
-    → Answers cs r.number r.place
-answers_at cs r n p e a = rw (e.0, e.1) a
-
-pub answers_zero : (cs : List Check) (r : Answer) → r.number ≡ 0 → Answers cs r.number r.place → Answers cs 0 r.place
-answers_zero cs r e a = rw e at a
 
 -- ---- refusals 10 and 11
 
@@ -128,28 +115,20 @@ module _ (f : List ℕ) where
 
 -- ---- the outline of each outcome
 
-pub outlined_refused : {cs : List Check} {t : Table} (r : Answer) → r.number ≢ 0 → Answers cs r.number r.place
-    → Outlined cs t (blank r)
-outlined_refused r h a = record { answers = a; found = λ e. absurd (h e); refused = λ e. refl }
-
 module _ (f : List ℕ) where
-  pub outlined_given : (r : Answer) → r.number ≢ 0 → Answers (given_checks f) r.number r.place
-      → Outlined (outline_checks f) (file_table f) (blank r)
-  outlined_given r h a = outlined_refused r h (stopped (given_checks f) (line_checks (file_table f)) r.number r.place h a)
+  pub outlined_given : (r : Refusal) → Answers (given_checks f) (number_of r.reason) r.place
+      → Answers (outline_checks f) (number_of r.reason) r.place
+  outlined_given r a = stopped (given_checks f) (line_checks (file_table f)) (number_of r.reason) r.place (not_done r.reason) a
 
   -- past these checks its table's outline is the file's
-  pub outlined_past : (p : ℕ) → Answers (given_checks f) 0 p → {o : Outline} → Outlined (line_checks (file_table f)) (file_table f) o
-      → Outlined (outline_checks f) (file_table f) o
-  outlined_past p a {o} O = record {
+  pub outlined_past : Answers (given_checks f) 0 0 → {r : Result Outline Refusal}
+      → Outlined (line_checks (file_table f)) (file_table f) r → Outlined (outline_checks f) (file_table f) r
+  outlined_past a {r} O = record {
     answers =
-        joined (given_checks f) (line_checks (file_table f)) o.answer.number o.answer.place
-        (none_of (given_checks f) p (given_numbered f) a) O.answers;
+        joined (given_checks f) (line_checks (file_table f)) (number r) (place r)
+        (none_of (given_checks f) 0 (given_numbered f) a) O.answers;
     found = O.found;
-    refused = O.refused;
   }
-
-pub outlined_none : {cs : List Check} {t : Table} {o : Outline} → Numbered cs → Outlined cs t o → o.answer.number ≡ 0 → None cs
-outlined_none {cs} {t} {o} N O z = none_of cs o.answer.place N (rw z at O.answers)
 
 -- ---- the rows and the list of an outline that is found
 
@@ -177,14 +156,13 @@ module _ {t : Table} {o : Outline} (F : Found t o) where
 
 -- ---- only one outline fits
 
-pub found_only : {t : Table} {o u : Outline} → o.answer ≡ u.answer → Found t o → Found t u → o ≡ u
-found_only {t} {o} {u} e F G =
+pub found_only : {t : Table} {o u : Outline} → Found t o → Found t u → o ≡ u
+found_only {t} {o} {u} F G =
     let ends = own_ends t in
     let w =
     set_words_only (found_on_line F (line_first t) (line_second t) ends)
     (found_words F (line_first t) (line_second t) ends) (found_words G (line_first t) (line_second t) ends) in
     λ k. record {
-      answer = e k;
       elements = (F.elements ∙ sym G.elements) k;
       rows = (F.rows ∙ sym G.rows) k;
       cut = (F.cut ∙ sym G.cut) k;
@@ -197,12 +175,9 @@ found_only {t} {o} {u} e F G =
       words = w.1 k;
     }
 
-pub outlined_only : {cs : List Check} {t : Table} (o u : Outline) → Outlined cs t o → Outlined cs t u → o ≡ u
-outlined_only {cs} {t} o u O U = go (ℕ_discrete o.answer.number 0)
-  where
-    same : o.answer ≡ u.answer
-    same = answer_only cs o.answer u.answer O.answers U.answers
-
-    go : Dec (o.answer.number ≡ 0) → o ≡ u
-    go (yes z) = found_only same (O.found z) (U.found (sym (ap (λ (r : Answer). r.number) same) ∙ z))
-    go (no z) = O.refused z ∙ ap blank same ∙ sym (U.refused (λ e. z (ap (λ (r : Answer). r.number) same ∙ e)))
+pub outlined_only : {cs : List Check} {t : Table} {o u : Result Outline Refusal} → Outlined cs t o → Outlined cs t u → o ≡ u
+outlined_only {o = Ok a} {u = Ok b} O U = ap Ok (found_only O.found U.found)
+outlined_only {cs} {o = Ok a} {u = Err r} O U = refused_not cs r O.answers U.answers
+outlined_only {cs} {o = Err r} {u = Ok a} O U = refused_not cs r U.answers O.answers
+outlined_only {cs} {o = Err r} {u = Err s} O U =
+    same_refusal cs r s O.answers U.answers

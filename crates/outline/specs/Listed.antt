@@ -2,24 +2,25 @@
 -- left before the call's own.
 --
 --   Traced o             o is of some table, where it refuses none
---   unlisted a           the answer a, and no sets
+--   count r              how many sets are listed, 0 where that is refused
 --   ListedOn o r was now    the list of sets of the outline o answers r
 --
 -- Only one answer fits (proofs/Listed, `listed_on_only`).
-use Rattle.std.specs.Prelude.{◌≡◌, ◌≢◌, List, ℕ}
+use Rattle.std.specs.Prelude.{◌≡◌, List, ℕ, Result, Ok, Err, IfOk, IfErr}
 use Rattle.rules.specs.Bus.{Table}
 use Rattle.rules.specs.Calls.{admitted, Listed}
-use Rattle.table.specs.declared.Answer.{Answer}
+use Rattle.table.specs.Refusal.{number, place}
+use Rattle.table.specs.declared.refusals.Refusal.{Refusal}
 use Rattle.outline.specs.declared.Outline.{Outline}
-use Rattle.outline.specs.declared.Listing.{Listing}
 use Rattle.outline.specs.Outlined.{Found}
 
-abbrev pub Traced : Outline → Type 0
-Traced o = o.answer.number ≡ 0 → (t : Table) × Found t o
+abbrev pub Traced : Result Outline Refusal → Type 0
+Traced o = IfOk o (λ x. (t : Table) × Found t x)
 
-abbrev pub unlisted : Answer → Listing
-unlisted a = record { answer = a; sets = 0 }
+abbrev pub count : Result ℕ Refusal → ℕ
+count (Ok n) = n
+count (Err _) = 0
 
-pub record ListedOn (o : Outline) (r : Listing) (was now : List ℕ) : Type 0 where
-  pub done : o.answer.number ≡ 0 → (t : Table) → Found t o → Listed (admitted t) was now r.answer.number r.answer.place r.sets
-  pub refused : o.answer.number ≢ 0 → (r ≡ unlisted o.answer) × (now ≡ was)
+pub record ListedOn (o : Result Outline Refusal) (r : Result ℕ Refusal) (was now : List ℕ) : Type 0 where
+  pub done : IfOk o (λ x. (t : Table) → Found t x → Listed (admitted t) was now (number r) (place r) (count r))
+  pub refused : IfErr o (λ e. (r ≡ Err e) × (now ≡ was))

@@ -1,12 +1,11 @@
 -- A table on the line, as the code's outline shows it.
 --
 --   Found t o          o is the outline of the table t, which has none of the faults 4 to 11
---   blank r            the outline of a refusal: 0 for all but the answer
 --   outline_checks f   1 to 9, 26, 18, 10 and 11, in this order
---   Outlined cs t o    o answers the checks cs, and is what is found of table t where none of them applies
+--   Outlined cs t r    r answers the checks cs, and is what is found of table t where none of them applies
 --
 -- Only one outline fits a table and its checks (proofs/Outlined, `outlined_only`).
-use Rattle.std.specs.Prelude.{◌≡◌, ◌≢◌, List, ◌++◌, ℕ, ◌≤◌, length, take, replicate}
+use Rattle.std.specs.Prelude.{◌≡◌, List, ◌++◌, ℕ, ◌≤◌, length, take, Result, IfOk}
 use Rattle.numbers.specs.Lists.{at}
 use Rattle.rules.specs.Bounds.{max_rows}
 use Rattle.rules.specs.Bus.{Table, clockwise, counterclockwise}
@@ -14,9 +13,10 @@ use Rattle.rules.specs.TableFile.{file_table}
 use Rattle.rules.specs.Line as line
 use Rattle.rules.specs.Refusals.{Check, Answers, given_checks, line_checks}
 use Rattle.table.specs.Columns.{ByRow}
-use Rattle.table.specs.declared.Answer.{Answer}
+use Rattle.table.specs.Refusal.{number, place}
+use Rattle.table.specs.declared.refusals.Refusal.{Refusal}
 use Rattle.outline.specs.declared.Outline.{Outline}
-use Rattle.time.specs.Time.{Timed, no_time}
+use Rattle.time.specs.Time.{Timed}
 
 pub record Found (t : Table) (o : Outline) : Type 0 where
   pub timed : Timed t o.time
@@ -33,25 +33,9 @@ pub record Found (t : Table) (o : Outline) : Type 0 where
   pub size : length o.words ≡ max_rows
   pub rest : (k : ℕ) → o.sets ≤ k → at o.words k ≡ 0
 
-abbrev pub blank : Answer → Outline
-blank answer = record {
-  answer = answer;
-  elements = 0;
-  rows = 0;
-  cut = 0;
-  other = 0;
-  top = 0;
-  time = no_time;
-  first = replicate max_rows 0;
-  second = replicate max_rows 0;
-  sets = 0;
-  words = replicate max_rows 0;
-}
-
 abbrev pub outline_checks : List ℕ → List Check
 outline_checks f = given_checks f ++ line_checks (file_table f)
 
-pub record Outlined (cs : List Check) (t : Table) (o : Outline) : Type 0 where
-  pub answers : Answers cs o.answer.number o.answer.place
-  pub found : o.answer.number ≡ 0 → Found t o
-  pub refused : o.answer.number ≢ 0 → o ≡ blank o.answer
+pub record Outlined (cs : List Check) (t : Table) (r : Result Outline Refusal) : Type 0 where
+  pub answers : Answers cs (number r) (place r)
+  pub found : IfOk r (Found t)

@@ -20,14 +20,13 @@ use Rattle.rules.proofs.Answers.{None, Numbered, stopped, joined, answered, none
 use Rattle.rules.proofs.Answers.{single_none, single_numbered, single_stopped}
 use Rattle.table.specs.Sound.{Sound, Passed}
 use Rattle.table.specs.Columns.{table_of, Holds}
-use Rattle.decoding.specs.Decoded.{no_head, DecodesInto, refusal, Decodes}
-use Rattle.table.specs.declared.Answer.{Answer}
+use Rattle.table.specs.Refusal.{number_of}
+use Rattle.table.proofs.Reasons.{not_done}
+use Rattle.table.specs.declared.refusals.Refusal.{Refusal}
 use Rattle.table.specs.declared.columns.Columns.{Columns}
-use Rattle.decoding.specs.declared.Head.{Head}
-use Rattle.decoding.specs.declared.Decoded.{Decoded}
 use Rattle.table.proofs.Faults.{file_numbered, passed_none}
 use Rattle.sets.proofs.Sums.{without, other}
-use Rattle.pasted.specs.Alike.{alike}
+use Rattle.pasted.specs.Alike.{alike, Rowed}
 
 -- ---- pasted rows
 
@@ -104,71 +103,39 @@ module _ (f : List ℕ) where
   pub given_of : (p : ℕ) → Answers (given_checks f) 0 p → Passed f
   given_of p a = given_passed (none_of (given_checks f) p given_numbered a)
 
-  -- an answer of 1 to 9 and 26, and the columns beside it
-  module _ (a : Answer) (c : Columns) (A : Answers (file_checks f) a.number a.place) (H : a.number ≡ 0 → Holds t c) where
-    -- 1 to 9 refuse
-    pub given_stopped : a.number ≢ 0 → Answers (given_checks f) a.number a.place
+  -- 1 to 9 and 26 refuse
+  pub given_stopped : (r : Refusal) → Answers (file_checks f) (number_of r.reason) r.place
+      → Answers (given_checks f) (number_of r.reason) r.place
+  unfolding given_checks
+  given_stopped r A = stopped (file_checks f) (pasted_checks t) (number_of r.reason) r.place (not_done r.reason) A
+
+  -- they do not, and the columns hold the table
+  module _ (c : Columns) (A : Answers (file_checks f) 0 0) (H : Holds t c) where
+    none : None (file_checks f)
+    none = none_of (file_checks f) 0 (file_numbered f) A
+
+    -- the ends are on the ring
+    pub given_rowed : Rowed c
+    given_rowed =
+        let s : Sound (table_of c) = rw H.table (passed_none f none).sound in
+        record { few = s.rows_high; start = λ i l. let row = s.row i l in omega arith }
+
+    -- 18 decides
+    pub given_rest : (n p : ℕ) → Answers (pasted_checks (table_of c)) n p → Answers (given_checks f) n p
     unfolding given_checks
-    given_stopped h = stopped (file_checks f) (pasted_checks t) a.number a.place h A
+    given_rest n p a = joined (file_checks f) (pasted_checks t) n p none (subst (λ (u : Table). Answers (pasted_checks u) n p) H.table a)
 
-    module _ (z : a.number ≡ 0) where
-      none : None (file_checks f)
-      none = none_of (file_checks f) a.place (file_numbered f) (rw z at A)
+-- ---- 18 by the lowest pasted row
 
-      -- the ends are on the ring
-      pub given_ends : (c.rows ≤ max_rows) × ((i : ℕ) → i < c.rows → at c.first i ≤ max_elements)
-      given_ends =
-          let s : Sound (table_of c) = rw (H z).table (passed_none f none).sound in
-          (s.rows_high, λ i l. let row = s.row i l in omega arith)
+module _ (t : Table) (few : t.rows ≤ max_rows) (i : ℕ) (e : i ≡ lowest t.rows (pasted t)) where
+  pub pasted_found : i < t.rows → Answers (pasted_checks t) 18 i
+  unfolding pasted_checks
+  pasted_found l =
+      let m : lowest t.rows (pasted t) < t.rows = omega (arith, e) in
+      single_stopped (pasted_row t) t.rows i l (omega arith) (λ j h. lowest_below t.rows (pasted t) j (omega (arith, e)))
+      (rw e (lowest_has t.rows (pasted t) m))
 
-      module _ (i : ℕ) (e : i ≡ lowest c.rows (pasted (table_of c))) where
-        is_lowest : i ≡ lowest t.rows (pasted t)
-        is_lowest = subst (λ (u : Table). i ≡ lowest u.rows (pasted u)) (H z).table e
-
-        rows_are : c.rows ≡ t.rows
-        rows_are = ap (λ (u : Table). u.rows) (H z).table
-
-        -- 18 refuses
-        pub given_pasted : i < c.rows → Answers (given_checks f) 18 i
-        unfolding given_checks pasted_checks
-        given_pasted l =
-            let m : lowest t.rows (pasted t) < t.rows = omega (arith, is_lowest, rows_are) in
-            joined (file_checks f) (pasted_checks t) 18 i none
-            (single_stopped (pasted_row t) t.rows i (omega (arith, rows_are)) (omega arith)
-            (λ j h. lowest_below t.rows (pasted t) j (omega (arith, is_lowest)))
-            (rw is_lowest (lowest_has t.rows (pasted t) m)))
-
-        -- nothing does
-        pub given_whole : c.rows ≤ i → Answers (given_checks f) a.number a.place
-        unfolding given_checks pasted_checks
-        given_whole l =
-            let all : None (given_checks f) =
-            none_join (file_checks f) (pasted_checks t) none
-            (single_none (pasted_row t) t.rows (λ j h. lowest_below t.rows (pasted t) j (omega (arith, is_lowest, rows_are)))) in
-            let still = answers_only (file_checks f) _ 0 _ 0 A (answered (file_checks f) none) in
-            rw (still.0, still.1) (answered (given_checks f) all)
-
--- ---- the same beside whatever is decoded
-
--- checks that answer the same are answered by the same
-pub decodes_as : {cs ds : List Check} {t : Labelled} {r : Decoded} → Decodes cs t r → Answers ds r.answer.number r.answer.place
-    → Decodes ds t r
-decodes_as D a = record { answers = a; passed = D.passed; labelled = D.labelled; refused = D.refused }
-
-pub decodes_refusal : {cs : List Check} {t : Labelled} (a : Answer) → a.number ≢ 0 → Answers cs a.number a.place
-    → Decodes cs t (refusal a)
-decodes_refusal a h A = record {
-  answers = A;
-  passed = λ e. absurd (h e);
-  labelled = λ e. absurd (h e);
-  refused = λ e. (refl, refl);
-}
-
-module _ {cs : List Check} {t : Table} {cost period first second way : List ℕ} where
-  pub into_as : {ds : List Check} {h : Head} → DecodesInto cs t h cost period first second way
-      → Answers ds h.answer.number h.answer.place → DecodesInto ds t h cost period first second way
-  into_as D a = record { answers = a; passed = D.passed; refused = D.refused }
-
-  pub into_refusal : (a : Answer) → a.number ≢ 0 → Answers cs a.number a.place
-      → DecodesInto cs t (no_head a) cost period first second way
-  into_refusal a h A = record { answers = A; passed = λ e. absurd (h e); refused = λ e. refl }
+  pub pasted_none : t.rows ≤ i → Answers (pasted_checks t) 0 0
+  unfolding pasted_checks
+  pasted_none l =
+      answered (pasted_checks t) (single_none (pasted_row t) t.rows (λ j h. lowest_below t.rows (pasted t) j (omega (arith, e))))

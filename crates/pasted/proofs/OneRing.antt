@@ -6,9 +6,11 @@ use native.Mathlib.Omega.{arith}
 use Rattle.rules.specs.TableFile.{file_rings, file_labelled}
 use Rattle.rules.specs.Refusals.{Check, Answers, header_checks, file_checks, given_checks, one_ring_checks}
 use Rattle.rules.proofs.Answers.{None, Numbered, none_of}
-use Rattle.table.specs.declared.Answer.{Answer}
+use Rattle.std.specs.Prelude.{Result}
+use Rattle.table.specs.Refusal.{number, place}
+use Rattle.table.specs.declared.refusals.Refusal.{Refusal}
 use Rattle.decoding.specs.declared.Decoded.{Decoded}
-use Rattle.decoding.specs.Decoded.{refusal, Decodes}
+use Rattle.decoding.specs.Decoded.{Decodes}
 use Rattle.decoding.proofs.OneRing.{OtherMark, other_mark, own_mark, one_numbered, one_rest, one_rings}
 use Rattle.pasted.proofs.AsGiven.{given_numbered}
 
@@ -32,19 +34,14 @@ module _ (f : List ℕ) where
 
   -- ---- the table of each outcome
 
-  pub given_other : (a : Answer) → (a.number ≡ 2) × (a.place ≡ 0) → OtherMark f → Decodes checks (file_labelled f) (refusal a)
-  given_other a e w = record {
-    answers = rw (e.0, e.1) (other_mark f (given_checks f) w);
-    passed = λ z. absurd (omega (arith, e.0));
-    labelled = λ z. absurd (omega (arith, e.0));
-    refused = λ h. (refl, refl);
-  }
+  pub given_other : OtherMark f → Answers checks 2 0
+  given_other w = other_mark f (given_checks f) w
 
-  pub given_own : (r : Decoded) → (OtherMark f → ⊥) → Decodes (given_checks f) (file_labelled f) r → Decodes checks (file_labelled f) r
+  pub given_own : (r : Result Decoded Refusal) → (OtherMark f → ⊥) → Decodes (given_checks f) (file_labelled f) r
+      → Decodes checks (file_labelled f) r
   unfolding given_checks file_checks header_checks
   given_own r own D = record {
-    answers = own_mark f _ own r.answer.number r.answer.place D.answers;
+    answers = own_mark f _ own (number r) (place r) D.answers;
     passed = D.passed;
     labelled = D.labelled;
-    refused = D.refused;
   }

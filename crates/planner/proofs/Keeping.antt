@@ -17,7 +17,7 @@ use Rattle.numbers.specs.Rounding.{Rounded}
 use Rattle.numbers.proofs.Finite.{sum_in_scaled}
 use Rattle.numbers.proofs.Rounding.{rounded_is}
 use Rattle.rules.specs.Bounds.{max_rows, max_slots}
-use Rattle.planner.specs.Step.{Bounded, RowsKeep, Stands}
+use Rattle.planner.specs.Step.{Bounded, RowsKeep}
 
 -- ---- a row
 
@@ -83,10 +83,3 @@ module _ (n h s : ℕ) (rate totals : ℕ → ℕ) where
       go : (k : ℕ) → k < i + 1 → Dec (k ≡ i) → get_or (set xs i v) k (pos 0) ≡ pos (totals k * h) -ℤ pos (rate k * s)
       go k m (yes p) = rw p (get_or-set_same xs i v (pos 0) (omega (arith, S.size)) ∙ e)
       go k m (no p) = get_or-set_other xs i k v (pos 0) p ∙ S.row k (omega arith)
-
-  pub standing_end : {xs : List ℤ} {i : ℕ} → Standing xs i → n ≤ i → Stands n h s rate totals xs
-  standing_end S l = record {
-    size = S.size;
-    row = λ k m. S.row k (omega (arith, S.inside));
-    rest = λ k m o. S.rest k (omega (arith, S.inside));
-  }

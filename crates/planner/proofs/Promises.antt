@@ -1,5 +1,5 @@
 -- The promises of the planner's calls, proved of every answer that their contracts allow.
-use mathlib.Core.Path.{◌≡◌, sym, ap, ◌∙◌, subst}
+use mathlib.Core.Path.{◌≡◌, refl, sym, ap, ◌∙◌, subst}
 use mathlib.Core.List.{List, []}
 use Prim.Native.Nat.{ℕ, zero, ◌-◌, ◌≤◌}
 use lib.ListN.{length, take}
@@ -16,6 +16,7 @@ use Rattle.rules.proofs.Plans as plans
 use Rattle.lags.specs.Lags.{Admissible, NotOff}
 use Rattle.lags.proofs.States.{not_off, not_off_fresh, not_off_next, standing_below, standing_above}
 use Rattle.promises.proofs.Demands.{plan_carries, plan_finished, plan_size}
+use Rattle.table.specs.Refusal.{place}
 use Rattle.planner.specs.declared.Stage.TheVariants.{Finished}
 use Rattle.planner.specs.declared.Planner.{Planner}
 use Rattle.planner.specs.State.{stage_of, planner_of}
@@ -82,10 +83,10 @@ step_words {t} {p} was now ws s e =
 -- a fresh planner's steps are document 01's
 pub steps_run : {a : Ask} {k : ℕ} {p : Planner} {ws : List ℕ} → Steps a k p ws → rules.Run a.table k (planner_of p) ws
 steps_run {a} none = subst (λ (q : rules.Planner). rules.Run a.table zero q []) (sym fresh_is) rules.none
-steps_run {a} (more {p = p} {r = r} {was = was} {now = now} s A z) =
-    let w = A.stepped.done z in
+steps_run {a} (more {p = p} {q = q} {was = was} {now = now} s A) =
+    let w = A.stepped.done refl in
     let e = step_words was now w.0 w.1 w.2 in
-    rules.more (steps_run s) (subst (rules.Step a.table (planner_of p) (planner_of r.planner)) (sym e) w.1)
+    rules.more (steps_run s) (subst (rules.Step a.table (planner_of p) (planner_of q)) (sym e) w.1)
 
 -- ---- the whole plan
 
@@ -93,7 +94,7 @@ pub whole_is_steps : WholeIsSteps
 whole_is_steps a r was now p ws P A z s =
     let w = A.planned.done z in
     let e = plans.plan_only a.table w.0 ws w.1 (planner_of p, steps_run s) in
-    let d = P.admissible (plan_passed a.checks P.numbered a.table (length was) r.place (rw z at A.planned.answers)) in (
+    let d = P.admissible (plan_passed a.checks P.numbered a.table (length was) (place r) (rw z at A.planned.answers)) in (
       w.2 ∙ ap (λ (vs : List ℕ). lent vs was) e,
       stage_same p.stage Finished (plan_finished d (planner_of p, steps_run s)),
     )
@@ -123,7 +124,7 @@ carried a r was now P A d room =
 
 pub standings_between : StandingsBetween
 standings_between a p r P A z i l =
-    let n = standings_passed a.checks P.numbered a.table (planner_of p) r.answer.place (rw z at A.stood.answers) in
+    let n = standings_passed a.checks P.numbered a.table (planner_of p) (place r) (rw z at A.stood.answers) in
     let d = P.admissible n.0 in
     let o = not_off.0 n.1 in
     rw ((A.stood.done z).0 i l) (standing_above d o i l, standing_below d o i l)

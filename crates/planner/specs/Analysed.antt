@@ -7,29 +7,26 @@
 --   PlannedOn a r was now     the whole plan on the analysis a answers r
 --
 -- Only one answer fits (proofs/Asks).
-use Rattle.std.specs.Prelude.{◌≡◌, ◌≢◌, List, ℕ}
+use Rattle.std.specs.Prelude.{◌≡◌, List, ℕ, ℤ, Result, Err, IfOk, IfErr}
 use Rattle.rules.specs.Bus.{Table}
 use Rattle.rules.specs.Calls.{admitted}
-use Rattle.table.specs.declared.Answer.{Answer}
+use Rattle.table.specs.declared.refusals.Refusal.{Refusal}
 use Rattle.verdict.specs.declared.Analysis.{Analysis}
 use Rattle.verdict.specs.Analysed.{Accepted}
 use Rattle.planner.specs.declared.Planner.{Planner}
-use Rattle.planner.specs.declared.MovedOn.{MovedOn}
-use Rattle.planner.specs.declared.Standings.{Standings}
-use Rattle.planner.specs.State.{unmoved_of, no_standings}
 use Rattle.planner.specs.Answers.{StepAnswer, StandingsAnswer, PlanAnswer}
 
-abbrev pub Usable : Analysis → Type 0
-Usable a = a.outline.answer.number ≡ 0 → (t : Table) × Accepted t a
+abbrev pub Usable : Result Analysis Refusal → Type 0
+Usable a = IfOk a (λ x. (t : Table) × Accepted t x)
 
-pub record SteppedOn (a : Analysis) (p : Planner) (r : MovedOn) (was now : List ℕ) : Type 0 where
-  pub done : a.outline.answer.number ≡ 0 → (t : Table) → Accepted t a → StepAnswer (admitted t) p r was now
-  pub refused : a.outline.answer.number ≢ 0 → (r ≡ unmoved_of p a.outline.answer) × (now ≡ was)
+pub record SteppedOn (a : Result Analysis Refusal) (p : Planner) (r : Result Planner Refusal) (was now : List ℕ) : Type 0 where
+  pub done : IfOk a (λ x. (t : Table) → Accepted t x → StepAnswer (admitted t) p r was now)
+  pub refused : IfErr a (λ e. (r ≡ Err e) × (now ≡ was))
 
-pub record StandingsOn (a : Analysis) (p : Planner) (r : Standings) : Type 0 where
-  pub done : a.outline.answer.number ≡ 0 → (t : Table) → Accepted t a → StandingsAnswer (admitted t) p r
-  pub refused : a.outline.answer.number ≢ 0 → r ≡ no_standings a.outline.answer
+pub record StandingsOn (a : Result Analysis Refusal) (p : Planner) (r : Result (List ℤ) Refusal) : Type 0 where
+  pub done : IfOk a (λ x. (t : Table) → Accepted t x → StandingsAnswer (admitted t) p r)
+  pub refused : IfErr a (λ e. r ≡ Err e)
 
-pub record PlannedOn (a : Analysis) (r : Answer) (was now : List ℕ) : Type 0 where
-  pub done : a.outline.answer.number ≡ 0 → (t : Table) → Accepted t a → PlanAnswer (admitted t) r was now
-  pub refused : a.outline.answer.number ≢ 0 → (r ≡ a.outline.answer) × (now ≡ was)
+pub record PlannedOn (a : Result Analysis Refusal) (r : Result Unit Refusal) (was now : List ℕ) : Type 0 where
+  pub done : IfOk a (λ x. (t : Table) → Accepted t x → PlanAnswer (admitted t) r was now)
+  pub refused : IfErr a (λ e. (r ≡ Err e) × (now ≡ was))

@@ -3,23 +3,21 @@
 --   stage_of s          the stage s
 --   planner_of p        the planner p: its stage, and its totals by row
 --   fresh_planner       interval 0 due and all totals 0
---   unmoved_of p r      the answer of a refused step: the planner it was given
---   no_standings r      the answer of refused standings: all are 0
+--   after p r           the planner after a step of p that answers r: p itself where it is refused
+--   values r            the standings that r tells, none where they are refused
 --   slot_of t s         the slot that stage s has reached; h where the interval due is none of the table's
 --   late_at s slot h    the interval due is none of the table's, where the stage has reached `slot`
 --   stage_after e h k   the stage after an interval that ends at slot e, where interval k is the next
-use Rattle.std.specs.Prelude.{Bool, false, cond, ℕ, min, eqb, pos, replicate}
+use Rattle.std.specs.Prelude.{Bool, false, cond, ℕ, min, eqb, replicate, List, [], ℤ, Result, Ok, Err}
 use Rattle.numbers.specs.Lists.{at}
 use Rattle.rules.specs.Bounds.{max_rows}
 use Rattle.rules.specs.Bus.{Table}
 use Rattle.rules.specs.Loads.{hyperperiod, start, intervals}
 use Rattle.rules.specs.Planner as rules
-use Rattle.table.specs.declared.Answer.{Answer}
+use Rattle.table.specs.declared.refusals.Refusal.{Refusal}
 use Rattle.planner.specs.declared.Stage.{Stage}
 use Rattle.planner.specs.declared.Stage.TheVariants.{Due, Finished}
 use Rattle.planner.specs.declared.Planner.{Planner}
-use Rattle.planner.specs.declared.MovedOn.{MovedOn}
-use Rattle.planner.specs.declared.Standings.{Standings}
 
 abbrev pub stage_of : Stage → rules.Stage
 stage_of (Due k) = rules.due k
@@ -42,8 +40,10 @@ late_at Finished slot h = false
 abbrev pub stage_after : ℕ → ℕ → ℕ → Stage
 stage_after e h k = cond (eqb e h) Finished (Due k)
 
-abbrev pub unmoved_of : Planner → Answer → MovedOn
-unmoved_of p answer = record { planner = p; answer = answer }
+abbrev pub after : Planner → Result Planner Refusal → Planner
+after p (Ok q) = q
+after p (Err _) = p
 
-abbrev pub no_standings : Answer → Standings
-no_standings answer = record { answer = answer; values = replicate max_rows (pos 0) }
+abbrev pub values : Result (List ℤ) Refusal → List ℤ
+values (Ok xs) = xs
+values (Err _) = []

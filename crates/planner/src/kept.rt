@@ -3,13 +3,12 @@
 ghost use Rattle.planner.specs.InPlace.{MovedInPlace};
 
 use crate::Planner;
-use table::Answer;
+use table::Refusal;
 
-// The same answers as a step's: number and place are returned, and the planner is left at `p`.
-pub fn move_on(p: &mut Planner, file: &[u8], out: &mut [u64]) -> Answer
+// The same answers as a step's: a refusal leaves the planner at `p` as it was.
+pub fn move_on(p: &mut Planner, file: &[u8], out: &mut [u64]) -> Result<(), Refusal>
     ensures { MovedInPlace file.now p.old p.new result out.old out.new }
 {
-    let moved = Planner::step(*p, file, out);
-    *p = moved.planner;
-    moved.answer
+    *p = Planner::step(*p, file, out)?;
+    Ok(())
 }

@@ -18,12 +18,12 @@ ghost use Rattle.rules.specs.Calls.{file_ask};
 ghost use Rattle.numbers.specs.Decides.{Decides};
 ghost use Rattle.time.specs.Time.{Timed};
 ghost use Rattle.verdict.specs.Analysed.{Accepted};
-ghost use Rattle.planner.specs.State.{planner_of, fresh_planner, slot_of, late_at, stage_after, unmoved_of, no_standings};
+ghost use Rattle.planner.specs.State.{planner_of, fresh_planner, slot_of, late_at, stage_after};
 ghost use Rattle.planner.specs.Answers.{StepAnswer, StandingsAnswer, PlanAnswer};
 ghost use Rattle.planner.specs.Analysed.{Usable, SteppedOn, StandingsOn, PlannedOn};
 
 pub use kept::move_on;
-use table::{Answer, Table};
+use table::{Reason, Refusal, Table};
 use time::Time;
 use verdict::Analysis;
 
@@ -39,20 +39,6 @@ pub enum Stage {
 pub struct Planner {
     pub stage: Stage,
     pub totals: [u64; Table::ROWS],
-}
-
-// What a step answers: the planner moved on by one interval, or the one it was given and a refusal.
-#[derive(Clone, Copy)]
-pub struct MovedOn {
-    pub planner: Planner,
-    pub answer: Answer,
-}
-
-// All standings together, 0 past the last row.
-#[derive(Clone, Copy)]
-pub struct Standings {
-    pub answer: Answer,
-    pub values: [i64; Table::ROWS],
 }
 
 // ---- stages
@@ -86,17 +72,6 @@ fn stage_after(end: u64, hyper: u64, next: u64) -> Stage
         return Stage::Finished;
     }
     Stage::Due(next)
-}
-
-// ---- standings
-
-fn no_standings(answer: Answer) -> Standings
-    ensures { result ≡ no_standings answer }
-{
-    Standings {
-        answer: answer,
-        values: [0; Table::ROWS],
-    }
 }
 
 impl Planner {
@@ -136,81 +111,62 @@ impl Planner {
         )
     }
 
-    // The standings on an analysed table: each row's total × h, less its share at the slot reached in units of 1 / h.
-    pub fn standings_on(self, table: Analysis) -> Standings
-        requires { Usable table }
-        ensures { StandingsOn table self result }
+    // The standings on an analysed table, 0 past the last row: each row's total × h, less its share at the slot reached in units of 1 / h.
+    pub fn standings_on(
+        self,
+        analysed: Result<Analysis, Refusal>,
+    ) -> Result<[i64; Table::ROWS], Refusal>
+        requires { Usable analysed }
+        ensures { StandingsOn analysed self result }
     {
-        let answer = table.outline.answer;
-        if answer.number != Answer::DONE {
-            return no_standings(answer);
-        }
-        let stage = self.stage;
+        let table = analysed?;
         let time = table.outline.time;
-        let slot = slot_reached(stage, time);
-        if self.is_off(slot, table) {
-            return no_standings(Answer::at(Answer::OFF_STATE, 0));
+        let reached = slot_reached(self.stage, time);
+        if self.is_off(reached, table) {
+            return Err(Refusal::from(Reason::OffState));
         }
         let rows = table.outline.rows;
-        Standings {
-            answer: Answer::done(),
-            values: steady::standings(rows, time.hyper, slot, &table.rate, &self.totals),
-        }
+        Ok(steady::standings(rows, time.hyper, reached, &table.rate, &self.totals))
     }
 
     // The standings on a file's table.
-    pub fn standings(self, file: &[u8]) -> Standings
+    pub fn standings(self, file: &[u8]) -> Result<[i64; Table::ROWS], Refusal>
         ensures { StandingsAnswer (file_ask file.now) self result }
     {
         self.standings_on(verdict::analyse(file))
     }
 
-    // A step refused: the planner is the one given.
-    fn unmoved(self, answer: Answer) -> MovedOn
-        ensures { result ≡ unmoved_of self answer }
-    {
-        MovedOn {
-            planner: self,
-            answer: answer,
-        }
-    }
-
     // One interval of an analysed table: writes its words to the front of `out` and hands back the planner moved on by it.
-    pub fn step_on(mut self, table: Analysis, out: &mut [u64]) -> MovedOn
-        requires { Usable table }
-        ensures { SteppedOn table self result out.old out.new }
+    pub fn step_on(
+        self,
+        analysed: Result<Analysis, Refusal>,
+        out: &mut [u64],
+    ) -> Result<Planner, Refusal>
+        requires { Usable analysed }
+        ensures { SteppedOn analysed self result out.old out.new }
     {
-        let answer = table.outline.answer;
-        if answer.number != Answer::DONE {
-            return self.unmoved(answer);
-        }
-        let stage = self.stage;
+        let table = analysed?;
         let time = table.outline.time;
-        let slot = slot_reached(stage, time);
+        let slot = slot_reached(self.stage, time);
         if self.is_off(slot, table) {
-            return self.unmoved(Answer::at(Answer::OFF_STATE, 0));
+            return Err(Refusal::from(Reason::OffState));
         }
-        let Stage::Due(k) = stage else {
-            return self.unmoved(Answer::at(Answer::HAS_FINISHED, 0));
+        let Stage::Due(k) = self.stage else {
+            return Err(Refusal::from(Reason::HasFinished));
         };
         let end = time.next_end(slot);
         if out.len() < (end - slot) as usize {
-            return self.unmoved(Answer::at(Answer::SHORT_OUTPUT, 0));
+            return Err(Refusal::from(Reason::ShortOutput));
         }
-        let totals = self.totals;
-        let after = course::plan_intervals(table, false, slot, end, totals, out);
-        self = Planner {
+        let after = course::plan_intervals(table, false, slot, end, self.totals, out);
+        Ok(Planner {
             stage: stage_after(end, time.hyper, k + 1),
             totals: after,
-        };
-        MovedOn {
-            planner: self,
-            answer: Answer::done(),
-        }
+        })
     }
 
     // One interval of a file's table.
-    pub fn step(mut self, file: &[u8], out: &mut [u64]) -> MovedOn
+    pub fn step(self, file: &[u8], out: &mut [u64]) -> Result<Planner, Refusal>
         ensures { StepAnswer (file_ask file.now) self result out.old out.new }
     {
         self.step_on(verdict::analyse(file), out)
@@ -218,32 +174,33 @@ impl Planner {
 }
 
 // The whole plan of an analysed table: the words of every interval, each at its own slots, as a fresh planner's steps write them.
-pub fn plan_on(table: Analysis, plain: bool, plan: &mut [u64]) -> Answer
-    requires { Usable table }
-    ensures { PlannedOn table result plan.old plan.new }
+pub fn plan_on(
+    analysed: Result<Analysis, Refusal>,
+    plain: bool,
+    plan: &mut [u64],
+) -> Result<(), Refusal>
+    requires { Usable analysed }
+    ensures { PlannedOn analysed result plan.old plan.new }
 {
-    let answer = table.outline.answer;
-    if answer.number != Answer::DONE {
-        return answer;
-    }
+    let table = analysed?;
     let hyper = table.outline.time.hyper;
     if plan.len() < hyper as usize {
-        return Answer::at(Answer::SHORT_OUTPUT, 0);
+        return Err(Refusal::from(Reason::ShortOutput));
     }
     let fresh = [0u64; Table::ROWS];
     course::plan_intervals(table, plain, 0, hyper, fresh, plan);
-    Answer::done()
+    Ok(())
 }
 
 // The whole plan of a file's table.
-pub fn whole_plan(file: &[u8], plan: &mut [u64]) -> Answer
+pub fn whole_plan(file: &[u8], plan: &mut [u64]) -> Result<(), Refusal>
     ensures { PlanAnswer (file_ask file.now) result plan.old plan.new }
 {
     plan_on(verdict::analyse(file), false, plan)
 }
 
 // The same by the plain planner (#114).
-pub fn plain_plan(file: &[u8], plan: &mut [u64]) -> Answer
+pub fn plain_plan(file: &[u8], plan: &mut [u64]) -> Result<(), Refusal>
     ensures { PlanAnswer (file_ask file.now) result plan.old plan.new }
 {
     plan_on(verdict::analyse(file), true, plan)

@@ -44,12 +44,10 @@ fn rows_keep_step(
     requires { Bounded rows hyper slot (at rate.now) }
     ensures { Decides (RowsKeep rows hyper slot (at rate.now) (at totals.now)) result }
 {
-    let mut i: usize = 0;
-    while i < rows {
+    for i in 0..rows {
         if !row_keeps_step(hyper, slot, table::slots_at(rate, i), totals[i]) {
             return false;
         }
-        i += 1;
     }
     true
 }
@@ -99,13 +97,11 @@ fn sets_keep_step(
     ensures { Decides
         (SetsKeep rows hyper slot (at rate.now) sets (at words.now) (at totals.now)) result }
 {
-    let mut k: usize = 0;
-    while k < sets {
+    for k in 0..sets {
         let sums = sums_in(rows, words[k], rate, totals);
         if !is_rounded(sums.total, sums.rate * slot, hyper) {
             return false;
         }
-        k += 1;
     }
     true
 }
@@ -134,12 +130,10 @@ pub fn keeps_step<'a>(
 pub fn spare_clear(rows: usize, totals: &[u64; Table::ROWS]) -> bool
     ensures { Decides (SpareClear rows (at totals.now)) result }
 {
-    let mut i = rows;
-    while i < Table::ROWS {
+    for i in rows..Table::ROWS {
         if totals[i] != 0 {
             return false;
         }
-        i += 1;
     }
     true
 }
@@ -156,10 +150,8 @@ pub fn standings<'a>(
     ensures { Stands rows hyper slot (at rate.now) (at totals.now) result }
 {
     let mut standing = [0i64; Table::ROWS];
-    let mut i: usize = 0;
-    while i < rows {
+    for i in 0..rows {
         standing[i] = numbers::less(totals[i] * hyper, table::slots_at(rate, i) * slot);
-        i += 1;
     }
     standing
 }

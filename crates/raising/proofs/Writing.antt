@@ -23,7 +23,8 @@ use Rattle.decoding.proofs.OneRing.{one_numbered, one_rest, one_rings}
 use Rattle.round_trip.proofs.RoundTrip.{Alike, Told, file_told, numbers_alike, bytes_alike, memory_back, numbers_length, bytes_length}
 use Rattle.round_trip.proofs.RoundTrip.{table_passes, bare}
 use Rattle.outline.specs.Outlined.{outline_checks}
-use Rattle.outline.proofs.Outlined.{answers_zero, outline_numbered}
+use Rattle.std.specs.Prelude.{Ok}
+use Rattle.outline.proofs.Outlined.{outline_numbered}
 use Rattle.decoding.specs.declared.Decoded.{Decoded}
 use Rattle.raising.specs.declared.Raising.{Raising}
 use Rattle.raising.specs.Raises.{RaisedBeside}
@@ -56,10 +57,8 @@ raised_sound {t} s = record {
 pub before_numbered : (f : List ℕ) → Numbered (before_13 f)
 before_numbered f = one_numbered f (outline_checks f) (outline_numbered f)
 
-pub raising_none : (f : List ℕ) (x : Raising) → RaisedBeside f x → x.given.answer.number ≡ 0 → None (before_13 f)
-raising_none f x R z =
-    none_of (before_13 f) x.given.answer.place (before_numbered f)
-    (answers_zero (before_13 f) x.given.answer z R.given.answers)
+pub raising_none : (f : List ℕ) (x : Raising) → RaisedBeside f (Ok x) → None (before_13 f)
+raising_none f x R = none_of (before_13 f) 0 (before_numbered f) R.answers
 
 module _ (f : List ℕ) where
   abbrev given : Labelled
@@ -147,12 +146,12 @@ module _ (f : List ℕ) where
     raise_written a b c d w = written_raises (rw (a, b, c, d) at w)
 
     -- the columns' numbers are those of the raised table
-    module _ (x : Raising) (R : RaisedBeside f x) (z : x.given.answer.number ≡ 0) where
+    module _ (x : Raising) (R : RaisedBeside f (Ok x)) where
       abbrev d : Decoded
       d = x.given
 
       held : table_of d.columns ≡ given.table
-      held = (R.given.passed z).table
+      held = R.held.table
 
       pub rows_are : d.columns.rows ≡ n
       rows_are = ap (λ (t : Table). t.rows) held
@@ -168,7 +167,7 @@ module _ (f : List ℕ) where
       like = record {
         elements = refl;
         rows = rows_are;
-        cost = λ i l. (R.costs z).row i l;
+        cost = λ i l. R.costs.row i l;
         period = λ i l. ap (λ (t : Table). t.period i) held;
         first = λ i l. ap (λ (t : Table). t.first i) held;
         second = λ i l. ap (λ (t : Table). t.second i) held;
@@ -176,7 +175,7 @@ module _ (f : List ℕ) where
         way = λ i l.
             let w : given.table.way i ≡ clockwise = omega (arith, one, (sound.row i l).way_known) in
             zeros_at max_rows i ∙ sym w;
-        label = λ i l. ap (λ (h : ℕ → ℕ). h i) (R.given.labelled z).labels;
+        label = λ i l. ap (λ (h : ℕ → ℕ). h i) R.labelled.labels;
       }
 
       pub numbers_are : (was : List ℕ)

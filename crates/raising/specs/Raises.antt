@@ -1,15 +1,13 @@
 -- What raising light rows promises (#111), and what is found of a file's table. The promises are statements only; `proofs/Costs.antt`,
 -- `proofs/Result.antt` and `proofs/Data.antt` prove `RaiseRaises`, `RaisedVerdict` and `DataArrives`.
 --
---   unraised a         answer a beside no table and no costs
 --   RaisedBeside f r   r answers the refusals before 13, and holds the file's table and its raised costs where none of them applies
 --   Raises t           what raising the rows of table t does
 --   RaisedVerdict     what the verdict on the raised file can be
 --   carries ws i a c s in the plan ws, row i's slot a + s carries data: it is among the first c of the row's slots from slot a on
 --   DataArrives       of every raised table that is admitted: each job's data moves before its deadline
-use Rattle.std.specs.Prelude.{◌≡◌, ◌⊎◌, ◌≢◌, Bool, ◌&&◌, List, ℕ, ◌+◌, ◌*◌, ◌≤◌, ◌<◌, T, ltb, replicate}
+use Rattle.std.specs.Prelude.{◌≡◌, ◌⊎◌, Bool, ◌&&◌, List, ℕ, ◌+◌, ◌*◌, ◌≤◌, ◌<◌, T, ltb, Result, IfOk}
 use Rattle.numbers.specs.Finite.{count}
-use Rattle.rules.specs.Bounds.{max_rows}
 use Rattle.rules.specs.Bus.{Table}
 use Rattle.rules.specs.TableFile.{file_table, file_labelled}
 use Rattle.rules.specs.Loads.{hyperperiod, shortest, equal_periods, light}
@@ -17,20 +15,18 @@ use Rattle.rules.specs.Planner.{WholePlan}
 use Rattle.rules.specs.Refusals.{Answers, verdict_checks}
 use Rattle.rules.specs.Raising.{priced, raised_cost, raised, raised_labelled, raised_file, before_13}
 use Rattle.table.specs.Sound.{Sound}
-use Rattle.table.specs.Columns.{ByRow}
-use Rattle.table.specs.declared.Answer.{Answer}
-use Rattle.decoding.specs.Decoded.{refusal, Decodes}
+use Rattle.table.specs.Columns.{ByRow, Holds, HoldsLabels}
+use Rattle.table.specs.Refusal.{number, place}
+use Rattle.table.specs.declared.refusals.Refusal.{Refusal}
 use Rattle.lags.specs.Lags.{Admissible}
 use Rattle.promises.specs.Demands.{endless, moved}
 use Rattle.raising.specs.declared.Raising.{Raising}
 
-abbrev pub unraised : Answer → Raising
-unraised a = record { given = refusal a; cost = replicate max_rows 0 }
-
-pub record RaisedBeside (f : List ℕ) (r : Raising) : Type 0 where
-  pub given : Decodes (before_13 f) (file_labelled f) r.given
-  pub costs : r.given.answer.number ≡ 0 → ByRow (file_table f).rows (raised_cost (file_table f)) r.cost
-  pub none : r.given.answer.number ≢ 0 → r.cost ≡ replicate max_rows 0
+pub record RaisedBeside (f : List ℕ) (r : Result Raising Refusal) : Type 0 where
+  pub answers : Answers (before_13 f) (number r) (place r)
+  pub held : IfOk r (λ x. Holds (file_table f) x.given.columns)
+  pub labelled : IfOk r (λ x. HoldsLabels (file_labelled f).label x.given.labels)
+  pub costs : IfOk r (λ x. ByRow (file_table f).rows (raised_cost (file_table f)) x.cost)
 
 pub record Raises (t : Table) : Type 0 where
   -- No row is light afterwards, so 13 is never given.

@@ -7,22 +7,19 @@ ghost use Rattle.numbers.specs.Rounding.{up};
 ghost use Rattle.rules.specs.Bounds.{max_slots};
 ghost use Rattle.rules.specs.Raising.{Raised};
 ghost use Rattle.table.specs.Columns.{ByRow};
+ghost use Rattle.table.specs.Refusal.{number, place};
 ghost use Rattle.verdict.specs.Weights.{Times};
-ghost use Rattle.raising.specs.Raises.{unraised, RaisedBeside};
+ghost use Rattle.raising.specs.Raises.{RaisedBeside};
 
 use decoding::Decoded;
-use table::{Answer, Table, version_of};
+use table::{Columns, Refusal, Table, version_of};
 
 // A row's cost, or period / L rounded up where that is more. Where all periods are equal, L is as long as they are, and 1 is never more.
 fn raised_cost(cost: u64, period: u64, interval: u64) -> u64
     requires { (1 ≤ interval) × (interval ≤ max_slots) × (period ≤ max_slots) }
     ensures { result ≡ max cost (up period interval) }
 {
-    let least = (period + (interval - 1)) / interval;
-    if cost < least {
-        return least;
-    }
-    cost
+    cost.max(period.div_ceil(interval))
 }
 
 // The costs of all rows, raised; 0 past the last row.
@@ -36,94 +33,55 @@ fn raised_costs<'a>(
     ensures { ByRow rows (λ i. max (at cost.now i) (up (at period.now i) interval)) result }
 {
     let mut raised = [0u16; Table::ROWS];
-    let mut i: usize = 0;
-    while i < rows {
+    for i in 0..rows {
         raised[i] = raised_cost(
             table::slots_at(cost, i),
             table::slots_at(period, i),
             interval,
         ) as u16;
-        i += 1;
     }
     raised
 }
 
-// A file's table as it is given, and its rows' costs with the light ones raised; all 0 beside a refusal.
+// A file's table as it is given, and its rows' costs with the light ones raised.
 #[derive(Clone, Copy)]
 pub struct Raising {
     pub given: Decoded,
     pub cost: [u16; Table::ROWS],
 }
 
-fn refused(answer: Answer) -> Raising
-    ensures { result ≡ unraised answer }
-{
-    Raising {
-        given: Decoded::refused(answer),
-        cost: [0; Table::ROWS],
-    }
-}
-
 // A file's table and its raised costs, or the first refusal of 1 to 9, 18, 10 and 11. A table of one ring alone is taken.
-pub fn raised_table(file: &[u8]) -> Raising
+pub fn raised_table(file: &[u8]) -> Result<Raising, Refusal>
     ensures { RaisedBeside file.now result }
 {
-    let found = pasted::given_one_ring(file);
-    let answer = found.answer;
-    if answer.number != Answer::DONE {
-        return refused(answer);
-    }
-    let laid = outline::layout_of(
-        found.columns.elements,
-        found.columns.rows,
-        found.columns.rings,
-        &found.columns.period,
-        &found.columns.first,
-        &found.columns.second,
-        &found.columns.way,
-    );
-    let placed = laid.answer;
-    if placed.number != Answer::DONE {
-        return refused(placed);
-    }
+    let given = pasted::given_one_ring(file)?;
+    let laid = outline::layout_of(&given.columns)?;
     let cost = raised_costs(
-        found.columns.rows,
-        &found.columns.cost,
-        &found.columns.period,
+        given.columns.rows,
+        &given.columns.cost,
+        &given.columns.period,
         laid.time.interval,
     );
-    Raising {
-        given: found,
-        cost: cost,
-    }
+    Ok(Raising { given, cost })
 }
 
 // The raised table's file, written to the front of `out` in the version that it was given in; or a refusal of 1 to 9, 18, 10 and 11, then
 // 17.
-pub fn raise(file: &[u8], out: &mut [u8]) -> Answer
-    ensures { Raised file.now out.old out.new result.number result.place }
+pub fn raise(file: &[u8], out: &mut [u8]) -> Result<(), Refusal>
+    ensures { Raised file.now out.old out.new (number result) (place result) }
 {
-    let found = raised_table(file);
-    let answer = found.given.answer;
-    if answer.number != Answer::DONE {
-        return answer;
-    }
-    let columns = found.given.columns;
+    let found = raised_table(file)?;
+    let raised = Columns {
+        cost: found.cost,
+        ..found.given.columns
+    };
     let mut numbers = [0u16; Table::ROW_NUMBERS * Table::ROWS];
-    reader::put_all_numbers(
-        columns.rows,
-        &found.cost,
-        &columns.period,
-        &columns.first,
-        &columns.second,
-        &found.given.labels,
-        &mut numbers,
-    );
+    reader::put_all_numbers(&raised, &found.given.labels, &mut numbers);
     writer::write_plain(
         version_of(file),
-        columns.elements as u64,
-        columns.rows as u64,
-        &numbers[..Table::ROW_NUMBERS * columns.rows],
+        raised.elements as u64,
+        raised.rows as u64,
+        &numbers[..Table::ROW_NUMBERS * raised.rows],
         out,
     )
 }

@@ -6,11 +6,13 @@ ghost use Rattle.std.proofs.lemmas.List.Edits.{sets};
 ghost use Rattle.rules.specs.Bounds.{max_rows};
 ghost use Rattle.numbers.specs.Lists.{at};
 ghost use Rattle.rules.specs.TableFile.{row_numbers, last_of, numbers};
-ghost use Rattle.rules.specs.Calls.{lent, no_mark, Read, ReadVersion1};
+ghost use Rattle.rules.specs.Calls.{lent, Read, ReadVersion1};
 ghost use Rattle.table.specs.Rows.{in_memory};
 ghost use Rattle.table.specs.Columns.{ByRow, column_labelled, no_labels};
+ghost use Rattle.table.specs.Refusal.{number, place};
+ghost use Rattle.reader.specs.Reading.{mark_in, version_in, elements_in, rows_in};
 
-use table::{Answer, Row, Table, last_of, mark_byte, row_at, version_of};
+use table::{Columns, Reason, Refusal, Row, Table, last_of, mark_byte, row_at, version_of};
 
 // The numbers of a row, from `at` on, its label the last.
 pub fn put_numbers(row: Row, at: usize, out: &mut [u16])
@@ -25,29 +27,27 @@ pub fn put_numbers(row: Row, at: usize, out: &mut [u16])
 }
 
 // The numbers of all rows of a table in columns, at the front of `out`: `last` has the rows' last numbers.
-pub fn put_all_numbers<'a>(
-    rows: usize,
-    cost: &'a [u16; Table::ROWS],
-    period: &'a [u16; Table::ROWS],
-    first: &'a [u8; Table::ROWS],
-    second: &'a [u8; Table::ROWS],
-    last: &'a [u16; Table::ROWS],
-    out: &mut [u16],
-)
-    requires { (rows ≤ max_rows) × (row_numbers * rows ≤ length out.old) }
+pub fn put_all_numbers(table: &Columns, last: &[u16; Table::ROWS], out: &mut [u16])
+    requires { (table.now.rows ≤ max_rows) × (row_numbers * table.now.rows ≤ length out.old) }
     ensures { out.new ≡ lent
-        (numbers (column_labelled 0 rows 1 cost.now period.now first.now second.now no_labels
+        (numbers (column_labelled 0 table.now.rows 1 table.now.cost table.now.period table.now.first table.now.second no_labels
         last.now))
         out.old }
 {
-    let mut i: usize = 0;
-    while i < rows {
+    for i in 0..table.rows {
         put_numbers(
-            row_at(cost, period, first, second, i, 0, last[i]),
+            row_at(
+                &table.cost,
+                &table.period,
+                &table.first,
+                &table.second,
+                i,
+                0,
+                last[i],
+            ),
             Table::ROW_NUMBERS * i,
             out,
         );
-        i += 1;
     }
 }
 
@@ -58,20 +58,13 @@ fn last_number(rings: usize, way: u8, label: u16) -> u16
 }
 
 // The rows' last numbers: their directions or their labels.
-fn last_numbers<'a>(
-    rings: usize,
-    rows: usize,
-    way: &'a [u8; Table::ROWS],
-    labels: &'a [u16; Table::ROWS],
-) -> [u16; Table::ROWS]
-    requires { rows ≤ max_rows }
-    ensures { ByRow rows (λ i. last_of rings (at way.now i) (at labels.now i)) result }
+fn last_numbers(table: &Columns, labels: &[u16; Table::ROWS]) -> [u16; Table::ROWS]
+    requires { table.now.rows ≤ max_rows }
+    ensures { ByRow table.now.rows (λ i. last_of table.now.rings (at table.now.way i) (at labels.now i)) result }
 {
     let mut last = [0u16; Table::ROWS];
-    let mut i: usize = 0;
-    while i < rows {
-        last[i] = last_number(rings, way[i], labels[i]);
-        i += 1;
+    for i in 0..table.rows {
+        last[i] = last_number(table.rings, table.way[i], labels[i]);
     }
     last
 }
@@ -79,71 +72,43 @@ fn last_numbers<'a>(
 // What the reader returns beside the numbers that it fills in.
 #[derive(Clone, Copy)]
 pub struct Reading {
-    pub answer: Answer,
     pub mark: [u8; 3],
     pub version: u64,
     pub table: Table,
 }
 
-fn refuse_read(answer: Answer) -> Reading
-    ensures { (result.answer ≡ answer) × (result.mark ≡ no_mark) × (result.version ≡ 0) × (result.table.elements ≡ 0) × (result.table.rows ≡ 0) }
-{
-    Reading {
-        answer: answer,
-        mark: [0; 3],
-        version: 0,
-        table: Table {
-            elements: 0,
-            rows: 0,
-        },
-    }
-}
-
 // The reader: checks 1 to 9 and 26, then 17. Takes both marks and both versions. Fills the front of `out` with five numbers a row.
-pub fn read(file: &[u8], out: &mut [u16]) -> Reading
+pub fn read(file: &[u8], out: &mut [u16]) -> Result<Reading, Refusal>
     ensures { Read file.now out.old out.new
-        result.answer.number result.answer.place result.mark result.version result.table.elements result.table.rows }
+        (number result) (place result) (mark_in result) (version_in result) (elements_in result) (rows_in result) }
 {
-    let found = decoding::decode(file);
-    let answer = found.answer;
-    if answer.number != Answer::DONE {
-        return refuse_read(answer);
+    let found = decoding::decode(file)?;
+    let table = &found.columns;
+    if out.len() < Table::ROW_NUMBERS * table.rows {
+        return Err(Reason::ShortOutput.into());
     }
-    let columns = found.columns;
-    if out.len() < Table::ROW_NUMBERS * columns.rows {
-        return refuse_read(Answer::at(Answer::SHORT_OUTPUT, 0));
-    }
-    let last = last_numbers(columns.rings, columns.rows, &columns.way, &found.labels);
-    put_all_numbers(
-        columns.rows,
-        &columns.cost,
-        &columns.period,
-        &columns.first,
-        &columns.second,
-        &last,
-        out,
-    );
-    Reading {
-        answer: answer,
-        mark: [Table::MARK[0], Table::MARK[1], mark_byte(columns.rings)],
+    let last = last_numbers(table, &found.labels);
+    put_all_numbers(table, &last, out);
+    Ok(Reading {
+        mark: [Table::MARK[0], Table::MARK[1], mark_byte(table.rings)],
         version: version_of(file),
         table: Table {
-            elements: columns.elements,
-            rows: columns.rows,
+            elements: table.elements,
+            rows: table.rows,
         },
-    }
+    })
 }
 
 // The reader of version 1 alone, and of one ring: it refuses version 2 with 3 and RB2 with 2.
-pub fn read_version_1(file: &[u8], out: &mut [u16]) -> Reading
+pub fn read_version_1(file: &[u8], out: &mut [u16]) -> Result<Reading, Refusal>
     ensures { ReadVersion1 file.now out.old out.new
-        result.answer.number result.answer.place result.mark result.version result.table.elements result.table.rows }
+        (number result) (place result) (mark_in result) (version_in result) (elements_in result) (rows_in result) }
 {
     if decoding::has_other_mark(file) {
-        return refuse_read(Answer::at(Answer::WRONG_MARK, 0));
+        return Err(Reason::WrongMark.into());
     }
     if decoding::is_labelled(file) {
-        return refuse_read(Answer::at(Answer::WRONG_VERSION, 0));
+        return Err(Reason::WrongVersion.into());
     }
     read(file, out)
 }

@@ -15,7 +15,7 @@ use Rattle.rules.specs.Bus.{Table, mirror, route_through, through}
 use Rattle.table.specs.declared.columns.Columns.{Columns}
 use Rattle.table.specs.declared.Row as code
 use Rattle.table.specs.Sound.{Sound}
-use Rattle.table.specs.Columns.{table_of, Holds, HasRow}
+use Rattle.table.specs.Columns.{Holds}
 use Rattle.rules.specs.Relay.{Row, row_of, no_row, of_rows, to_relay, from_relay, becomes, split_rows, split}
 use Rattle.relay.specs.Splitting.{numbers_of, placed, Fits}
 use Rattle.relay.proofs.Rows.{stands_more, stands_most}
@@ -126,21 +126,6 @@ holds_more M d xs c x l H =
 
 -- ---- what a row becomes
 
--- bytes that hold a row hold both halves of it
-pub fits_first : {x y : code.Row} {r : ℕ} → Fits x → r < 256 → numbers_of y ≡ to_relay r (numbers_of x) → Fits y
-fits_first F l e = record {
-  first = rw (ap (λ (z : Row). z.first) e) F.first;
-  second = rw (ap (λ (z : Row). z.second) e) l;
-  way = rw (ap (λ (z : Row). z.way) e) F.way;
-}
-
-pub fits_second : {x y : code.Row} {r : ℕ} → Fits x → r < 256 → numbers_of y ≡ from_relay r (numbers_of x) → Fits y
-fits_second F l e = record {
-  first = rw (ap (λ (z : Row). z.first) e) l;
-  second = rw (ap (λ (z : Row). z.second) e) F.second;
-  way = rw (ap (λ (z : Row). z.way) e) F.way;
-}
-
 -- columns that got one row, or two
 pub holds_one : (M d : ℕ) (xs : List Row) {c : Columns} (r : ℕ) (goes : Bool) (x : Row) → goes ≡ false
     → Holds (of_rows M d (xs ++ (x ∷ []))) c → Holds (of_rows M d (xs ++ becomes r goes x)) c
@@ -185,9 +170,3 @@ module _ (t : Table) where
       h
       ∙ (λ j.
       route_through t.elements (mirror t.elements (p j) (q j)) (mirror t.elements (p j) (s j)) (mirror t.elements (p j) e))
-
--- a row of columns has these numbers
-pub row_numbers_lem : (c : Columns) {i w l : ℕ} {x : code.Row} → HasRow c.cost c.period c.first c.second i w l x
-    → w ≡ at c.way i → numbers_of x ≡ row_of (table_of c) i
-row_numbers_lem c H e =
-    λ j. record { cost = H.cost j; period = H.period j; first = H.first j; second = H.second j; way = (H.way ∙ e) j }

@@ -1,6 +1,6 @@
 -- A file's table split at a relay: 1 to 9 and 18 of the table as it is given, then 27 and 28.
-use mathlib.Core.Path.{◌≡◌, refl, sym, subst, ◌∙◌}
-use mathlib.Core.Logic.{◌≢◌}
+use mathlib.Core.Path.{◌≡◌, refl, sym, subst}
+use Rattle.std.specs.Prelude.{Ok, Err}
 use mathlib.Core.List.{List, []}
 use Prim.Native.Nat.{ℕ, ◌≤◌, ◌<◌}
 use native.Mathlib.Omega.{arith}
@@ -13,13 +13,16 @@ use Rattle.rules.proofs.Answers.{None, Numbered, applied, passed, done, stopped,
 use Rattle.rules.proofs.Answers.{none_right, numbered_join}
 use Rattle.table.specs.Sound.{Sound}
 use Rattle.table.specs.Columns.{Holds}
-use Rattle.table.specs.declared.Answer.{Answer}
+use Rattle.table.specs.Refusal.{number_of}
 use Rattle.table.specs.declared.columns.Columns.{Columns}
+use Rattle.table.specs.declared.refusals.Reason.{Reason}
+use Rattle.table.specs.declared.refusals.Refusal.{Refusal}
+use Rattle.table.proofs.Reasons.{not_done}
 use Rattle.ring.specs.Route.{Element}
 use Rattle.pasted.proofs.AsGiven.{given_passed}
 use Rattle.pasted.proofs.OneRing.{one_ring_numbered}
 use Rattle.rules.specs.Relay.{split}
-use Rattle.relay.specs.Splits.{unsplit, Splits}
+use Rattle.relay.specs.Splits.{Splits}
 use Rattle.relay.proofs.Clear.{sound_split}
 
 -- ---- 27 and 28
@@ -67,8 +70,8 @@ module _ (f : List ℕ) (r : ℕ) where
   abbrev given : List Check
   given = one_ring_checks f (given_checks f)
 
-  pub given_zero : (a : Answer) → a.number ≡ 0 → Answers given a.number a.place → None given
-  given_zero a z g = none_of given a.place (one_ring_numbered f) (rw z at g)
+  pub given_zero : Answers given 0 0 → None given
+  given_zero g = none_of given 0 (one_ring_numbered f) g
 
   pub sound_given : None given → Sound t
   unfolding None
@@ -111,31 +114,16 @@ module _ (f : List ℕ) (r : ℕ) where
     pub split_sound : Sound (split t r)
     split_sound = sound_split t split_element given_sound (few_rows t r relay_none)
 
-  -- ---- the columns of each outcome
+  -- ---- each outcome
 
-  module _ (a : Answer) where
-    pub splits_given : a.number ≢ 0 → Answers given a.number a.place → Splits f r (unsplit a)
-    unfolding split_checks
-    splits_given h g = record {
-      answers = stopped given (relay_checks t r) a.number a.place h g;
-      passed = λ z. absurd (h z);
-      refused = λ z. refl;
-    }
+  pub splits_given : (e : Refusal) → Answers given (number_of e.reason) e.place → Splits f r (Err e)
+  unfolding split_checks
+  splits_given e g = record { answers = stopped given (relay_checks t r) _ _ (not_done e.reason) g; passed = tt }
 
-    pub splits_relay : {n : ℕ} → None given → Answers (relay_checks t r) n 0 → n ≢ 0 → (a.number ≡ n) × (a.place ≡ 0)
-        → Splits f r (unsplit a)
-    unfolding split_checks
-    splits_relay {n} p q h e = record {
-      answers = rw (e.0, e.1) (joined given (relay_checks t r) n 0 p q);
-      passed = λ z. absurd (h (sym e.0 ∙ z));
-      refused = λ z. refl;
-    }
+  pub splits_relay : (e : Reason) → None given → Answers (relay_checks t r) (number_of e) 0 → Splits f r (Err (record { reason = e; place = 0 }))
+  unfolding split_checks
+  splits_relay e p q = record { answers = joined given (relay_checks t r) _ 0 p q; passed = tt }
 
-    pub splits_done : {c : Columns} → None given → None (relay_checks t r) → (a.number ≡ 0) × (a.place ≡ 0) → Holds (split t r) c
-        → Splits f r (record { answer = a; columns = c })
-    unfolding split_checks
-    splits_done p q e H = record {
-      answers = rw (e.0, e.1) (answered (split_checks f r) (none_join given (relay_checks t r) p q));
-      passed = λ z. H;
-      refused = λ z. absurd (z e.0);
-    }
+  pub splits_done : {c : Columns} → None given → None (relay_checks t r) → Holds (split t r) c → Splits f r (Ok c)
+  unfolding split_checks
+  splits_done p q H = record { answers = answered (split_checks f r) (none_join given (relay_checks t r) p q); passed = H }

@@ -7,25 +7,22 @@ ghost use Rattle.rules.specs.Bus as bus;
 ghost use Rattle.rules.specs.Refusals.{Answers, relay_checks};
 ghost use Rattle.table.specs.Sound.{Sound};
 ghost use Rattle.table.specs.Columns.{table_of, Holds};
+ghost use Rattle.table.specs.Refusal.{why};
 ghost use Rattle.ring.specs.Route.{Element};
 ghost use Rattle.rules.specs.Relay.{of_rows, to_relay, from_relay, becomes};
 ghost use Rattle.rules.specs.Relay as rules;
 ghost use Rattle.relay.specs.Splitting.{numbers_of, Fits};
-ghost use Rattle.relay.specs.Splits.{unsplit, Splits};
+ghost use Rattle.relay.specs.Splits.{Splits};
 
-use table::{Answer, Columns, Row, Table};
+use table::{Columns, Reason, Refusal, Row, Table};
 
 // The first half of a row: to the relay.
 fn to_relay(row: Row, relay: u16) -> Row
     ensures { numbers_of result ≡ to_relay relay (numbers_of row) }
 {
     Row {
-        cost: row.cost,
-        period: row.period,
-        first: row.first,
         second: relay,
-        way: row.way,
-        label: row.label,
+        ..row
     }
 }
 
@@ -34,12 +31,8 @@ fn from_relay(row: Row, relay: u16) -> Row
     ensures { numbers_of result ≡ from_relay relay (numbers_of row) }
 {
     Row {
-        cost: row.cost,
-        period: row.period,
         first: relay,
-        second: row.second,
-        way: row.way,
-        label: row.label,
+        ..row
     }
 }
 
@@ -48,62 +41,44 @@ fn no_rows(elements: usize, rings: usize) -> Columns
     ensures { Holds (of_rows elements rings []) result }
 {
     Columns {
-        elements: elements,
-        rows: 0,
-        rings: rings,
-        cost: [0; Table::ROWS],
-        period: [0; Table::ROWS],
-        first: [0; Table::ROWS],
-        second: [0; Table::ROWS],
-        way: [0; Table::ROWS],
+        elements,
+        rings,
+        ..table::no_columns()
     }
 }
 
-// Columns with one more row.
-fn with_row(columns: Columns, row: Row) -> Columns
-    requires { (columns.rows < max_rows) × Fits row }
-    ensures { (result.rows ≡ columns.rows + 1) × ((M d : ℕ) (xs : List rules.Row) → Holds (of_rows M d xs) columns
-        → Holds (of_rows M d (xs ++ (numbers_of row ∷ []))) result) }
+// One more row.
+fn put_row(columns: &mut Columns, row: Row)
+    requires { (columns.old.rows < max_rows) × Fits row }
+    ensures { (columns.new.rows ≡ columns.old.rows + 1) × ((M d : ℕ) (xs : List rules.Row) → Holds (of_rows M d xs) columns.old
+        → Holds (of_rows M d (xs ++ (numbers_of row ∷ []))) columns.new) }
 {
     let k = columns.rows;
-    let mut cost = columns.cost;
-    let mut period = columns.period;
-    let mut first = columns.first;
-    let mut second = columns.second;
-    let mut way = columns.way;
-    cost[k] = row.cost;
-    period[k] = row.period;
-    first[k] = row.first as u8;
-    second[k] = row.second as u8;
-    way[k] = row.way as u8;
-    Columns {
-        elements: columns.elements,
-        rows: k + 1,
-        rings: columns.rings,
-        cost: cost,
-        period: period,
-        first: first,
-        second: second,
-        way: way,
-    }
+    columns.cost[k] = row.cost;
+    columns.period[k] = row.period;
+    columns.first[k] = row.first as u8;
+    columns.second[k] = row.second as u8;
+    columns.way[k] = row.way as u8;
+    columns.rows = k + 1;
 }
 
-// Columns with what a row becomes, which goes through the relay or doesn't.
-fn with_parts(columns: Columns, row: Row, relay: u16, goes: bool) -> Columns
-    requires { (columns.rows + length (becomes relay goes (numbers_of row)) ≤ max_rows) × Fits row × (relay < 256) }
-    ensures { (M d : ℕ) (xs : List rules.Row) → Holds (of_rows M d xs) columns
-        → Holds (of_rows M d (xs ++ becomes relay goes (numbers_of row))) result }
+// What a row becomes, which goes through the relay or doesn't.
+fn put_parts(columns: &mut Columns, row: Row, relay: u16, goes: bool)
+    requires { (columns.old.rows + length (becomes relay goes (numbers_of row)) ≤ max_rows) × Fits row × (relay < 256) }
+    ensures { (M d : ℕ) (xs : List rules.Row) → Holds (of_rows M d xs) columns.old
+        → Holds (of_rows M d (xs ++ becomes relay goes (numbers_of row))) columns.new }
 {
     if goes {
-        let half = with_row(columns, to_relay(row, relay));
-        return with_row(half, from_relay(row, relay));
+        put_row(columns, to_relay(row, relay));
+        put_row(columns, from_relay(row, relay));
+    } else {
+        put_row(columns, row);
     }
-    with_row(columns, row)
 }
 
-fn row_of(columns: Columns, i: usize) -> Row
+fn row_of(columns: &Columns, i: usize) -> Row
     requires { i < max_rows }
-    ensures { numbers_of result ≡ rules.row_of (table_of columns) i }
+    ensures { numbers_of result ≡ rules.row_of (table_of columns.now) i }
 {
     let way = table::end_at(&columns.way, i);
     table::row_at(
@@ -118,9 +93,9 @@ fn row_of(columns: Columns, i: usize) -> Row
 }
 
 // Row `i` goes through the relay.
-fn goes(columns: Columns, i: usize, relay: usize) -> bool
-    requires { Sound (table_of columns) × Element columns.elements relay × (i < columns.rows) }
-    ensures { result ≡ bus.through (table_of columns) i relay }
+fn goes(columns: &Columns, i: usize, relay: usize) -> bool
+    requires { Sound (table_of columns.now) × Element columns.now.elements relay × (i < columns.now.rows) }
+    ensures { result ≡ bus.through (table_of columns.now) i relay }
 {
     ring::goes_through(
         columns.elements,
@@ -139,87 +114,56 @@ fn parts(goes: bool) -> usize
 }
 
 // How many rows a table has when it is split.
-fn rows_split(given: Columns, relay: usize) -> usize
-    requires { Sound (table_of given) × Element given.elements relay }
-    ensures { result ≡ (rules.split (table_of given) relay).rows }
+fn rows_split(given: &Columns, relay: usize) -> usize
+    requires { Sound (table_of given.now) × Element given.now.elements relay }
+    ensures { result ≡ (rules.split (table_of given.now) relay).rows }
 {
     let mut rows: usize = 0;
-    let mut i: usize = 0;
-    while i < given.rows {
+    for i in 0..given.rows {
         rows += parts(goes(given, i, relay));
-        i += 1;
     }
     rows
 }
 
 // The table split, where its rows have room then.
-fn split_at(given: Columns, relay: usize) -> Columns
-    requires { Sound (table_of given) × Element given.elements relay × ((rules.split (table_of given) relay).rows ≤ max_rows) }
-    ensures { Holds (rules.split (table_of given) relay) result }
+fn split_at(given: &Columns, relay: usize) -> Columns
+    requires { Sound (table_of given.now) × Element given.now.elements relay
+        × ((rules.split (table_of given.now) relay).rows ≤ max_rows) }
+    ensures { Holds (rules.split (table_of given.now) relay) result }
 {
     let mut split = no_rows(given.elements, given.rings);
-    let mut i: usize = 0;
-    while i < given.rows {
+    for i in 0..given.rows {
         let row = row_of(given, i);
         let through = goes(given, i, relay);
-        split = with_parts(split, row, relay as u16, through);
-        i += 1;
+        put_parts(&mut split, row, relay as u16, through);
     }
     split
 }
 
 // ---- a file's table
 
-// A file's table split at a relay, or why it is refused; the columns are all 0 then.
-#[derive(Clone, Copy)]
-pub struct Split {
-    pub answer: Answer,
-    pub columns: Columns,
-}
-
-impl Split {
-    fn refused(answer: Answer) -> Split
-        ensures { result ≡ unsplit answer }
-    {
-        Split {
-            answer: answer,
-            columns: table::no_columns(),
-        }
-    }
-}
-
 // Checks 27 and 28.
-fn relay_fault(given: Columns, relay: usize) -> u32
-    requires { Sound (table_of given) }
-    ensures { Answers (relay_checks (table_of given) relay) result 0 }
+fn relay_fault(given: &Columns, relay: usize) -> Result<(), Reason>
+    requires { Sound (table_of given.now) }
+    ensures { Answers (relay_checks (table_of given.now) relay) (why result) 0 }
 {
     if relay == 0 {
-        return Answer::WRONG_RELAY;
+        return Err(Reason::WrongRelay);
     }
     if relay > given.elements {
-        return Answer::WRONG_RELAY;
+        return Err(Reason::WrongRelay);
     }
     if rows_split(given, relay) > Table::ROWS {
-        return Answer::MANY_ROWS;
+        return Err(Reason::ManyRows);
     }
-    Answer::DONE
+    Ok(())
 }
 
 // The table of a file split at a relay, or the first refusal of 1 to 9, 18, 27 and 28. One ring alone is taken.
-pub fn split_file(file: &[u8], relay: usize) -> Split
+pub fn split_file(file: &[u8], relay: usize) -> Result<Columns, Refusal>
     ensures { Splits file.now relay result }
 {
-    let found = pasted::given_one_ring(file);
-    let answer = found.answer;
-    if answer.number != Answer::DONE {
-        return Split::refused(answer);
-    }
-    let number = relay_fault(found.columns, relay);
-    if number != Answer::DONE {
-        return Split::refused(Answer::at(number, 0));
-    }
-    Split {
-        answer: Answer::done(),
-        columns: split_at(found.columns, relay),
-    }
+    let found = pasted::given_one_ring(file)?;
+    relay_fault(&found.columns, relay)?;
+    Ok(split_at(&found.columns, relay))
 }

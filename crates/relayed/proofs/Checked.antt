@@ -1,7 +1,6 @@
 -- The analysis and the outline with a relay of each outcome, the checks of the verdict with a relay as a whole, and that only one answer
 -- fits.
 use mathlib.Core.Path.{◌≡◌, sym, subst}
-use mathlib.Core.Logic.{◌≢◌}
 use mathlib.Core.List.{List, [], ◌∷◌, ◌++◌, append_assoc}
 use Prim.Native.Nat.{ℕ}
 use native.Mathlib.Omega.{arith}
@@ -13,22 +12,23 @@ use Rattle.rules.specs.Refusals.{split_checks, relayed_line_checks, relayed_chec
 use Rattle.rules.specs.Calls.{relayed_line_ask, Listed}
 use Rattle.rules.proofs.Answers.{None, Numbered, stopped, joined, unjoined, none_of, none_join, none_left, none_right, numbered_join}
 use Rattle.table.specs.Sound.{Sound}
-use Rattle.table.specs.declared.Answer.{Answer}
+use Rattle.std.specs.Prelude.{Result, Err}
+use Rattle.table.specs.Refusal.{number_of, number, place}
+use Rattle.table.specs.declared.refusals.Refusal.{Refusal}
+use Rattle.table.proofs.Reasons.{not_done}
 use Rattle.relay.proofs.Clear.{no_uncut}
 use Rattle.relay.proofs.Given.{split_numbered, split_element, split_sound}
 use Rattle.lags.specs.Lags.{Admissible}
 use Rattle.outline.specs.declared.Outline.{Outline}
 use Rattle.outline.specs.Outlined.{Outlined}
-use Rattle.outline.specs.Outlined as outline
-use Rattle.outline.proofs.Outlined.{outlined_refused}
 use Rattle.outline.proofs.Listed.{listed_only}
 use Rattle.verdict.specs.declared.Analysis.{Analysis}
-use Rattle.verdict.specs.declared.Verdict.{Verdict}
+use Rattle.verdict.specs.declared.Admitted.{Admitted}
 use Rattle.verdict.specs.Verdict.{JudgedBy}
-use Rattle.verdict.specs.Analysed.{table_checks, blank, Analysed}
+use Rattle.verdict.specs.Analysed.{table_checks, Analysed}
 use Rattle.verdict.proofs.Bound.{bound_numbered, table_admissible}
 use Rattle.verdict.proofs.Judging.{judged_by_only}
-use Rattle.verdict.proofs.Analysing.{analysed_refused, analysed_after}
+use Rattle.verdict.proofs.Analysing.{analysed_after}
 
 module _ (f : List ℕ) (r : ℕ) where
   abbrev t : Table
@@ -51,8 +51,8 @@ module _ (f : List ℕ) (r : ℕ) where
   unfolding line_checks
   past_cut = append_assoc (cut_checks t) long (bound_checks t)
 
-  pub split_zero : (a : Answer) → a.number ≡ 0 → Answers (split_checks f r) a.number a.place → None (split_checks f r)
-  split_zero a z g = none_of (split_checks f r) a.place (split_numbered f r) (rw z at g)
+  pub split_zero : Answers (split_checks f r) 0 0 → None (split_checks f r)
+  split_zero g = none_of (split_checks f r) 0 (split_numbered f r) g
 
   -- columns that hold the split table
   pub columns_sound : None (split_checks f r) → (u : Table) → u ≡ t → Sound u
@@ -65,42 +65,42 @@ module _ (f : List ℕ) (r : ℕ) where
   -- ---- the analysis of each outcome
 
   -- 1 to 9, 18, 27 or 28
-  pub relayed_stopped : (a : Answer) → a.number ≢ 0 → Answers (split_checks f r) a.number a.place
-      → Analysed (relayed_checks f r) t (blank a)
-  relayed_stopped a h g =
-      rw relayed_whole (analysed_refused a h (stopped (split_checks f r) past a.number a.place h g))
+  pub relayed_stopped : (e : Refusal) → Answers (split_checks f r) (number_of e.reason) e.place
+      → Analysed (relayed_checks f r) t (Err e)
+  relayed_stopped e g =
+      rw relayed_whole (record {
+        answers = stopped (split_checks f r) past (number_of e.reason) e.place (not_done e.reason) g;
+        found = tt;
+      })
 
   -- past these the analysis of columns that hold the split table is the file's
-  pub relayed_past : None (split_checks f r) → (u : Table) → u ≡ t → {a : Analysis} → Analysed (table_checks u) u a
+  pub relayed_past : None (split_checks f r) → (u : Table) → u ≡ t → {a : Result Analysis Refusal} → Analysed (table_checks u) u a
       → Analysed (relayed_checks f r) t a
   relayed_past n u e {a} A =
       let B : Analysed (table_checks t) t a = subst (λ (v : Table). Analysed (table_checks v) v a) e A in
       rw relayed_whole
       (analysed_after (split_checks f r) past n
-      (record {
-        answers = unjoined (cut_checks t) past a.outline.answer.number a.outline.answer.place (no_cuts n)
-            (rw past_cut at B.answers);
-        found = B.found;
-        refused = B.refused;
-      }))
+      (record { answers = unjoined (cut_checks t) past (number a) (place a) (no_cuts n) (rw past_cut at B.answers); found = B.found }))
 
   -- ---- and the outline
 
-  pub line_stopped : (a : Answer) → a.number ≢ 0 → Answers (split_checks f r) a.number a.place
-      → Outlined (relayed_line_checks f r) t (outline.blank a)
+  pub line_stopped : (e : Refusal) → Answers (split_checks f r) (number_of e.reason) e.place
+      → Outlined (relayed_line_checks f r) t (Err e)
   unfolding relayed_line_checks
-  line_stopped a h g = outlined_refused a h (stopped (split_checks f r) long a.number a.place h g)
+  line_stopped e g = record {
+    answers = stopped (split_checks f r) long (number_of e.reason) e.place (not_done e.reason) g;
+    found = tt;
+  }
 
-  pub line_past : None (split_checks f r) → (u : Table) → u ≡ t → {o : Outline} → Outlined (line_checks u) u o
+  pub line_past : None (split_checks f r) → (u : Table) → u ≡ t → {o : Result Outline Refusal} → Outlined (line_checks u) u o
       → Outlined (relayed_line_checks f r) t o
   unfolding relayed_line_checks line_checks
   line_past n u e {o} O =
       let B : Outlined (line_checks t) t o = subst (λ (v : Table). Outlined (line_checks v) v o) e O in
       record {
-        answers = joined (split_checks f r) long o.answer.number o.answer.place n
-            (unjoined (cut_checks t) long o.answer.number o.answer.place (no_cuts n) B.answers);
+        answers = joined (split_checks f r) long (number o) (place o) n
+            (unjoined (cut_checks t) long (number o) (place o) (no_cuts n) B.answers);
         found = B.found;
-        refused = B.refused;
       }
 
   -- ---- the checks as a whole
@@ -125,7 +125,7 @@ module _ (f : List ℕ) (r : ℕ) where
 
   -- ---- only one answer fits
 
-  pub relayed_only : (v w : Verdict) → JudgedBy (relayed_checks f r) t v → JudgedBy (relayed_checks f r) t w → v ≡ w
+  pub relayed_only : (v w : Result Admitted Refusal) → JudgedBy (relayed_checks f r) t v → JudgedBy (relayed_checks f r) t w → v ≡ w
   relayed_only = judged_by_only (λ n. (relayed_admissible n).sound.rows_low) relayed_numbered
 
   pub relayed_list_only : (was now then : List ℕ) (n m p q s k : ℕ) → Listed (relayed_line_ask f r) was now n p s

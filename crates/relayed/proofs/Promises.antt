@@ -13,6 +13,7 @@ use Rattle.rules.specs.Planner.{WholePlan}
 use Rattle.rules.specs.Refusals.{Check, Answers, short_output, header_checks, file_checks, given_checks, one_ring_checks, relayed_checks}
 use Rattle.rules.specs.Refusals.{verdict_checks, plan_checks}
 use Rattle.rules.specs.Calls.{one_ring_ask, relayed_ask}
+use Rattle.table.specs.Refusal.{number, place}
 use Rattle.rules.proofs.Answers.{None, Numbered, answered, none_of, stopped, joined, unjoined, none_left, numbered_join}
 use Rattle.rules.proofs.Answers.{answers_split}
 use Rattle.decoding.proofs.OneRing.{own_mark, one_numbered, one_rest}
@@ -99,9 +100,9 @@ same_plan f r a b was now then m U A B =
     plan_only (one_ring_ask f) a b was now then
     (record {
       planned = record {
-        answers = answers_alike f r U (length was) a.number a.place A.planned.answers;
+        answers = answers_alike f r U (length was) (number a) (place a) A.planned.answers;
         done = λ z.
-            let n = plan_passed f r (length was) a.place (rw z at A.planned.answers) in
+            let n = plan_passed f r (length was) (place a) (rw z at A.planned.answers) in
             let w = A.planned.done z in
             (w.0, subst (λ (u : Table). WholePlan u w.0) (same f r U (length was) n) w.1, w.2);
         refused = A.planned.refused;
@@ -109,7 +110,7 @@ same_plan f r a b was now then m U A B =
     })
     (record {
       planned = record {
-        answers = one_alike f (length was) m b.number b.place B.planned.answers;
+        answers = one_alike f (length was) m (number b) (place b) B.planned.answers;
         done = B.planned.done;
         refused = B.planned.refused;
       };

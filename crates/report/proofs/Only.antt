@@ -2,7 +2,6 @@
 use mathlib.Core.Path.{◌≡◌, sym, ap, ap₂, ◌∙◌}
 use mathlib.Core.List.{List, [], ◌∷◌}
 use Prim.Native.Nat.{ℕ, ◌+◌}
-use native.Mathlib.Decide.{ℕ_discrete}
 use lib.ListN.{length, take}
 use lib.Seq.{sets}
 use Rattle.rules.specs.Calls.{Ask, file_ask, relayed_ask}
@@ -12,6 +11,8 @@ use Rattle.rules.specs.Program.{verdict, table_lines, max_input, PrintedFor, ref
 use Rattle.rules.proofs.Answers.{Numbered, none_of, answers_only}
 use Rattle.rules.proofs.Sets.{sets_only}
 use Rattle.rules.proofs.Plans.{plan_only}
+use Rattle.std.specs.Prelude.{Result, Ok, Err}
+use Rattle.table.specs.declared.refusals.Refusal.{Refusal}
 use Rattle.verdict.specs.declared.Analysis.{Analysis}
 use Rattle.planner.specs.Proper.{Proper}
 use Rattle.planner.specs.Analysed.{Usable}
@@ -48,17 +49,13 @@ relay_rendered_only input r =
     rendered_only (relayed_ask f r) (record { numbered = relayed_numbered f r; admissible = relayed_admissible f r })
 
 -- of an analysis
-pub rendered_on_only : {a : Analysis} → Usable a → (was now then : List ℕ) (m n : ℕ) → RenderedOn a was now m → RenderedOn a was then n
-    → (now ≡ then) × (m ≡ n)
+pub rendered_on_only : {a : Result Analysis Refusal} → Usable a → (was now then : List ℕ) (m n : ℕ) → RenderedOn a was now m
+    → RenderedOn a was then n → (now ≡ then) × (m ≡ n)
 unfolding Numbered
-rendered_on_only {a} U was now then m n A B = go (ℕ_discrete a.outline.answer.number 0)
-  where
-    go : Dec (a.outline.answer.number ≡ 0) → (now ≡ then) × (m ≡ n)
-    go (yes z) =
-        let w = U z in
-        rendered_only (calls.admitted w.0) (record { numbered = tt; admissible = λ x. w.1.admissible }) was now then m n
-        (A.done z w.0 w.1) (B.done z w.0 w.1)
-    go (no h) =
-        let x = (A.refused h).0 in
-        let y = (B.refused h).0 in
-        (x.holds ∙ sym y.holds, x.after ∙ sym y.after)
+rendered_on_only {a = Ok x} U was now then m n A B =
+    rendered_only (calls.admitted U.0) (record { numbered = tt; admissible = λ y. U.1.admissible }) was now then m n
+    (A.done U.0 U.1) (B.done U.0 U.1)
+rendered_on_only {a = Err e} U was now then m n A B =
+    let x = A.refused.0 in
+    let y = B.refused.0 in
+    (x.holds ∙ sym y.holds, x.after ∙ sym y.after)

@@ -8,44 +8,36 @@ use lib.Seq.{sets}
 use Rattle.rules.specs.Bounds.{max_slots}
 use Rattle.rules.specs.TableFile.{file_table}
 use Rattle.rules.specs.Planner.{WholePlan}
-use Rattle.rules.specs.Refusals.{verdict_checks}
+use Rattle.rules.specs.Refusals.{Answers, verdict_checks}
 use Rattle.rules.specs.Text.{Line, text}
 use Rattle.rules.specs.Program.{verdict, slot_lines}
 use Rattle.rules.proofs.Answers.{answers_only}
 use Rattle.rules.proofs.Plans.{plan_only}
-use Rattle.table.specs.declared.Answer.{Answer}
-use Rattle.verdict.specs.declared.Verdict.{Verdict}
-use Rattle.verdict.specs.declared.Verdict.TheVariants.{Admitted, Refused}
-use Rattle.verdict.specs.Verdict.{number_of, place_of, IsVerdict}
+use Rattle.table.specs.Refusal.{number_of}
+use Rattle.table.specs.declared.refusals.Refusal.{Refusal}
+use Rattle.table.proofs.Reasons.{not_done}
 use Rattle.decimal.specs.Puts.{Puts, PutsLine, PutsLines}
 use Rattle.decimal.proofs.Puts.{puts_more}
 use Rattle.decimal.proofs.Text.{text_join, text_one}
-use Rattle.verdict.proofs.Judging.{refused_number}
 use Rattle.report.specs.Plain.{PlainPrinted, refused, admitted, PlainRendered}
 
-module _ (f : List ℕ) (r : Verdict) (J : IsVerdict f r) where
-  by : (v : Verdict) → r ≡ v → IsVerdict f v
-  by v e = subst (λ (v : Verdict). IsVerdict f v) e J
+module _ (f : List ℕ) where
+  pub rendered_refused : (r : Refusal) → Answers (verdict_checks f) (number_of r.reason) r.place → {was now : List ℕ} {size : ℕ}
+      → PutsLine (verdict (number_of r.reason) r.place) was 0 now size → PlainRendered f was now size
+  rendered_refused r a F = record {
+    lines = verdict (number_of r.reason) r.place ∷ [];
+    printed = refused (number_of r.reason) r.place a (not_done r.reason);
+    puts = rw (text_one (verdict (number_of r.reason) r.place)) F.0;
+    fits = omega (arith, F.1);
+  }
 
-  pub rendered_refused : (n p : ℕ) → n ≡ number_of r → p ≡ place_of r → (x : Answer) → r ≡ Refused x → {was now : List ℕ} {size : ℕ}
-      → PutsLine (verdict n p) was 0 now size → PlainRendered f was now size
-  rendered_refused n p en ep x e F =
-      let z : n ≡ x.number = en ∙ ap number_of e in
-      let y : p ≡ x.place = ep ∙ ap place_of e in
-      record {
-        lines = verdict n p ∷ [];
-        printed = rw (z, y) (refused x.number x.place (by (Refused x) e).answers (refused_number x (by (Refused x) e)));
-        puts = rw (text_one (verdict n p)) F.0;
-        fits = omega (arith, F.1);
-      }
-
-  pub rendered_admitted : (c o l h x s : ℕ) → r ≡ Admitted c o l h x s → {was one now : List ℕ} {a size : ℕ}
+  pub rendered_admitted : Answers (verdict_checks f) 0 0 → {was one now : List ℕ} {a size : ℕ}
       → ((ws : List ℕ) × WholePlan (file_table f) ws × PutsLines (slot_lines ws) max_slots was 0 one a)
       → ((ws : List ℕ) × WholePlan (file_table f) ws × PutsLines (slot_lines ws) max_slots one a now size)
       → PlainRendered f was now size
-  rendered_admitted c o l h x s e {was} {one} {now} {a} {size} P Q = record {
+  rendered_admitted c {was} {one} {now} {a} {size} P Q = record {
     lines = slot_lines P.0 ++ slot_lines Q.0;
-    printed = admitted P.0 Q.0 (by (Admitted c o l h x s) e).answers P.1 Q.1;
+    printed = admitted P.0 Q.0 c P.1 Q.1;
     puts = subst (λ (t : List ℕ). Puts t was 0 now size) (sym (text_join (slot_lines P.0) (slot_lines Q.0)))
         (puts_more P.2.0 Q.2.0);
     fits = omega (arith, P.2.1, Q.2.1);

@@ -1,6 +1,6 @@
 -- The lines that `render` writes are those that the program prints, and only one answer fits.
 use mathlib.Core.Path.{◌≡◌, sym, ap, ap₂, subst, ◌∙◌}
-use mathlib.Core.Logic.{◌≢◌, ⊎_elim}
+use mathlib.Core.Logic.{⊎_elim}
 use mathlib.Core.Bool.{Bool, cond}
 use mathlib.Core.List.{List, [], ◌∷◌, ◌++◌}
 use Prim.Native.Nat.{ℕ, ◌+◌, ◌≤◌, ◌<◌}
@@ -16,7 +16,7 @@ use Rattle.numbers.proofs.Lists.{each_eq}
 use Rattle.rules.specs.Bus.{Table}
 use Rattle.rules.specs.TableFile.{version_2, label_size, row_size, version, file_rings, file_table}
 use Rattle.rules.specs.Loads.{light}
-use Rattle.rules.specs.Refusals.{short_output, verdict_checks}
+use Rattle.rules.specs.Refusals.{Answers, short_output, verdict_checks}
 use Rattle.rules.specs.Text.{Line, text}
 use Rattle.rules.specs.Program.{verdict}
 use Rattle.rules.specs.Raising.{
@@ -38,8 +38,12 @@ use Rattle.table.specs.Sound.{Sound, Passed}
 use Rattle.table.specs.Columns.{table_of}
 use Rattle.table.proofs.Faults.{passed_none}
 use Rattle.table.proofs.RowSizes.{label_two, label_none, last_label}
-use Rattle.verdict.specs.declared.Verdict.{Verdict}
-use Rattle.verdict.specs.Verdict.{number_of, place_of, IsVerdict}
+use Rattle.std.specs.Prelude.{Result, Ok}
+use Rattle.table.specs.Refusal.{number_of, number, place}
+use Rattle.table.specs.declared.refusals.Refusal.{Refusal}
+use Rattle.table.proofs.Reasons.{not_done}
+use Rattle.verdict.specs.declared.Admitted.{Admitted}
+use Rattle.verdict.specs.Verdict.{IsVerdict}
 use Rattle.decimal.specs.Puts.{Puts, PutsLine, PutsLines}
 use Rattle.decimal.proofs.Puts.{puts_more}
 use Rattle.decimal.proofs.Text.{text_join, text_one, lines_next, lines_skip}
@@ -100,28 +104,28 @@ label_low v = go (ℕ_discrete v version_2)
     go (yes e) = omega (arith, label_two e)
     go (no h) = omega (arith, label_none h)
 
-module _ (f : List ℕ) (x : Raising) (R : RaisedBeside f x) where
+module _ (f : List ℕ) where
   abbrev t : Table
   t = file_table f
 
-  pub rendered_refused : x.given.answer.number ≢ 0 → {was now : List ℕ} {size : ℕ}
-      → PutsLine (verdict x.given.answer.number x.given.answer.place) was 0 now size → RaiseRendered f was now size
-  rendered_refused h F = record {
-    lines = verdict x.given.answer.number x.given.answer.place ∷ [];
-    printed = refused x.given.answer.number x.given.answer.place R.given.answers h;
-    puts = rw (text_one (verdict x.given.answer.number x.given.answer.place)) F.0;
+  pub rendered_refused : (r : Refusal) → Answers (before_13 f) (number_of r.reason) r.place → {was now : List ℕ} {size : ℕ}
+      → PutsLine (verdict (number_of r.reason) r.place) was 0 now size → RaiseRendered f was now size
+  rendered_refused r a F = record {
+    lines = verdict (number_of r.reason) r.place ∷ [];
+    printed = refused (number_of r.reason) r.place a (not_done r.reason);
+    puts = rw (text_one (verdict (number_of r.reason) r.place)) F.0;
     fits = omega (arith, F.1);
   }
 
-  module _ (z : x.given.answer.number ≡ 0) where
+  module _ (x : Raising) (R : RaisedBeside f (Ok x)) where
     none : None (before_13 f)
-    none = raising_none f x R z
+    none = raising_none f x R
 
     passed : Passed f
     passed = passed_none f (file_none f none)
 
     held : table_of x.given.columns ≡ t
-    held = (R.given.passed z).table
+    held = R.held.table
 
     pub report_costs : Costs x.given.columns.rows (at x.given.columns.cost) (at x.cost)
     report_costs =
@@ -135,7 +139,7 @@ module _ (f : List ℕ) (x : Raising) (R : RaisedBeside f x) where
               omega (arith, e, (S.row i m).cost_high, (S.row i m).period_high);
           is = λ i l.
               let m : i < t.rows = rw rows at l in
-              omega (arith, (R.costs z).row i m, (raise_raises t S).within i m, (S.row i m).period_high);
+              omega (arith, R.costs.row i m, (raise_raises t S).within i m, (S.row i m).period_high);
         }
 
     pub report_long : length f ≤ 519
@@ -160,17 +164,18 @@ module _ (f : List ℕ) (x : Raising) (R : RaisedBeside f x) where
     lines_are =
         ap (λ (u : Table). raised_lines u.rows u.cost (at x.cost)) held
         ∙ each_eq t.rows _ _
-        (λ i l. ap (λ (b : ℕ). line_by (ltb (t.cost i) b) i (t.cost i) b) ((R.costs z).row i l) ∙ row_line t passed.sound i l)
+        (λ i l. ap (λ (b : ℕ). line_by (ltb (t.cost i) b) i (t.cost i) b) (R.costs.row i l) ∙ row_line t passed.sound i l)
 
-    pub rendered_raised : (r : Verdict) → IsVerdict (raised_file f) r → {was mid now : List ℕ} {next size n p : ℕ}
+    pub rendered_raised : (r : Result Admitted Refusal) → IsVerdict (raised_file f) r → {was mid now : List ℕ} {next size : ℕ}
         → PutsLines (raised_lines x.given.columns.rows (at x.given.columns.cost) (at x.cost))
         x.given.columns.rows was 0 mid next
-        → n ≡ number_of r → p ≡ place_of r → PutsLine (verdict n p) mid next now size → RaiseRendered f was now size
-    rendered_raised r J {was} {mid} {now} {next} {size} {n} {p} P en ep Q = record {
-      lines = raise_lines t ++ (verdict n p ∷ []);
-      printed = raises n p (answered (before_13 f) none) (rw (en, ep) J.answers);
-      puts = subst (λ (ls : List ℕ). Puts ls was 0 now size) (sym (text_join (raise_lines t) (verdict n p ∷ [])))
-          (puts_more (subst (λ (ls : List Line). Puts (text ls) was 0 mid next) lines_are P.0) (rw (text_one (verdict n p)) Q.0));
+        → PutsLine (verdict (number r) (place r)) mid next now size → RaiseRendered f was now size
+    rendered_raised r J {was} {mid} {now} {next} {size} P Q = record {
+      lines = raise_lines t ++ (verdict (number r) (place r) ∷ []);
+      printed = raises (number r) (place r) (answered (before_13 f) none) J.answers;
+      puts = subst (λ (ls : List ℕ). Puts ls was 0 now size) (sym (text_join (raise_lines t) (verdict (number r) (place r) ∷ [])))
+          (puts_more (subst (λ (ls : List Line). Puts (text ls) was 0 mid next) lines_are P.0)
+          (rw (text_one (verdict (number r) (place r))) Q.0));
       fits = omega (arith, P.1, Q.1, report_costs.few);
     }
 

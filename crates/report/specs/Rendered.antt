@@ -8,13 +8,15 @@
 --   RenderedOn a       what `put_analysis` writes and returns of an analysis
 --
 -- `was` and `now` are what the lent slice holds before and after. Only one answer fits (proofs/Only).
-use Rattle.std.specs.Prelude.{◌≡◌, ◌≢◌, Bool, true, false, cond, List, [], ◌∷◌, ℕ, ◌+◌, ◌*◌, ◌≤◌, eqb, take}
+use Rattle.std.specs.Prelude.{Bool, true, false, cond, List, [], ◌∷◌, ℕ, ◌+◌, ◌*◌, ◌≤◌, eqb, take, Result, IfOk, IfErr}
 use Rattle.rules.specs.Bounds.{max_rows, max_slots}
 use Rattle.rules.specs.Bus.{Table}
 use Rattle.rules.specs.Calls.{Ask, file_ask, relayed_ask, admitted}
 use Rattle.rules.specs.Text.{Line, text}
 use Rattle.rules.specs.Program.{verdict, cut, set, slot, max_input, PrintedFor}
 use Rattle.decimal.specs.Puts.{Puts, PutsLine, max_line}
+use Rattle.table.specs.Refusal.{number_of}
+use Rattle.table.specs.declared.refusals.Refusal.{Refusal}
 use Rattle.verdict.specs.declared.Analysis.{Analysis}
 use Rattle.verdict.specs.Analysed.{Accepted}
 
@@ -45,7 +47,6 @@ abbrev pub RelayRendered : (input : List ℕ) (relay : ℕ) (was now : List ℕ)
 RelayRendered input relay = RenderedFor (relayed_ask (take max_input input) relay)
 
 -- Of an analysis, whatever it was made from: its refusal, or the lines of its table.
-pub record RenderedOn (a : Analysis) (was now : List ℕ) (size : ℕ) : Type 0 where
-  pub done : a.outline.answer.number ≡ 0 → (t : Table) → Accepted t a → RenderedFor (admitted t) was now size
-  pub refused : a.outline.answer.number ≢ 0
-      → PutsLine (verdict a.outline.answer.number a.outline.answer.place) was 0 now size
+pub record RenderedOn (a : Result Analysis Refusal) (was now : List ℕ) (size : ℕ) : Type 0 where
+  pub done : IfOk a (λ x. (t : Table) → Accepted t x → RenderedFor (admitted t) was now size)
+  pub refused : IfErr a (λ e. PutsLine (verdict (number_of e.reason) e.place) was 0 now size)

@@ -6,12 +6,13 @@
 pub mod meetings;
 pub mod raised;
 
-ghost use Rattle.std.specs.Prelude.{◌≡◌, List, [], ◌∷◌, ℕ, ◌+◌, ◌*◌, ◌≤◌, min, length};
+ghost use Rattle.std.specs.Prelude.{List, [], ◌∷◌, ℕ, ◌+◌, ◌*◌, ◌≤◌, length};
 ghost use Rattle.numbers.specs.Lists.{at as item, each};
 ghost use Rattle.rules.specs.Bounds.{max_rows, max_slots};
 ghost use Rattle.rules.specs.Bus as bus;
 ghost use Rattle.rules.specs.Line.{Sets};
 ghost use Rattle.rules.specs.Planner.{WholePlan};
+ghost use Rattle.table.specs.Refusal.{number, place};
 ghost use Rattle.verdict.specs.Analysed.{Accepted};
 ghost use Rattle.planner.specs.Analysed.{Usable};
 ghost use Rattle.decimal.specs.Puts.{limit, line_of, max_line, PutsLine, PutsLines};
@@ -20,8 +21,8 @@ ghost use Rattle.report.specs.Rendered.{cuts, word_line, Rendered, RelayRendered
 ghost use Rattle.report.specs.Plain.{PlainRendered};
 
 use decimal::put_line;
-use table::Table;
-use verdict::{Analysis, Verdict};
+use table::{Refusal, Table};
+use verdict::Analysis;
 
 // The program's input: one byte more than the longest table file has, so that a longer one is refused for its length.
 pub const INPUT: usize = Table::FILE_BYTES + 1;
@@ -48,8 +49,15 @@ pub fn put_verdict(number: u32, place: u32, out: &mut [u8]) -> usize
     put_line(b"verdict", &[number as u64, place as u64], out, 0)
 }
 
+// The line of a verdict, or of what is refused before it.
+pub(crate) fn put_judged<T>(answer: &Result<T, Refusal>, out: &mut [u8]) -> usize
+    ensures { PutsLine (verdict (number answer.now) (place answer.now)) out.old 0 out.new result }
+{
+    put_verdict(table::number(answer), table::place(answer), out)
+}
+
 // The cut of each ring; that of the other is 0 where there is one ring.
-fn put_cuts(cut: u32, other: u32, out: &mut [u8], at: usize) -> usize
+fn put_cuts(cut: usize, other: usize, out: &mut [u8], at: usize) -> usize
     requires { at + max_line * 2 ≤ limit }
     ensures { PutsLines (cuts cut other) 2 out.old at out.new result }
 {
@@ -60,13 +68,13 @@ fn put_cuts(cut: u32, other: u32, out: &mut [u8], at: usize) -> usize
     put_value(b"cut", other as u64, out, next)
 }
 
-fn put_values(interval: u32, hyper: u32, load: u32, out: &mut [u8], at: usize) -> usize
+fn put_values(interval: u64, hyper: u64, load: u64, out: &mut [u8], at: usize) -> usize
     requires { at + max_line * 3 ≤ limit }
     ensures { PutsLines (values interval hyper load) 3 out.old at out.new result }
 {
-    let next = put_value(b"interval", interval as u64, out, at);
-    let last = put_value(b"hyper", hyper as u64, out, next);
-    put_value(b"load", load as u64, out, last)
+    let next = put_value(b"interval", interval, out, at);
+    let last = put_value(b"hyper", hyper, out, next);
+    put_value(b"load", load, out, last)
 }
 
 // A slot's line, which has its number `k`, or a set's.
@@ -86,18 +94,16 @@ fn put_words(slots: bool, words: &[u64], out: &mut [u8], at: usize) -> usize
         (length words.now) out.old at out.new result }
 {
     let mut next = at;
-    let mut k: usize = 0;
-    while k < words.len() {
-        next = put_word(slots, k as u64, words[k], out, next);
-        k += 1;
+    for (k, word) in words.iter().enumerate() {
+        next = put_word(slots, k as u64, *word, out, next);
     }
     next
 }
 
-// ---- an analysed table's lists
+// ---- an admitted table's lists
 
 fn put_list(table: Analysis, out: &mut [u8], at: usize) -> usize
-    requires { Usable table × (table.outline.answer.number ≡ 0) × (at + max_line * max_rows ≤ limit) }
+    requires { ((t : bus.Table) × Accepted t table) × (at + max_line * max_rows ≤ limit) }
     ensures { (t : bus.Table) → Accepted t table → (ws : List ℕ) × Sets t ws
         × PutsLines (set_lines ws) max_rows out.old at out.new result }
 {
@@ -108,53 +114,40 @@ fn put_list(table: Analysis, out: &mut [u8], at: usize) -> usize
 
 // The slots of its whole plan, by the plain planner (#114) or by the other: they are the same.
 fn put_plan(table: Analysis, plain: bool, out: &mut [u8], at: usize) -> usize
-    requires { Usable table × (table.outline.answer.number ≡ 0) × (at + max_line * max_slots ≤ limit) }
+    requires { ((t : bus.Table) × Accepted t table) × (at + max_line * max_slots ≤ limit) }
     ensures { (t : bus.Table) → Accepted t table → (ws : List ℕ) × WholePlan t ws
         × PutsLines (slot_lines ws) max_slots out.old at out.new result }
 {
     let slots = table.outline.time.hyper as usize;
     let mut plan = [0u64; Table::SLOTS];
-    planner::plan_on(table, plain, &mut plan);
+    // no plan is longer, so it isn't refused
+    let _ = planner::plan_on(Ok(table), plain, &mut plan);
     put_words(true, &plan[..slots], out, at)
 }
 
 // ---- the report
 
 // What is printed of an analysed table, at the front of `out`; how many bytes it is. Of a refusal it is the first line only.
-fn put_analysis(table: Analysis, out: &mut [u8]) -> usize
-    requires { Usable table }
-    ensures { RenderedOn table out.old out.new result }
+fn put_analysis(analysed: Result<Analysis, Refusal>, out: &mut [u8]) -> usize
+    requires { Usable analysed }
+    ensures { RenderedOn analysed out.old out.new result }
 {
-    let answer = verdict::verdict_of(table);
-    let first = put_verdict(answer.number(), answer.place(), out);
-    let Verdict::Admitted {
-        cut,
-        other,
-        interval,
-        hyper,
-        load,
-        sets: _,
-    } = answer
-    else {
+    let first = put_judged(&analysed, out);
+    let Ok(table) = analysed else {
         return first;
     };
-    let parted = put_cuts(cut, other, out, first);
-    let valued = put_values(interval, hyper, load, out, parted);
+    let time = table.outline.time;
+    let parted = put_cuts(table.outline.cut, table.outline.other, out, first);
+    let valued = put_values(time.interval, time.hyper, table.load, out, parted);
     let listed = put_list(table, out, valued);
     put_plan(table, false, out, listed)
-}
-
-fn least(a: usize, b: usize) -> usize
-    ensures { result ≡ min a b }
-{
-    if a < b { a } else { b }
 }
 
 // What the program prints for its input.
 pub fn render(input: &[u8], out: &mut [u8]) -> usize
     ensures { Rendered input.now out.old out.new result }
 {
-    let read = least(input.len(), INPUT);
+    let read = input.len().min(INPUT);
     put_analysis(verdict::analyse(&input[..read]), out)
 }
 
@@ -162,7 +155,7 @@ pub fn render(input: &[u8], out: &mut [u8]) -> usize
 pub fn render_relayed(input: &[u8], relay: usize, out: &mut [u8]) -> usize
     ensures { RelayRendered input.now relay out.old out.new result }
 {
-    let read = least(input.len(), INPUT);
+    let read = input.len().min(INPUT);
     put_analysis(relayed::analyse(&input[..read], relay), out)
 }
 
@@ -170,18 +163,9 @@ pub fn render_relayed(input: &[u8], relay: usize, out: &mut [u8]) -> usize
 pub fn render_plain(file: &[u8], out: &mut [u8]) -> usize
     ensures { PlainRendered file.now out.old out.new result }
 {
-    let table = verdict::analyse(file);
-    let answer = verdict::verdict_of(table);
-    let Verdict::Admitted {
-        cut: _,
-        other: _,
-        interval: _,
-        hyper: _,
-        load: _,
-        sets: _,
-    } = answer
-    else {
-        return put_verdict(answer.number(), answer.place(), out);
+    let analysed = verdict::analyse(file);
+    let Ok(table) = analysed else {
+        return put_judged(&analysed, out);
     };
     let next = put_plan(table, true, out, 0);
     put_plan(table, false, out, next)

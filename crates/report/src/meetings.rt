@@ -5,18 +5,22 @@ ghost use Rattle.std.specs.Prelude.{◌+◌, ◌*◌, ◌≤◌, length};
 ghost use Rattle.rules.specs.Bounds.{max_elements, max_rows};
 ghost use Rattle.rules.specs.Program.{shared, row_lines, segment_lines, MeetingPrinted, CrowdPrinted};
 ghost use Rattle.decimal.specs.Puts.{limit, max_line, PutsLine, PutsLines};
+ghost use Rattle.table.specs.Refusal.{number, place};
 ghost use Rattle.report.specs.MeetLines.{numbered, member_lines, Rendered};
 
 use crate::put_value;
 use decimal::put_line;
-use table::Table;
+use meeting::Crowd;
+use table::{Refusal, Table};
 
 // Room for every report: 64 bytes for each line of the answer, the rows and the segments.
 pub const SIZE: usize = 64 * (1 + Table::ROWS + Table::ELEMENTS);
 
-fn put_answer(number: u32, place: u32, out: &mut [u8]) -> usize
-    ensures { PutsLine (shared number place) out.old 0 out.new result }
+fn put_answer<T>(answer: &Result<T, Refusal>, out: &mut [u8]) -> usize
+    ensures { PutsLine (shared (number answer.now) (place answer.now)) out.old 0 out.new result }
 {
+    let number = table::number(answer);
+    let place = table::place(answer);
     put_line(b"shared", &[number as u64, place as u64], out, 0)
 }
 
@@ -27,12 +31,10 @@ fn put_members(name: &[u8], word: u64, first: u64, bits: u64, out: &mut [u8], at
         out.new result }
 {
     let mut next = at;
-    let mut k: u64 = 0;
-    while k < bits {
+    for k in 0..bits {
         if (word >> k) % 2 == 1 {
             next = put_value(name, first + k, out, next);
         }
-        k += 1;
     }
     next
 }
@@ -56,16 +58,24 @@ pub fn rows(file: &[u8], i: usize, j: usize, out: &mut [u8]) -> usize
     ensures { Rendered (MeetingPrinted file.now i j) out.old out.new result }
 {
     let found = meeting::meet(file, i, j);
-    let next = put_answer(found.answer.number, found.answer.place, out);
-    put_segments(found.word, out, next)
+    let next = put_answer(&found, out);
+    let word = found.unwrap_or(0);
+    put_segments(word, out, next)
 }
+
+// of a refusal
+const NONE: Crowd = Crowd {
+    rows: 0,
+    segments: 0,
+};
 
 // The same for set number `k`.
 pub fn set(file: &[u8], k: usize, out: &mut [u8]) -> usize
     ensures { Rendered (CrowdPrinted file.now k) out.old out.new result }
 {
     let found = meeting::of_set(file, k);
-    let next = put_answer(found.answer.number, found.answer.place, out);
-    let listed = put_rows(found.rows, out, next);
-    put_segments(found.segments, out, listed)
+    let next = put_answer(&found, out);
+    let crowd = found.unwrap_or(NONE);
+    let listed = put_rows(crowd.rows, out, next);
+    put_segments(crowd.segments, out, listed)
 }

@@ -7,18 +7,22 @@ ghost use Rattle.rules.specs.Bounds.{max_rows, max_slots};
 ghost use Rattle.rules.specs.Program.{verdict};
 ghost use Rattle.rules.specs.Raising.{raise};
 ghost use Rattle.decimal.specs.Puts.{limit, max_line, PutsLine, PutsLines};
+ghost use Rattle.table.specs.Refusal.{number, place};
 ghost use Rattle.report.specs.RaisedLines.{Costs, raised_lines, RaiseRendered};
 
+use crate::put_judged;
 use decimal::put_line;
-use table::{Answer, Table};
+use table::{Refusal, Table};
 
 // Room for every report: 64 bytes for each row and the verdict.
 pub const SIZE: usize = 64 * (Table::ROWS + 1);
 
-fn put_result(number: u32, place: u32, out: &mut [u8], at: usize) -> usize
+fn put_result<T>(answer: &Result<T, Refusal>, out: &mut [u8], at: usize) -> usize
     requires { at + max_line ≤ limit }
-    ensures { PutsLine (verdict number place) out.old at out.new result }
+    ensures { PutsLine (verdict (number answer.now) (place answer.now)) out.old at out.new result }
 {
+    let number = table::number(answer);
+    let place = table::place(answer);
     put_line(b"verdict", &[number as u64, place as u64], out, at)
 }
 
@@ -30,10 +34,10 @@ fn put_raise(row: usize, old: u64, new: u64, out: &mut [u8], at: usize) -> usize
 }
 
 // A line for each row whose cost grew.
-fn put_raises<'a>(
+fn put_raises(
     rows: usize,
-    old: &'a [u16; Table::ROWS],
-    new: &'a [u16; Table::ROWS],
+    old: &[u16; Table::ROWS],
+    new: &[u16; Table::ROWS],
     out: &mut [u8],
 ) -> usize
     requires { Costs rows (at old.now) (at new.now) }
@@ -41,14 +45,12 @@ fn put_raises<'a>(
         out.new result }
 {
     let mut next: usize = 0;
-    let mut i: usize = 0;
-    while i < rows {
+    for i in 0..rows {
         let was = table::slots_at(old, i);
         let is = table::slots_at(new, i);
         if was < is {
             next = put_raise(i, was, is, out, next);
         }
-        i += 1;
     }
     next
 }
@@ -57,15 +59,15 @@ fn put_raises<'a>(
 pub fn render(file: &[u8], out: &mut [u8]) -> usize
     ensures { RaiseRendered file.now out.old out.new result }
 {
-    let found = raising::raised_table(file);
-    let answer = found.given.answer;
-    if answer.number != Answer::DONE {
-        return put_result(answer.number, answer.place, out, 0);
-    }
+    let answer = raising::raised_table(file);
+    let Ok(found) = answer else {
+        return put_judged(&answer, out);
+    };
     let mut raised = [0u8; Table::FILE_BYTES];
-    raising::raise(file, &mut raised);
+    // there is room for every file, so it isn't refused
+    let _ = raising::raise(file, &mut raised);
     let result = verdict::judge(&raised[..file.len()]);
-    let columns = found.given.columns;
+    let columns = &found.given.columns;
     let next = put_raises(columns.rows, &columns.cost, &found.cost, out);
-    put_result(result.number(), result.place(), out, next)
+    put_result(&result, out, next)
 }

@@ -223,7 +223,7 @@ searched_found {t} {d} {e} S l c =
     let none : (k : ℕ) → k < e - 1 → T (clear t d (mirror M d (suc k))) → ⊥ = λ k m. S.none (suc k) (omega arith) (omega arith) in
     omega (arith, lowest_is M (λ k. clear t d (mirror M d (suc k))) (e - 1) (omega arith) (rw z (of_true c)) none)
 
-pub searched_all : {t : Table} {d e : ℕ} → Searched t d e → t.elements < e → e ≡ cut t d
+pub searched_all : {t : Table} {d e : ℕ} → Searched t d e → t.elements < e → cut t d ≡ t.elements + 1
 unfolding cut
 searched_all {t} {d} {e} S l =
     let M = t.elements in

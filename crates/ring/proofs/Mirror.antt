@@ -20,14 +20,6 @@ use Rattle.ring.proofs.Clockwise.{steps_cases, steps_less, steps_add}
 
 -- ---- elements
 
-pub mirror_own : {d : ℕ} (M e : ℕ) → d ≡ clockwise → mirror M d e ≡ e
-unfolding mirror
-mirror_own M e z = rw z
-
-pub mirror_turned : {d : ℕ} (M e : ℕ) → d ≢ clockwise → mirror M d e ≡ M + 1 - e
-unfolding mirror
-mirror_turned {d} M e n = rw (ne_eqb d clockwise n)
-
 module _ {M : ℕ} where
   element_if : {e : ℕ} → Element M e → (b : Bool) → Element M (cond b e (M + 1 - e))
   element_if x true = x

@@ -3,18 +3,18 @@
 // mirrored first, and then all is as on the other ring.
 #![tactic(auto)]
 
-ghost use Rattle.std.specs.Prelude.{◌≡◌, not, ◌&&◌, ℕ, ◌+◌, ◌*◌, ◌≤◌, ◌<◌, eqb};
+ghost use Rattle.std.specs.Prelude.{◌≡◌, not, ◌&&◌, ℕ, ◌+◌, ◌*◌, ◌≤◌, ◌<◌, eqb, MatchOption};
 ghost use Rattle.numbers.specs.Lists.{at};
 ghost use Rattle.numbers.specs.Word.{bit};
 ghost use Rattle.rules.specs.Bounds.{max_elements, max_rings};
 ghost use Rattle.rules.specs.Bus as bus;
 ghost use Rattle.rules.specs.Line as line;
-ghost use Rattle.table.specs.Columns.{ByRow, OneWay};
+ghost use Rattle.table.specs.Columns.{ByRow};
 ghost use Rattle.ring.specs.Route as route;
 ghost use Rattle.ring.specs.Route.{Element, Shows};
-ghost use Rattle.ring.specs.Rows.{Routes, on_ring, cut_of, Renumbered};
+ghost use Rattle.ring.specs.Rows.{cut_of, Renumbered, RoutesOf, Routed, rings_of, segments_of};
 
-use table::Table;
+use table::{Columns, Table};
 
 // The rows' ends on the line, 0 past the last row.
 #[derive(Clone, Copy)]
@@ -24,6 +24,7 @@ pub struct Line {
 }
 
 // How many segments lie from element `from` clockwise to element `to`.
+#[tactic(auto, unfolding(rules::specs::Bus::steps))]
 fn steps(m: usize, from: usize, to: usize) -> usize
     requires { (m ≤ max_elements) × Element m from × Element m to }
     ensures { (result ≡ bus.steps m from to) × (result < m) }
@@ -41,6 +42,7 @@ fn through(m: usize, from: usize, to: usize) -> u64
 }
 
 // The segments that this route uses, shown in the same way.
+#[tactic(auto, using(crate::proofs::Cut::uses_shows))]
 fn uses(m: usize, from: usize, to: usize) -> u64
     requires { (m ≤ max_elements) × Element m from × Element m to }
     ensures { Shows m result (bus.route_uses m from to) }
@@ -58,6 +60,7 @@ pub fn segments(m: usize, from: usize, to: usize) -> u32
 }
 
 // Element `e`'s number on the line that begins at `cut`.
+#[tactic(auto, unfolding(crate::specs::Route::line_element))]
 fn line_element(m: usize, cut: usize, e: usize) -> usize
     requires { (m ≤ max_elements) × Element m cut × Element m e }
     ensures { (result ≡ route.line_element m cut e) × (result ≤ m) }
@@ -66,6 +69,7 @@ fn line_element(m: usize, cut: usize, e: usize) -> usize
 }
 
 // The same for a second end, which at the cut stands at the end of the line.
+#[tactic(auto, unfolding(crate::specs::Route::line_end))]
 fn line_end(m: usize, cut: usize, e: usize) -> usize
     requires { (m ≤ max_elements) × Element m cut × Element m e }
     ensures { (result ≡ route.line_end m cut e) × (result ≤ m + 1) }
@@ -77,7 +81,8 @@ fn line_end(m: usize, cut: usize, e: usize) -> usize
     }
 }
 
-// Element `e` in the numbers of ring `d`, or an element of that ring in the board's.
+// Element `e` in the numbers of ring `d`, or an element of that ring in the board's. A direction stays a number: `on_both` counts with it.
+#[tactic(auto, unfolding(rules::specs::Bus::mirror))]
 pub fn mirrored(m: usize, d: usize, e: usize) -> usize
     requires { (m ≤ max_elements) × Element m e }
     ensures { (result ≡ bus.mirror m d e) × Element m result }
@@ -96,6 +101,7 @@ pub fn goes_through(m: usize, way: usize, from: usize, to: usize, e: usize) -> b
 }
 
 // The elements that a row of direction `way` goes through, in the numbers of ring `d`; none where it runs on the other ring.
+#[tactic(auto, using(crate::proofs::Cut::shows_on))]
 fn through_row(m: usize, d: usize, way: usize, from: usize, to: usize) -> u64
     requires { (m ≤ max_elements) × Element m from × Element m to }
     ensures { Shows m result (λ e. eqb way d && bus.route_through m (bus.mirror m d from) (bus.mirror m d to) e) }
@@ -107,62 +113,41 @@ fn through_row(m: usize, d: usize, way: usize, from: usize, to: usize) -> u64
 }
 
 // The elements that some row of ring `d` goes through: bit e shows element e of that ring's numbers.
-fn through_rows<'a>(
-    elements: usize,
-    rows: usize,
-    rings: usize,
-    first: &'a [u8; Table::ROWS],
-    second: &'a [u8; Table::ROWS],
-    way: &'a [u8; Table::ROWS],
-    d: usize,
-) -> u64
-    requires { Routes elements rows (at first.now) (at second.now) (at way.now) × OneWay rings rows (at way.now) }
-    ensures { (e : ℕ) → Element elements e → not (bit result e)
-        ≡ line.clear (on_ring elements rows (at first.now) (at second.now) (at way.now)) d
-        (bus.mirror elements d e) }
+fn through_rows(table: &Columns, d: usize) -> u64
+    requires { Routed table.now }
+    ensures { (e : ℕ) → Element table.now.elements e → not (bit result e)
+        ≡ line.clear (rings_of table.now table.now.rows) d (bus.mirror table.now.elements d e) }
 {
     let mut word: u64 = 0;
-    let mut i: usize = 0;
-    while i < rows {
-        word = word
-            | through_row(
-                elements,
-                d,
-                table::way_at(way, rings, i),
-                table::end_at(first, i),
-                table::end_at(second, i),
-            );
-        i += 1;
+    for i in 0..table.rows {
+        word |= through_row(
+            table.elements,
+            d,
+            table::way_at(&table.way, table.rings, i),
+            table::end_at(&table.first, i),
+            table::end_at(&table.second, i),
+        );
     }
-    word | (word >> elements)
+    word | (word >> table.elements)
 }
 
-// The cut of ring `d` in its own numbers: the lowest element with no row through it; one past the last where there is none.
-pub fn find_cut<'a>(
-    elements: usize,
-    rows: usize,
-    rings: usize,
-    first: &'a [u8; Table::ROWS],
-    second: &'a [u8; Table::ROWS],
-    way: &'a [u8; Table::ROWS],
-    d: usize,
-) -> usize
-    requires { Routes elements rows (at first.now) (at second.now) (at way.now) × OneWay rings rows (at way.now) }
-    ensures { result
-        ≡ line.cut (on_ring elements rows (at first.now) (at second.now) (at way.now)) d }
+// The cut of ring `d` in its own numbers, if it has one: the lowest element with no row through it.
+pub fn find_cut(table: &Columns, d: usize) -> Option<usize>
+    requires { Routed table.now }
+    ensures { MatchOption result (line.cut (rings_of table.now table.now.rows) d ≡ table.now.elements + 1)
+        (λ e. (e ≡ line.cut (rings_of table.now table.now.rows) d) × (e ≤ table.now.elements)) }
 {
-    let word = through_rows(elements, rows, rings, first, second, way, d);
-    let mut e: usize = 1;
-    while e <= elements {
+    let word = through_rows(table, d);
+    for e in 1..table.elements + 1 {
         if (word >> e) % 2 == 0 {
-            return e;
+            return Some(e);
         }
-        e += 1;
     }
-    e
+    None
 }
 
 // The word of the board's segments that a row uses: what a route uses counterclockwise, the route back uses clockwise.
+#[tactic(auto, using(crate::proofs::Words::row_clockwise, crate::proofs::Words::row_counterclockwise))]
 fn row_segments(m: usize, way: usize, from: usize, to: usize) -> u32
     requires { (m ≤ max_elements) × Element m from × Element m to }
     ensures { result ≡ route.row_segments m way from to }
@@ -174,63 +159,40 @@ fn row_segments(m: usize, way: usize, from: usize, to: usize) -> u32
     }
 }
 
+// The word of row `i`'s segments.
+fn segments_at(table: &Columns, i: usize) -> u32
+    requires { (n : ℕ) × RoutesOf table.now n × (i < n) }
+    ensures { result ≡ segments_of table.now i }
+{
+    row_segments(
+        table.elements,
+        table::end_at(&table.way, i),
+        table::end_at(&table.first, i),
+        table::end_at(&table.second, i),
+    )
+}
+
 // The word of every row's segments, 0 past the last row, for those who ask of many rows.
-pub fn lay_segments<'a>(
-    elements: usize,
-    rows: usize,
-    first: &'a [u8; Table::ROWS],
-    second: &'a [u8; Table::ROWS],
-    way: &'a [u8; Table::ROWS],
-) -> [u32; Table::ROWS]
-    requires { Routes elements rows (at first.now) (at second.now) (at way.now) }
-    ensures { ByRow rows
-        (λ i. route.row_segments elements (at way.now i) (at first.now i) (at second.now i)) result }
+pub fn lay_segments(table: &Columns) -> [u32; Table::ROWS]
+    requires { RoutesOf table.now table.now.rows }
+    ensures { ByRow table.now.rows (segments_of table.now) result }
 {
     let mut words = [0u32; Table::ROWS];
-    let mut i: usize = 0;
-    while i < rows {
-        words[i] = row_segments(
-            elements,
-            table::end_at(way, i),
-            table::end_at(first, i),
-            table::end_at(second, i),
-        );
-        i += 1;
+    for i in 0..table.rows {
+        words[i] = segments_at(table, i);
     }
     words
 }
 
 // The word of the segments that rows `i` and `j` share: those that are in both words, where both run on one ring.
-pub fn shared<'a>(
-    elements: usize,
-    first: &'a [u8; Table::ROWS],
-    second: &'a [u8; Table::ROWS],
-    way: &'a [u8; Table::ROWS],
-    i: usize,
-    j: usize,
-) -> u32
-    requires { (n : ℕ) × Routes elements n (at first.now) (at second.now) (at way.now) × (i < n) × (j < n) }
-    ensures { (n : ℕ)
-        → result ≡ bus.shared (on_ring elements n (at first.now) (at second.now) (at way.now)) i j }
+pub fn shared(table: &Columns, i: usize, j: usize) -> u32
+    requires { (n : ℕ) × RoutesOf table.now n × (i < n) × (j < n) }
+    ensures { (n : ℕ) → result ≡ bus.shared (rings_of table.now n) i j }
 {
-    let d = table::end_at(way, i);
-    let e = table::end_at(way, j);
-    if d != e {
+    if table::end_at(&table.way, i) != table::end_at(&table.way, j) {
         return 0;
     }
-    let one = row_segments(
-        elements,
-        d,
-        table::end_at(first, i),
-        table::end_at(second, i),
-    );
-    let other = row_segments(
-        elements,
-        e,
-        table::end_at(first, j),
-        table::end_at(second, j),
-    );
-    one & other
+    segments_at(table, i) & segments_at(table, j)
 }
 
 // Element `k` of ring `d`'s own line, on the line of both rings.
@@ -242,6 +204,7 @@ fn on_both(m: usize, d: usize, k: usize) -> usize
 }
 
 // Where a row of ring `d` starts whose first end is `e`, on the line of both rings; `cut` is that of its ring.
+#[tactic(auto, unfolding(crate::specs::Route::row_element))]
 fn row_element(m: usize, d: usize, cut: usize, e: usize) -> usize
     requires { (m ≤ max_elements) × (d < max_rings) × Element m cut × Element m e }
     ensures { (result ≡ route.row_element m d cut e) × (result < 256) }
@@ -250,6 +213,7 @@ fn row_element(m: usize, d: usize, cut: usize, e: usize) -> usize
 }
 
 // Where it ends whose second end is `e`.
+#[tactic(auto, unfolding(crate::specs::Route::row_end))]
 fn row_end(m: usize, d: usize, cut: usize, e: usize) -> usize
     requires { (m ≤ max_elements) × (d < max_rings) × Element m cut × Element m e }
     ensures { (result ≡ route.row_end m d cut e) × (result < 256) }
@@ -258,6 +222,7 @@ fn row_end(m: usize, d: usize, cut: usize, e: usize) -> usize
 }
 
 // The cut of ring `d`, of two.
+#[tactic(auto, unfolding(crate::specs::Rows::cut_of))]
 fn cut_of(clockwise: usize, other: usize, d: usize) -> usize
     ensures { result ≡ cut_of clockwise other d }
 {
@@ -265,32 +230,19 @@ fn cut_of(clockwise: usize, other: usize, d: usize) -> usize
 }
 
 // The rows laid on the line of both rings, which begin at elements `cut` and `other`.
-pub fn lay<'a>(
-    elements: usize,
-    rows: usize,
-    rings: usize,
-    first: &'a [u8; Table::ROWS],
-    second: &'a [u8; Table::ROWS],
-    way: &'a [u8; Table::ROWS],
-    cut: usize,
-    other: usize,
-) -> Line
-    requires { Routes elements rows (at first.now) (at second.now) (at way.now) × OneWay rings rows (at way.now)
-        × Element elements cut × Element elements other }
-    ensures { Renumbered elements cut other rows (at first.now) (at second.now) (at way.now) result }
+pub fn lay(table: &Columns, cut: usize, other: usize) -> Line
+    requires { Routed table.now × Element table.now.elements cut × Element table.now.elements other }
+    ensures { Renumbered table.now.elements cut other table.now.rows (at table.now.first) (at table.now.second) (at table.now.way)
+        result }
 {
-    let mut start = [0u8; Table::ROWS];
-    let mut end = [0u8; Table::ROWS];
-    let mut i: usize = 0;
-    while i < rows {
-        let d = table::way_at(way, rings, i);
+    let m = table.elements;
+    let mut first = [0u8; Table::ROWS];
+    let mut second = [0u8; Table::ROWS];
+    for i in 0..table.rows {
+        let d = table::way_at(&table.way, table.rings, i);
         let from = cut_of(cut, other, d);
-        start[i] = row_element(elements, d, from, table::end_at(first, i)) as u8;
-        end[i] = row_end(elements, d, from, table::end_at(second, i)) as u8;
-        i += 1;
+        first[i] = row_element(m, d, from, table::end_at(&table.first, i)) as u8;
+        second[i] = row_end(m, d, from, table::end_at(&table.second, i)) as u8;
     }
-    Line {
-        first: start,
-        second: end,
-    }
+    Line { first, second }
 }

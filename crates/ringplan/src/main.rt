@@ -7,10 +7,8 @@
 // that is no number counts as 0.
 #![tactic(auto)]
 
-use check::same;
 use limited::Limits;
 use std::env::{Env, FillError};
-use table::Answer;
 
 // No input that passes is longer than the longest text, and nothing that is written longer than the longest list in lines.
 const INPUT: usize = file_report::texts::INPUT;
@@ -24,10 +22,7 @@ const LONGEST: usize = 20;
 
 fn number(rt: &impl Env, i: usize) -> usize {
     let mut text = [0u8; LONGEST];
-    let size = match rt.arg(i, &mut text) {
-        Ok(size) => size,
-        Err(_) => 0,
-    };
+    let size = rt.arg(i, &mut text).unwrap_or(0);
     let mut numbers = [0u64; 1];
     cases::numbers(&text[..size], &mut numbers);
     numbers[0] as usize
@@ -35,11 +30,7 @@ fn number(rt: &impl Env, i: usize) -> usize {
 
 // A limit of more than 32 bits is refused as the largest of 32 bits is.
 fn limit(rt: &impl Env, i: usize) -> u32 {
-    let given = number(rt, i);
-    if given > 0xffff_ffff {
-        return 0xffff_ffff;
-    }
-    given as u32
+    u32::try_from(number(rt, i)).unwrap_or(u32::MAX)
 }
 
 // ---- what is written, at the front of `out`; how many bytes it is
@@ -49,49 +40,32 @@ fn verdict_within(rt: &impl Env, file: &[u8], out: &mut [u8]) -> usize {
         ours: limit(rt, 2),
         theirs: limit(rt, 3),
     };
-    let answer = limited::judge(file, limits);
-    report::put_verdict(answer.number(), answer.place(), out)
+    let verdict = limited::judge(file, limits);
+    report::put_verdict(table::number(&verdict), table::place(&verdict), out)
 }
 
 // The raised file is as long as the file; nothing where it is refused.
 fn raised(file: &[u8], out: &mut [u8]) -> usize {
-    let answer = raising::raise(file, out);
-    if answer.number == Answer::DONE {
-        return file.len();
+    match raising::raise(file, out) {
+        Ok(()) => file.len(),
+        Err(_) => 0,
     }
-    0
 }
 
-// Which of the words it is, from 0 on; one more than the last where it is none of them.
-fn number_of(word: &[u8]) -> usize {
-    let words: &[u8] = b"plain relay limits meet set raise raised element list text table";
-    let mut k: usize = 0;
-    let mut at: usize = 0;
-    while at < words.len() {
-        let end = cases::find(words, at, b' ');
-        if same(word, &words[at..end]) {
-            return k;
-        }
-        at = end + 1;
-        k += 1;
-    }
-    k
-}
-
-// What is written for the word with this number.
-fn answer(rt: &impl Env, k: usize, input: &[u8], out: &mut [u8]) -> usize {
-    match k {
-        0 => report::render_plain(input, out),
-        1 => report::render_relayed(input, number(rt, 2), out),
-        2 => verdict_within(rt, input, out),
-        3 => report::meetings::rows(input, number(rt, 2), number(rt, 3), out),
-        4 => report::meetings::set(input, number(rt, 2), out),
-        5 => report::raised::render(input, out),
-        6 => raised(input, out),
-        7 => file_report::listing::make(input, number(rt, 2) as u64, out),
-        8 => file_report::listing::show(input, out),
-        9 => file_report::texts::show(input, out),
-        10 => file_report::texts::make(input, out),
+// What is written for a word.
+fn answer(rt: &impl Env, word: &[u8], input: &[u8], out: &mut [u8]) -> usize {
+    match word {
+        b"plain" => report::render_plain(input, out),
+        b"relay" => report::render_relayed(input, number(rt, 2), out),
+        b"limits" => verdict_within(rt, input, out),
+        b"meet" => report::meetings::rows(input, number(rt, 2), number(rt, 3), out),
+        b"set" => report::meetings::set(input, number(rt, 2), out),
+        b"raise" => report::raised::render(input, out),
+        b"raised" => raised(input, out),
+        b"element" => file_report::listing::make(input, number(rt, 2) as u64, out),
+        b"list" => file_report::listing::show(input, out),
+        b"text" => file_report::texts::show(input, out),
+        b"table" => file_report::texts::make(input, out),
         _ => 0,
     }
 }
@@ -99,7 +73,7 @@ fn answer(rt: &impl Env, k: usize, input: &[u8], out: &mut [u8]) -> usize {
 fn render(rt: &impl Env, input: &[u8], out: &mut [u8]) -> usize {
     let mut word = [0u8; LONGEST];
     match rt.arg(1, &mut word) {
-        Ok(size) => answer(rt, number_of(&word[..size]), input, out),
+        Ok(size) => answer(rt, &word[..size], input, out),
         Err(FillError::TooLong) => 0,
         Err(FillError::NotPresent) => report::render(input, out),
     }

@@ -15,7 +15,7 @@ ghost use Rattle.std.specs.Prelude.{◌≤◌, length};
 
 use cases::{find, number_at};
 use live::{Entry, Live};
-use table::{Answer, Table};
+use table::{Refusal, Table};
 
 // as many numbers as a line has at most
 const MOST: usize = 5;
@@ -30,51 +30,14 @@ const LINE: usize = 12 + 6 * 21 + 1;
 
 // ---- a line of the input
 
-fn is_same(a: &[u8], b: &[u8]) -> bool {
-    if a.len() != b.len() {
-        return false;
-    }
-    let mut i: usize = 0;
-    while i < a.len() {
-        if i < b.len() {
-            if a[i] != b[i] {
-                return false;
-            }
-        }
-        i += 1;
-    }
-    true
-}
-
-fn is_plain(byte: u8) -> bool {
-    if byte == b' ' {
-        return true;
-    }
-    byte >= b'0' && byte <= b'9'
-}
-
 // Nothing but digits and spaces.
 fn are_numbers(text: &[u8]) -> bool {
-    let mut i: usize = 0;
-    while i < text.len() {
-        if !is_plain(text[i]) {
-            return false;
-        }
-        i += 1;
-    }
-    true
+    text.iter().all(|b| *b == b' ' || b.is_ascii_digit())
 }
 
 // All of the numbers fit 16 bits.
 fn are_small(given: &[u64]) -> bool {
-    let mut i: usize = 0;
-    while i < given.len() {
-        if given[i] > LARGEST {
-            return false;
-        }
-        i += 1;
-    }
-    true
+    given.iter().all(|x| *x <= LARGEST)
 }
 
 fn small_at(given: &[u64], k: usize) -> u16 {
@@ -91,50 +54,36 @@ fn print_line(rt: &impl Print, word: &[u8], numbers: &[u64])
     let _ = rt.write_all(&line[..size]);
 }
 
-fn print_row(rt: &impl Print, live: Live, i: usize) {
-    if i >= Table::ROWS {
-        return;
+fn show(rt: &impl Print, live: &Live) {
+    print_line(rt, b"denominator", &[live.denominator]);
+    for i in 0..Table::ROWS {
+        if live.period[i] != 0 {
+            let row = [
+                i as u64,
+                u64::from(live.cost[i]),
+                u64::from(live.period[i]),
+                u64::from(live.first[i]),
+                u64::from(live.second[i]),
+                u64::from(live.label[i]),
+            ];
+            print_line(rt, b"row", &row);
+        }
     }
-    if table::slots_at(&live.period, i) == 0 {
-        return;
+    for (s, sum) in live.sums.iter().enumerate().take(live.elements) {
+        print_line(rt, b"segment", &[s as u64 + 1, *sum]);
     }
+}
+
+// Number and place of a verdict, or of what is refused before it.
+fn print_verdict<T>(rt: &impl Print, answer: &Result<T, Refusal>) {
     print_line(
         rt,
-        b"row",
+        b"verdict",
         &[
-            i as u64,
-            table::slots_at(&live.cost, i),
-            table::slots_at(&live.period, i),
-            table::end_at(&live.first, i) as u64,
-            table::end_at(&live.second, i) as u64,
-            table::slots_at(&live.label, i),
+            u64::from(table::number(answer)),
+            u64::from(table::place(answer)),
         ],
     );
-}
-
-fn print_sum(rt: &impl Print, live: Live, s: usize) {
-    if s >= live.elements {
-        return;
-    }
-    if s >= Table::ELEMENTS {
-        return;
-    }
-    let sums = live.sums;
-    print_line(rt, b"segment", &[s as u64 + 1, sums[s]]);
-}
-
-fn show(rt: &impl Print, live: Live) {
-    print_line(rt, b"denominator", &[live.denominator]);
-    let mut i: usize = 0;
-    while i < Table::ROWS {
-        print_row(rt, live, i);
-        i += 1;
-    }
-    let mut s: usize = 0;
-    while s < Table::ELEMENTS {
-        print_sum(rt, live, s);
-        s += 1;
-    }
 }
 
 // The verdict on a file of version 2 with this many rows, at the front of `bytes`.
@@ -146,32 +95,29 @@ fn judge(rt: &impl Print, bytes: &[u8], rows: usize) {
     if size > bytes.len() {
         return;
     }
-    let found = verdict::judge(&bytes[..size]);
-    print_line(
-        rt,
-        b"verdict",
-        &[found.number() as u64, found.place() as u64],
-    );
+    print_verdict(rt, &verdict::judge(&bytes[..size]));
 }
 
-fn verdict(rt: &impl Print, live: Live) {
+fn verdict(rt: &impl Print, live: &Live) {
     let mut bytes = [0u8; Table::FILE_BYTES];
-    let answer = live::write_file(live, Table::VERSION_2, &mut bytes);
-    if answer.number != Answer::DONE {
-        print_line(rt, b"verdict", &[answer.number as u64, answer.place as u64]);
+    let written = live::write_file(live, Table::VERSION_2, &mut bytes);
+    if written.is_err() {
+        print_verdict(rt, &written);
         return;
     }
     let head = Table::of(&bytes);
     judge(rt, &bytes, head.rows);
 }
 
+// ---- the calls; where one is refused the live table stays as it was, but for a new one: nothing is there then
+
 fn make(rt: &impl Print, given: &[u64]) -> Live {
-    let after = Live::new(number_at(given, 0) as usize);
-    print_line(rt, b"new", &[after.answer.number as u64]);
-    after.live
+    let made = Live::new(number_at(given, 0) as usize);
+    print_line(rt, b"new", &[u64::from(table::number(&made))]);
+    made.unwrap_or(Live::nothing())
 }
 
-fn add(rt: &impl Print, live: Live, given: &[u64]) -> Live {
+fn add(rt: &impl Print, live: &mut Live, given: &[u64]) {
     let entry = Entry {
         cost: small_at(given, 0),
         period: small_at(given, 1),
@@ -179,66 +125,51 @@ fn add(rt: &impl Print, live: Live, given: &[u64]) -> Live {
         second: small_at(given, 3),
         label: small_at(given, 4),
     };
-    let after = Live::add(live, entry);
+    let added = live.add(entry);
     print_line(
         rt,
         b"add",
-        &[after.answer.number as u64, after.taken as u64],
+        &[
+            u64::from(table::number(&added)),
+            u64::from(added.unwrap_or(0)),
+        ],
     );
-    after.live
 }
 
-fn remove(rt: &impl Print, live: Live, given: &[u64]) -> Live {
-    let after = Live::remove(live, number_at(given, 0) as usize);
-    print_line(rt, b"remove", &[after.answer.number as u64]);
-    after.live
+fn remove(rt: &impl Print, live: &mut Live, given: &[u64]) {
+    let removed = live.remove(number_at(given, 0) as usize);
+    print_line(rt, b"remove", &[u64::from(table::number(&removed))]);
 }
 
 // ---- the session
 
-// The live table after a line with this word and these numbers.
-fn call(rt: &impl Print, live: Live, word: &[u8], given: &[u64]) -> Live {
-    let count = given.len();
-    if is_same(word, b"new") && count == 1 {
-        return make(rt, given);
+// What a line with this word and these numbers asks for.
+fn call(rt: &impl Print, live: &mut Live, word: &[u8], given: &[u64]) {
+    match (word, given) {
+        (b"new", [_]) => *live = make(rt, given),
+        (b"add", [_, _, _, _, _]) if are_small(given) => add(rt, live, given),
+        (b"remove", [_]) => remove(rt, live, given),
+        (b"show", []) => show(rt, live),
+        (b"verdict", []) => verdict(rt, live),
+        _ => print_line(rt, b"no such line", &[]),
     }
-    if is_same(word, b"add") && count == MOST && are_small(given) {
-        return add(rt, live, given);
-    }
-    if is_same(word, b"remove") && count == 1 {
-        return remove(rt, live, given);
-    }
-    if is_same(word, b"show") && count == 0 {
-        show(rt, live);
-        return live;
-    }
-    if is_same(word, b"verdict") && count == 0 {
-        verdict(rt, live);
-        return live;
-    }
-    print_line(rt, b"no such line", &[]);
-    live
 }
 
-fn one(rt: &impl Print, live: Live, line: &[u8]) -> Live {
-    let end = find(line, 0, b' ');
+fn one(rt: &impl Print, live: &mut Live, line: &[u8]) {
+    let (word, text) = line.split_at(find(line, 0, b' '));
     let mut given = [0u64; MOST];
-    let count = cases::numbers(&line[end..], &mut given);
-    if count <= MOST && are_numbers(&line[end..]) {
-        return call(rt, live, &line[..end], &given[..count]);
+    let count = cases::numbers(text, &mut given);
+    if count <= MOST && are_numbers(text) {
+        call(rt, live, word, &given[..count]);
+        return;
     }
     print_line(rt, b"no such line", &[]);
-    live
 }
 
 fn each(rt: &impl Print, text: &[u8]) {
-    let nothing = Live::new(0);
-    let mut live = nothing.live;
-    let mut at: usize = 0;
-    while at < text.len() {
-        let end = find(text, at, b'\n');
-        live = one(rt, live, &text[at..end]);
-        at = end + 1;
+    let mut live = Live::nothing();
+    for line in text.split_inclusive(|b| *b == b'\n') {
+        one(rt, &mut live, line.strip_suffix(b"\n").unwrap_or(line));
     }
 }
 

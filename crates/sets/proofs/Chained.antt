@@ -2,8 +2,7 @@
 --
 --   link_only                 only one link fits
 --   rest r                    how many rows may be left on the chain from r on
---   chain_start, chain_more, chain_end
---                             no row is chained; one more is, the one before those that are; all are
+--   chain_start, chain_more   no row is chained; one more is, the one before those that are
 --   head_only, next_only      only one head and one next fit
 use mathlib.Core.Path.{◌≡◌, refl, sym, ap, ◌∙◌, subst, subst₂}
 use mathlib.Core.Logic.{⊎_elim}
@@ -100,9 +99,6 @@ module _ {n : ℕ} {f : ℕ → ℕ} {i e : ℕ} {head next : List ℕ} (C : Cha
     nexts = next_more;
     spare = λ j h. get_or-set_other next (i - 1) j (at head e) 0 (λ q. let z : ⊥ = omega arith in z) ∙ C.spare j h;
   }
-
-pub chain_end : {n : ℕ} {f : ℕ → ℕ} {i : ℕ} {head next : List ℕ} → ChainedFrom n f i head next → i ≡ 0 → Chained n f head next
-chain_end {n} {f} {head = head} {next = next} C q = subst (λ (k : ℕ). ChainedFrom n f k head next) q C
 
 -- ---- only one answer fits
 

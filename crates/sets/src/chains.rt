@@ -23,11 +23,9 @@ pub fn chain(
         × (head.old ≡ replicate all_heads 0) × (next.old ≡ replicate max_rows 0) }
     ensures { Chained rows (at first.now) head.new next.new }
 {
-    let mut i = rows;
-    while i > 0 {
-        let element = table::end_at(first, i - 1);
-        next[i - 1] = head[element];
-        head[element] = i as u8;
-        i -= 1;
+    for i in (0..rows).rev() {
+        let element = table::end_at(first, i);
+        next[i] = head[element];
+        head[element] = (i + 1) as u8;
     }
 }

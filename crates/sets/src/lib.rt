@@ -39,20 +39,17 @@ pub fn list_sets<'a>(
     // for each element of the line the word of the rows that start there, and of those that end there
     let mut starts = [0u64; Sets::LINE];
     let mut ends = [0u64; Sets::LINE];
-    let mut i: usize = 0;
-    while i < rows {
+    for i in 0..rows {
         let from = table::end_at(first, i);
         let to = table::end_at(second, i);
-        starts[from] = starts[from] | (1u64 << i);
-        ends[to] = ends[to] | (1u64 << i);
-        i += 1;
+        starts[from] |= 1 << i;
+        ends[to] |= 1 << i;
     }
     let mut words = [0u64; Table::ROWS];
     let mut count: usize = 0;
     let mut started = false;
     let mut across: u64 = 0;
-    let mut e: usize = 0;
-    while e <= top {
+    for e in 0..top + 1 {
         let starting = starts[e];
         let ending = ends[e];
         if ending != 0 {
@@ -66,7 +63,6 @@ pub fn list_sets<'a>(
             started = true;
         }
         across = (across ^ ending) | starting;
-        e += 1;
     }
     Sets { count, words }
 }

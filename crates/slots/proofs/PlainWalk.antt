@@ -1,6 +1,5 @@
 -- The plain walk: rows are given their slots one after another, element by element.
 --
---   cleared_more          one more word is 0
 --   Placing f g i x l was s left now
 --                         row i goes through the slots: it has come to slot s, with `left` of its load to place
 --   placing_start, placing_skip, placing_take, placing_end
@@ -38,17 +37,6 @@ use Rattle.placing.proofs.Upto.{has, chosen, Upto, upto_none, upto_eq, upto_step
 use Rattle.placing.proofs.Scan.{within, within_is, within_of, Scan, scan_start, scan_skip, scan_take, scan_end}
 use Rattle.placing.proofs.Order.{taken, taken_is, taken_ahead, taken_more, taken_skip, taken_next, taken_none, taken_all, free_among}
 use Rattle.slots.specs.Plain.{is_open, open_at, RowPlaced, Cleared}
-
--- ---- clearing
-
--- one more word is cleared
-pub cleared_more : (words : List ℕ) (s : ℕ) → s < length words → ((u : ℕ) → u < s → at words u ≡ 0)
-    → (u : ℕ) → u < s + 1 → at (set words s 0) u ≡ 0
-cleared_more words s room h u m =
-    ⊎_elim
-    (λ a. ap (at (set words s 0)) (eqb→eq u s a) ∙ get_or-set_same words s 0 0 room)
-    (λ a. let ne : ¬ (u ≡ s) = λ z. a (eqb_of u s z) in get_or-set_other words s u 0 0 ne ∙ h u (omega arith))
-    (decide (eqb u s))
 
 -- ---- one row
 

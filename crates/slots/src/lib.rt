@@ -24,20 +24,6 @@ pub use plain::fill_plain;
 use sets::HEADS;
 use table::Table;
 
-// A byte as an index.
-fn wide(x: u8) -> usize
-    ensures { result ≡ x }
-{
-    x as usize
-}
-
-// A slot's number as an index.
-fn slot(x: u16) -> usize
-    ensures { result ≡ x }
-{
-    x as usize
-}
-
 // Clears the word of the stretch that is all slots.
 fn clear(slots: usize, words: &mut [u64])
     requires { slots ≤ length words.old }
@@ -72,23 +58,20 @@ pub fn fill<'a>(
     let mut after = [0u8; STRETCHES];
     end[0] = slots as u16;
     clear(slots, words);
-    let mut k: usize = 0;
-    let mut s: usize = 0;
-    let mut element: usize = 1;
-    while element < top {
+    for element in 1..top {
+        let mut k: usize = 0;
+        let mut s: usize = 0;
         let mut r = head[element];
         while r != 0 {
             let i = (r - 1) as usize;
             let row = 1u64 << i;
             let mut left = table::slots_at(load, i) as usize;
-            'slots: while s < slots {
-                if left == 0 {
-                    break 'slots;
-                }
-                let to = slot(end[k]);
-                if element < wide(last[k]) {
+            // s goes on from stretch to stretch, so no range has its places
+            while s < slots && left != 0 {
+                let to = usize::from(end[k]);
+                if element < usize::from(last[k]) {
                     s = to;
-                    k = wide(after[k]);
+                    k = usize::from(after[k]);
                 } else {
                     let word = words[s];
                     if left < to - s {
@@ -104,15 +87,12 @@ pub fn fill<'a>(
                         last[k] = second[i];
                         left -= to - s;
                         s = to;
-                        k = wide(after[k]);
+                        k = usize::from(after[k]);
                     }
                 }
             }
             r = next[i];
         }
-        k = 0;
-        s = 0;
-        element += 1;
     }
     parting::spread(&end, &after, slots, words);
 }

@@ -37,10 +37,8 @@ fn repeat(from: usize, to: usize, words: &mut [u64])
     ensures { Repeated from to words.old words.new }
 {
     let word = words[from];
-    let mut s = from + 1;
-    while s < to {
+    for s in from + 1..to {
         words[s] = word;
-        s += 1;
     }
 }
 
@@ -50,12 +48,13 @@ pub fn spread(end: &[u16; STRETCHES], after: &[u8; STRETCHES], slots: usize, wor
     ensures { (of begin : ℕ → ℕ) → Tiles slots of begin end.now after.now
         → Spread slots of begin words.old words.new }
 {
-    let mut k: u8 = 0;
+    let mut k: usize = 0;
     let mut s: usize = 0;
+    // s goes on from stretch to stretch, so no range has its places
     while s < slots {
-        let to = end[k as usize] as usize;
+        let to = usize::from(end[k]);
         repeat(s, to, words);
-        k = after[k as usize];
+        k = usize::from(after[k]);
         s = to;
     }
 }

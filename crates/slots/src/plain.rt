@@ -23,10 +23,8 @@ fn do_overlap<'a>(
     requires { (j < max_rows) × (i < max_rows) }
     ensures { result ≡ meet (at first.now) (at second.now) j i }
 {
-    if table::end_at(first, j) >= table::end_at(second, i) {
-        return false;
-    }
-    table::end_at(first, i) < table::end_at(second, j)
+    table::end_at(first, j) < table::end_at(second, i)
+        && table::end_at(first, i) < table::end_at(second, j)
 }
 
 // No row in a slot with this word overlaps row `i`.
@@ -65,16 +63,14 @@ fn place_row<'a>(
 {
     let row = 1u64 << i;
     let mut left = load;
-    let mut s: usize = 0;
-    'slots: while s < slots {
+    for s in 0..slots {
         if left == 0 {
-            break 'slots;
+            break;
         }
         if is_free(first, second, i, words[s]) {
-            words[s] = words[s] | row;
+            words[s] |= row;
             left -= 1;
         }
-        s += 1;
     }
 }
 
@@ -83,11 +79,7 @@ fn clear(slots: usize, words: &mut [u64])
     requires { slots ≤ length words.old }
     ensures { Cleared slots words.old words.new }
 {
-    let mut s: usize = 0;
-    while s < slots {
-        words[s] = 0;
-        s += 1;
-    }
+    words[..slots].fill(0);
 }
 
 // Writes the words of an interval of `slots` slots to the front of `words`, for rows on a line of the elements 1 to `top` that are chained
@@ -108,14 +100,12 @@ pub fn fill_plain<'a>(
         words.old words.new }
 {
     clear(slots, words);
-    let mut element: usize = 1;
-    while element < top {
+    for element in 1..top {
         let mut r = head[element];
         while r != 0 {
             let i = (r - 1) as usize;
             place_row(first, second, i, table::slots_at(load, i), slots, words);
             r = next[i];
         }
-        element += 1;
     }
 }

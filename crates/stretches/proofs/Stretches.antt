@@ -3,12 +3,10 @@
 --   Cursor l of begin k s    the walk has come to stretch k, which begins at slot s, or past the last, where s is l
 --   cursor_start, cursor_low, cursor_end, cursor_is, cursor_next
 --                            it begins; the stretch is one of those there can be; it ends past s; which slots it has; on to the next
---   repeated_one, repeated_more, repeated_all
---                            one word for neighbouring slots
 --   Spreading l of begin was k s now
 --                            the stretches before the cursor are spread
---   spreading_start, spreading_more, spreading_end
---                            none is; one more is; all are
+--   spreading_more, spreading_end
+--                            one more stretch is spread; all are
 --   Fitted k s most new size .. ..
 --                            stretch k, which begins at slot s, has `size` slots, at most `most`: where it had more, those past them are
 --                            now stretch `new`
@@ -18,14 +16,12 @@
 use mathlib.Core.Path.{◌≡◌, refl, sym, ap, ◌∙◌, subst}
 use mathlib.Core.Logic.{inl, inr, ⊎_elim}
 use mathlib.Core.List.{List}
-use Prim.Native.Nat.{ℕ, suc, ◌+◌, ◌-◌, ◌≤◌, ◌<◌}
-use native.Mathlib.Nat.{not-suc-le-zero}
+use Prim.Native.Nat.{ℕ, ◌+◌, ◌-◌, ◌≤◌, ◌<◌}
 use native.Mathlib.Omega.{arith}
 use lib.ListN.{length, set, length-set}
-use lib.Seq.{get_or-set_same, get_or-set_other}
+use lib.Seq.{get_or-set_same}
 use Rattle.numbers.specs.Lists.{at}
 use Rattle.numbers.proofs.Truth.{le_or_lt}
-use Rattle.numbers.proofs.Finite.{below}
 use Rattle.stretches.specs.Stretches.{most_stretches, Tiles, Parted, Repeated, Spread}
 use Rattle.placing.proofs.Kept.{kept_of}
 
@@ -66,32 +62,6 @@ module _ {l : ℕ} {of begin : ℕ → ℕ} {end after : List ℕ} (t : Tiles l 
           (z, ap begin (sym z) ∙ ap (λ (j : ℕ). begin (of (at end j))) (sym q) ∙ o.1 ∙ ap (at end) q);
     }
 
--- ---- one word for neighbouring slots
-
-pub repeated_one : (from : ℕ) (was : List ℕ) → Repeated from (from + 1) was was
-repeated_one from was = record {
-  same = λ s a b. ap (at was) (let q : s ≡ from = omega arith in q);
-  other = λ s h. refl;
-  long = refl;
-}
-
-module _ {from s : ℕ} {was now : List ℕ} (R : Repeated from s was now) where
-  pub repeated_more : {w : ℕ} → from < s → s < length now → w ≡ at was from → Repeated from (s + 1) was (set now s w)
-  repeated_more {w} f m e = record {
-    same = λ u a b.
-        ⊎_elim
-        (λ (q : u ≡ s). ap (at (set now s w)) q ∙ get_or-set_same now s w 0 m ∙ e)
-        (λ (d : u < s). get_or-set_other now s u w 0 (λ q. let z : ⊥ = omega arith in z) ∙ R.same u a d)
-        (below (let d : u < suc s = omega arith in d));
-    other = λ u h.
-        get_or-set_other now s u w 0 (λ q. ⊎_elim (λ (a : u < from). omega arith) (λ (a : s + 1 ≤ u). omega arith) h)
-        ∙ R.other u (⊎_elim (λ a. inl a) (λ (a : s + 1 ≤ u). inr (omega arith)) h);
-    long = length-set now s w ∙ R.long;
-  }
-
-  pub repeated_all : {to : ℕ} → s ≡ to → Repeated from to was now
-  repeated_all q = rw (← q) R
-
 -- ---- all stretches
 
 pub record Spreading (l : ℕ) (of begin : ℕ → ℕ) (was : List ℕ) (k s : ℕ) (now : List ℕ) : Type 0 where
@@ -100,9 +70,6 @@ pub record Spreading (l : ℕ) (of begin : ℕ → ℕ) (was : List ℕ) (k s : 
   pub left : (u : ℕ) → s ≤ u → at now u ≡ at was u
 
 module _ {l : ℕ} {of begin : ℕ → ℕ} {end after : List ℕ} (t : Tiles l of begin end after) where
-  pub spreading_start : (was : List ℕ) → Spreading l of begin was 0 0 was
-  spreading_start was = record { cursor = cursor_start t; done = λ u h. absurd (not-suc-le-zero h); left = λ u h. refl }
-
   pub spreading_more : {was now out : List ℕ} {k s next to : ℕ} → Spreading l of begin was k s now → s < l → next ≡ at after k
       → to ≡ at end k → Repeated s to now out → Spreading l of begin was next to out
   spreading_more {was} {k = k} {s = s} S h p q r = let R = rw q at r in rw (p, q) record {

@@ -13,7 +13,9 @@ use Rattle.rules.specs.Calls.{lent, c_answer, Ask, file_ask, limited_ask}
 use Rattle.rules.proofs.Answers.{None, none_left, passed, done, joined, answered, answers_only}
 use Rattle.outline.specs.Outlined.{outline_checks}
 use Rattle.outline.proofs.Outlined.{outline_list_only}
-use Rattle.table.specs.declared.Answer.{Answer}
+use Rattle.std.specs.Prelude.{Result}
+use Rattle.table.specs.Refusal as told
+use Rattle.table.specs.declared.refusals.Refusal.{Refusal}
 use Rattle.promises.specs.Demands.{Carries}
 use Rattle.planner.specs.Proper.{Proper}
 use Rattle.planner.proofs.Asks.{file_proper}
@@ -42,7 +44,7 @@ module _ (a : Ask) (N : Proper a) (was now : List ℕ) (r s : ℕ) (A : VerdictT
   n_zero : A.number ≡ 0
   n_zero = number_zero r A.number A.place A.as_one z
 
-  planned_by : (P.answer.number ≡ 0) × (P.answer.place ≡ 0) × ((ws : List ℕ) × Carries a.table ws × (now ≡ lent ws was))
+  planned_by : (told.number P.answer ≡ 0) × (told.place P.answer ≡ 0) × ((ws : List ℕ) × Carries a.table ws × (now ≡ lent ws was))
   planned_by =
       let place = place_zero r A.number A.place A.as_one z in
       carried a P.answer was now N P.planned (rw (n_zero, place) at A.answers) room
@@ -58,8 +60,8 @@ limited_to_c f was now then our their r s q A P Q z room =
     let a = limited_ask f our their in
     let w = planned_by a (limited_proper f our their) was now r s A P z room in
     let e = same_plan f our their P.answer Q.answer was now then P.planned Q.planned w.0 in
-    let number : Q.answer.number ≡ 0 = sym (ap (λ (b : Answer). b.number) e.0) ∙ w.0 in
-    let place : Q.answer.place ≡ 0 = sym (ap (λ (b : Answer). b.place) e.0) ∙ w.1 in
+    let number : told.number Q.answer ≡ 0 = sym (ap (λ (b : Result Unit Refusal). told.number b) e.0) ∙ w.0 in
+    let place : told.place Q.answer ≡ 0 = sym (ap (λ (b : Result Unit Refusal). told.place b) e.0) ∙ w.1 in
     (carried_by a (limited_proper f our their) was now r s A P z room, one_zero q _ _ Q.as_one number place, sym e.1)
 
 pub relayed_to_c : RelayedToC

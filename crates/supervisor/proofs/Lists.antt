@@ -17,6 +17,7 @@ use Rattle.rules.specs.Calls.{one_ring_ask, lent}
 use Rattle.rules.proofs.Answers.{None, Numbered, none_of, none_left, numbered_join}
 use Rattle.rules.proofs.Calls.{lent_take, call_must}
 use Rattle.decoding.proofs.OneRing.{one_rings}
+use Rattle.table.specs.Refusal.{number}
 use Rattle.verdict.proofs.Bound.{verdict_numbered, admissible_of}
 use Rattle.promises.specs.Demands.{Carries}
 use Rattle.promises.proofs.Demands.{plan_carries}
@@ -73,7 +74,7 @@ lent_long ws was = omega (arith, length-append ws (drop (length ws) was))
 pub element_of_plan : ElementOfPlan
 element_of_plan f plan plan' e was now s r m P z L there room =
     let t : Table = file_table f in
-    let n : P.answer.number ≡ 0 = omega (arith, P.as_one) in
+    let n : number P.answer ≡ 0 = omega (arith, P.as_one) in
     let none = plan_admits f (length plan) (none_of _ _ (plan_numbered f (length plan)) (rw n at P.planned.planned.answers)) in
     let A = admissible_of f none in
     let w = P.planned.planned.done n in

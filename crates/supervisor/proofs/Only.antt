@@ -7,10 +7,11 @@ use lib.ListN.{length}
 use Rattle.rules.specs.Refusals.{shared_checks, verdict_checks}
 use Rattle.rules.specs.Calls.{lent, c_answer, Ask}
 use Rattle.rules.proofs.Answers.{None, answered, answers_only}
-use Rattle.table.specs.declared.Answer.{Answer}
+use Rattle.std.specs.Prelude.{Result, Ok}
+use Rattle.table.specs.Refusal.{number, place}
+use Rattle.table.specs.declared.refusals.Refusal.{Refusal}
 use Rattle.outline.proofs.Listed.{file_listed_only}
-use Rattle.verdict.specs.declared.Verdict.{Verdict}
-use Rattle.verdict.specs.declared.Verdict.TheVariants.{Admitted}
+use Rattle.verdict.specs.declared.Admitted.{Admitted}
 use Rattle.verdict.specs.Verdict.{cut_of, other_of, interval_of, hyper_of, load_of, sets_of, IsVerdict}
 use Rattle.verdict.proofs.Judging.{judged_only}
 use Rattle.planner.proofs.Only.{plan_only}
@@ -24,8 +25,8 @@ verdict_to_c_only a r s A B =
     A.as_one ∙ ap₂ c_answer e.0 e.1 ∙ sym B.as_one
 
 -- values as the verdict that gives them
-abbrev verdict_of : {f was now : List ℕ} → Valued f was now → Verdict
-verdict_of d = Admitted d.cut d.other d.interval d.hyper d.load d.sets
+abbrev verdict_of : {f was now : List ℕ} → Valued f was now → Result Admitted Refusal
+verdict_of d = Ok (record { cut = d.cut; other = d.other; interval = d.interval; hyper = d.hyper; load = d.load; sets = d.sets })
 
 pub values_to_c_only : (f was now then : List ℕ) (r s : ℕ) → ValuesToC f was now r → ValuesToC f was then s → (r ≡ s) × (now ≡ then)
 values_to_c_only f was now then r s A B =
@@ -49,7 +50,7 @@ values_to_c_only f was now then r s A B =
         let b = B.called.done (sym same.0 ∙ z) in
         let e = judged_only f (verdict_of a) (verdict_of b) (is_verdict none a) (is_verdict none b) in
         a.written
-        ∙ ap (λ (v : Verdict). lent (values (cut_of v) (other_of v) (interval_of v) (hyper_of v) (load_of v) (sets_of v)) was) e
+        ∙ ap (λ (v : Result Admitted Refusal). lent (values (cut_of v) (other_of v) (interval_of v) (hyper_of v) (load_of v) (sets_of v)) was) e
         ∙ sym b.written
     go (no z) = A.called.refused z ∙ sym (B.called.refused (λ e. z (same.0 ∙ e)))
 
@@ -73,7 +74,7 @@ sets_to_c_only f was now then r s A B =
 pub plan_to_c_only : (a : Ask) (was now then : List ℕ) (r s : ℕ) → PlanToC a was now r → PlanToC a was then s → (r ≡ s) × (now ≡ then)
 plan_to_c_only a was now then r s A B =
     let e = plan_only a A.answer B.answer was now then A.planned B.planned in
-    (A.as_one ∙ ap (λ (a : Answer). c_answer a.number a.place) e.0 ∙ sym B.as_one, e.1)
+    (A.as_one ∙ ap (λ (a : Result Unit Refusal). c_answer (number a) (place a)) e.0 ∙ sym B.as_one, e.1)
 
 pub raise_to_c_only : (f was now then : List ℕ) (r s : ℕ) → RaiseToC f was now r → RaiseToC f was then s → (r ≡ s) × (now ≡ then)
 raise_to_c_only f was now then r s A B =

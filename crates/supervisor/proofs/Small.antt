@@ -13,6 +13,7 @@ use Rattle.rules.specs.Refusals.{Answers, last_number, short_file, wrong_mark, s
 use Rattle.rules.specs.Raising.{raise_checks}
 use Rattle.rules.proofs.Answers.{Fit, stopped, answered, none_of, answers_only, answers_split, answers_fit}
 use Rattle.rules.proofs.Small.{last_place, verdict_small}
+use Rattle.supervisor.specs.ToC.{value_count, values_checks}
 use Rattle.outline.specs.Outlined.{outline_checks}
 use Rattle.outline.proofs.Outlined.{outline_numbered}
 
@@ -45,3 +46,12 @@ module _ (f : List ℕ) where
       ⊎_elim (λ a. answers_fit last_number last_place front n p (lit≤ tt, lit≤ tt, (lit≤ tt, lit≤ tt, tt)) a)
       (λ a. room_small (room < length f) n p a.1)
       (answers_split front (outline_checks f ++ (short_output (room < length f) ∷ [])) n p r)
+
+  -- so has 17 after the verdict's
+  pub values_small : (room n p : ℕ) → Answers (values_checks f room) n p → (n ≤ last_number) × (p ≤ last_place)
+  unfolding values_checks Fit
+  values_small room n p r =
+      let own = short_output (room < value_count) ∷ [] in
+      ⊎_elim (λ a. verdict_small f n p a)
+      (λ a. answers_fit last_number last_place own n p (lit≤ tt, lit≤ tt, tt) a.1)
+      (answers_split (verdict_checks f) own n p r)

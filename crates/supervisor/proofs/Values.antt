@@ -8,12 +8,13 @@ use lib.ListN.{length, set}
 use Rattle.rules.specs.Refusals.{Check, Answers, short_output, verdict_checks}
 use Rattle.rules.specs.Calls.{Call, lent}
 use Rattle.rules.proofs.Answers.{None, Numbered, applied, passed, done, stopped, joined, none_of, none_left, numbered_join}
-use Rattle.table.specs.declared.Answer.{Answer}
-use Rattle.verdict.specs.declared.Verdict.{Verdict}
-use Rattle.verdict.specs.declared.Verdict.TheVariants.{Admitted, Refused}
-use Rattle.verdict.specs.Verdict.{number_of, place_of, IsVerdict}
+use Rattle.std.specs.Prelude.{Result, Ok, Err}
+use Rattle.table.specs.Refusal.{number, place}
+use Rattle.table.specs.declared.refusals.Refusal.{Refusal}
+use Rattle.table.proofs.Reasons.{not_done}
+use Rattle.verdict.specs.declared.Admitted.{Admitted}
+use Rattle.verdict.specs.Verdict.{IsVerdict}
 use Rattle.verdict.proofs.Bound.{verdict_numbered}
-use Rattle.verdict.proofs.Judging.{refused_number}
 use Rattle.supervisor.specs.ToC.{values, value_count, values_checks, Valued}
 
 -- ---- six elements, put one after the other
@@ -44,20 +45,19 @@ module _ (f : List ℕ) where
       (numbered_join (verdict_checks f) (no_room room ∷ []) (verdict_numbered f) (omega arith)) a)
 
   module _ (was : List ℕ) where
-    pub values_refused : (v : Verdict) (r : Answer) → IsVerdict f v → v ≡ Refused r
-        → Call (values_checks f (length was)) (number_of v) (place_of v) (Valued f was was) (was ≡ was)
+    pub values_refused : {v : Result Admitted Refusal} → IsVerdict f v → (r : Refusal) → v ≡ Err r
+        → Call (values_checks f (length was)) (number v) (place v) (Valued f was was) (was ≡ was)
     unfolding values_checks
-    values_refused v r X e =
-        let h : number_of v ≢ 0 = rw e (refused_number r (rw e at X)) in
+    values_refused {v} X r e =
+        let h : number v ≢ 0 = rw e (not_done r.reason) in
         record {
-          answers = stopped (verdict_checks f) (no_room (length was) ∷ []) (number_of v) (place_of v) h X.answers;
+          answers = stopped (verdict_checks f) (no_room (length was) ∷ []) (number v) (place v) h X.answers;
           done = λ z. absurd (h z);
           refused = λ z. refl;
         }
 
-    module _ (v : Verdict) (cut other interval hyper load sets : ℕ) (Y : IsVerdict f v)
-        (q : v ≡ Admitted cut other interval hyper load sets) where
-      X : IsVerdict f (Admitted cut other interval hyper load sets)
+    module _ {v : Result Admitted Refusal} (a : Admitted) (Y : IsVerdict f v) (q : v ≡ Ok a) where
+      X : IsVerdict f (Ok a)
       X = subst (IsVerdict f) q Y
 
       none : None (verdict_checks f)
@@ -71,7 +71,7 @@ module _ (f : List ℕ) where
         refused = λ e. refl;
       }
 
-      pub values_done : (now : List ℕ) → value_count ≤ length was → now ≡ lent (values cut other interval hyper load sets) was
+      pub values_done : (now : List ℕ) → value_count ≤ length was → now ≡ lent (values a.cut a.other a.interval a.hyper a.load a.sets) was
           → Call (values_checks f (length was)) 0 0 (Valued f was now) (now ≡ was)
       unfolding values_checks
       values_done now l e = record {
@@ -79,12 +79,12 @@ module _ (f : List ℕ) where
             joined (verdict_checks f) (no_room (length was) ∷ []) 0 0 none
             (passed (no_room (length was)) [] 0 0 (λ (k : length was < value_count). omega arith) done);
         done = λ z. record {
-          cut = cut;
-          other = other;
-          interval = interval;
-          hyper = hyper;
-          load = load;
-          sets = sets;
+          cut = a.cut;
+          other = a.other;
+          interval = a.interval;
+          hyper = a.hyper;
+          load = a.load;
+          sets = a.sets;
           admitted = X.done refl;
           written = e;
         };

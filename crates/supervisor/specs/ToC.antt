@@ -13,14 +13,15 @@
 --   ListToC f ws e was now r  r answers for the list of element e's moves in the plan ws: how many bytes it has, or a refusal
 --
 -- Verdict and whole plan have forms with limits (#108) and with a relay (#113), so they are said of an ask.
-use Rattle.std.specs.Prelude.{◌≡◌, ◌≢◌, List, [], ◌∷◌, ◌++◌, ℕ, ◌+◌, ◌*◌, ◌<◌, length}
+use Rattle.std.specs.Prelude.{◌≡◌, ◌≢◌, List, [], ◌∷◌, ◌++◌, ℕ, ◌+◌, ◌*◌, ◌<◌, length, Result}
 use Rattle.rules.specs.TableFile.{file_table}
 use Rattle.rules.specs.Bus.{shared}
 use Rattle.rules.specs.Refusals.{Check, Answers, short_output, shared_checks, verdict_checks}
 use Rattle.rules.specs.ElementList.{list_header, entry_size, list_bytes}
 use Rattle.rules.specs.Calls.{Call, lent, Ask, Admitted, Listed, ListMade, line_ask, one_ring_ask, c_answer}
 use Rattle.rules.specs.Raising.{Raised}
-use Rattle.table.specs.declared.Answer.{Answer}
+use Rattle.table.specs.Refusal.{number, place}
+use Rattle.table.specs.declared.refusals.Refusal.{Refusal}
 use Rattle.planner.specs.Answers.{PlanAnswer}
 
 pub record VerdictToC (a : Ask) (r : ℕ) : Type 0 where
@@ -76,9 +77,9 @@ pub record SetsToC (f was now : List ℕ) (r : ℕ) : Type 0 where
   pub as_one : r ≡ c_answer number place
 
 pub record PlanToC (a : Ask) (was now : List ℕ) (r : ℕ) : Type 0 where
-  pub answer : Answer
+  pub answer : Result Unit Refusal
   pub planned : PlanAnswer a answer was now
-  pub as_one : r ≡ c_answer answer.number answer.place
+  pub as_one : r ≡ c_answer (number answer) (place answer)
 
 -- ---- raising light rows (#111)
 

@@ -1,3 +1,4 @@
 pub mod Faults
 pub mod ByRow
 pub mod RowSizes
+pub mod Reasons

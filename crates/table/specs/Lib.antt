@@ -1,3 +1,4 @@
 pub mod Sound
 pub mod Rows
 pub mod Columns
+pub mod Refusal

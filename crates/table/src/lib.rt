@@ -4,6 +4,7 @@
 mod checks;
 mod columns;
 mod marks;
+mod refusals;
 mod versions;
 
 ghost use Rattle.std.specs.Prelude.{◌≡◌, ◌+◌, ◌*◌, ◌<◌, ◌≤◌, length};
@@ -15,6 +16,7 @@ ghost use Rattle.table.specs.Rows.{IsHead};
 pub use checks::{row_fault, size_fault};
 pub use columns::{Columns, end_at, no_columns, row_at, slots_at, way_at};
 pub use marks::{begins, is_no_mark, is_plain, is_strange, mark_byte, put_start, rings_of};
+pub use refusals::{Reason, Refusal, number, place};
 pub use versions::{is_unknown, label_in, last_of, row_bytes, row_place, version_of, way_in};
 
 // A table: how many elements the ring has, and how many rows.
@@ -121,101 +123,6 @@ pub struct Row {
     pub second: u16,
     pub way: usize,
     pub label: u16,
-}
-
-// What a call answers: a refusal number and its place, or twice 0.
-#[derive(Clone, Copy)]
-pub struct Answer {
-    pub number: u32,
-    pub place: u32,
-}
-
-impl Answer {
-    pub const DONE: u32 = 0;
-
-    pub const SHORT_FILE: u32 = 1;
-
-    pub const WRONG_MARK: u32 = 2;
-
-    pub const WRONG_VERSION: u32 = 3;
-
-    pub const WRONG_ELEMENTS: u32 = 4;
-
-    pub const WRONG_ROWS: u32 = 5;
-
-    pub const WRONG_LENGTH: u32 = 6;
-
-    pub const WRONG_ENDS: u32 = 7;
-
-    pub const WRONG_PERIOD: u32 = 8;
-
-    pub const WRONG_COST: u32 = 9;
-
-    pub const NO_CUT: u32 = 10;
-
-    pub const LONG_HYPERPERIOD: u32 = 11;
-
-    // 12 is retired: two overlap sets can't tie
-
-    pub const LIGHT_ROW: u32 = 13;
-
-    pub const OVER_BOUND: u32 = 14;
-
-    pub const OFF_STATE: u32 = 15;
-
-    pub const HAS_FINISHED: u32 = 16;
-
-    pub const SHORT_OUTPUT: u32 = 17;
-
-    pub const PASTED_ROW: u32 = 18;
-
-    pub const BAD_WORD: u32 = 19;
-
-    pub const LOST_LABEL: u32 = 20;
-
-    pub const OUR_LIMIT: u32 = 21;
-
-    pub const THEIR_LIMIT: u32 = 22;
-
-    pub const WRONG_LIMIT: u32 = 23;
-
-    pub const NO_FREE_PLACE: u32 = 24;
-
-    pub const NO_ROW_THERE: u32 = 25;
-
-    pub const WRONG_WAY: u32 = 26;
-
-    pub const WRONG_RELAY: u32 = 27;
-
-    pub const MANY_ROWS: u32 = 28;
-
-    pub const WRONG_ELEMENT: u32 = 29;
-
-    pub const WRONG_LIST: u32 = 30;
-
-    pub const WRONG_ENTRY: u32 = 31;
-
-    pub const NO_ROW: u32 = 32;
-
-    pub fn done() -> Answer
-        ensures { (result.number ≡ 0) × (result.place ≡ 0) }
-    {
-        Answer {
-            number: Answer::DONE,
-            place: 0,
-        }
-    }
-
-    // A refusal for row or set `place`, or for no place, 0.
-    pub fn at(number: u32, place: usize) -> Answer
-        requires { place < max_slots }
-        ensures { (result.number ≡ number) × (result.place ≡ place) }
-    {
-        Answer {
-            number: number,
-            place: place as u32,
-        }
-    }
 }
 
 pub(crate) fn wide(x: u8) -> u16

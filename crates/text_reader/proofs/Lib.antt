@@ -1,3 +1,4 @@
+pub mod Wrongs
 pub mod Lines
 pub mod RowByRow
 pub mod Texts

@@ -174,11 +174,9 @@ module _ {l : Part} {from : ℕ} {r : Span} (n : IsNext l from r) where
       (λ e. ap (λ (qs : List Part). get_or qs 0 (past l)) (n.none e).0 ∙ sym (empty_span e))
       either
 
-pub walked_on : {l : Part} {k : ℕ} {r s : Span} (left : ℕ) → Walked l k left r → 0 < left → IsNext l r.end s → Walked l k (left - 1) s
-walked_on zero w g n = absurd (let z : ⊥ = omega arith in z)
-walked_on {l = l} {r = r} (suc m) w g n =
-    let e : m ≡ suc m - 1 = omega arith in
-    record { from = r.end; next = n; is = w.is ∙ one_on w.next m ∙ ap (λ (j : ℕ). get_or (fields_at l r.end) j (past l)) e }
+pub walked_on : {l : Part} {k left : ℕ} {r s : Span} (m : ℕ) → Walked l k left r → left ≡ suc m → IsNext l r.end s → Walked l k m s
+walked_on {l} {k} {left} {r} m w e n =
+    record { from = r.end; next = n; is = w.is ∙ ap (λ (j : ℕ). get_or (fields_at l w.from) j (past l)) e ∙ one_on w.next m }
 
 pub walked_there : {l : Part} {k left : ℕ} {r : Span} → Walked l k left r → left ≡ 0 → IsField l k r
 walked_there {l} {k} {left} {r} w e = record {

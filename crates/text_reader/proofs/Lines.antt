@@ -25,7 +25,10 @@ use Rattle.grammar.specs.TableText.{Part, field, last, number, placed, no_headin
 use Rattle.grammar.specs.TableText.{row_table, needed}
 use Rattle.grammar.specs.TableText.{heading_checks, form_checks, value_checks, text_row_checks}
 use Rattle.text_reader.specs.declared.fields.Span.{Span}
-use Rattle.text_reader.specs.declared.fields.Cell.{Cell}
+use Rattle.std.specs.Prelude.{Result, Ok, Err}
+use Rattle.text_reader.specs.Faults.{number_of}
+use Rattle.text_reader.specs.declared.faults.Fault.{Fault}
+use Rattle.text_reader.proofs.Wrongs.{not_done}
 use Rattle.text_reader.specs.Walk.{spanned, IsField, IsCell}
 use Rattle.text_reader.specs.Reading.{IsRowOf, in_ring, blame}
 
@@ -34,7 +37,7 @@ use Rattle.text_reader.specs.Reading.{IsRowOf, in_ring, blame}
 pub field_start : {l : Part} {k : ℕ} {r : Span} → IsField l k r → l.start + r.start ≡ (field l k).start
 field_start f = sym (ap (λ (q : Part). q.start) f.is)
 
-pub field_cell : {l : Part} {k : ℕ} {r : Span} {c : Cell} → IsField l k r → IsCell (spanned l r) c → IsCell (field l k) c
+pub field_cell : {l : Part} {k : ℕ} {r : Span} {c : Result ℕ Fault} → IsField l k r → IsCell (spanned l r) c → IsCell (field l k) c
 field_cell {c = c} f h = subst (λ (q : Part). IsCell q c) (sym f.is) h
 
 -- the first byte of the first field
@@ -132,23 +135,23 @@ pub celled_start : (l : Part) (xs : List ℕ) → length xs ≡ 4 → Celled l 0
 unfolding each None
 celled_start l xs e = record { few = omega arith; size = e; none = tt; value = λ j m. absurd (let z : ⊥ = omega arith in z) }
 
-module _ {l : Part} {k : ℕ} {xs : List ℕ} {c : Cell} (C : Celled l k xs) (room : k < 4) (h : IsCell (field l k) c) where
-  pub celled_next : c.number ≡ 0 → Celled l (k + 1) (set xs k c.value)
-  celled_next e = record {
+module _ {l : Part} {k : ℕ} {xs : List ℕ} (C : Celled l k xs) (room : k < 4) where
+  pub celled_next : (v : ℕ) → IsCell (field l k) (Ok v) → Celled l (k + 1) (set xs k v)
+  celled_next v h = record {
     few = omega arith;
-    size = length-set xs k c.value ∙ C.size;
+    size = length-set xs k v ∙ C.size;
     none =
         none_next (λ j. number_checks (field l j)) k C.none
-        (none_of (number_checks (field l k)) c.place (numbers_numbered (field l k)) (rw e at h.answers));
+        (none_of (number_checks (field l k)) 0 (numbers_numbered (field l k)) h.answers);
     value = λ j m.
         ⊎_elim
-        (λ (q : j ≡ k). rw q (get_or-set_same xs k c.value 0 (omega (arith, C.size)) ∙ h.value e))
-        (λ (g : j < k). get_or-set_other xs k j c.value 0 (λ z. let w : ⊥ = omega (arith, z, g) in w) ∙ C.value j g)
+        (λ (q : j ≡ k). rw q (get_or-set_same xs k v 0 (omega (arith, C.size)) ∙ h.value))
+        (λ (g : j < k). get_or-set_other xs k j v 0 (λ z. let w : ⊥ = omega (arith, z, g) in w) ∙ C.value j g)
         (below (let g : j < suc k = omega arith in g));
   }
 
-  pub celled_stop : c.number ≢ 0 → Answers (each 4 (λ j. number_checks (field l j))) c.number c.place
-  celled_stop e = stopped_at (λ j. number_checks (field l j)) 4 k c.number c.place room e C.none h.answers
+  pub celled_stop : (f : Fault) → IsCell (field l k) (Err f) → Answers (each 4 (λ j. number_checks (field l j))) (number_of f.wrong) f.place
+  celled_stop f h = stopped_at (λ j. number_checks (field l j)) 4 k (number_of f.wrong) f.place room (not_done f.wrong) C.none h.answers
 
 pub celled_all : {l : Part} {k : ℕ} {xs : List ℕ} → Celled l k xs → 4 ≤ k
     → None (each 4 (λ j. number_checks (field l j))) × ((j : ℕ) → j < 4 → at xs j ≡ number (field l j))

@@ -14,7 +14,8 @@ use Rattle.rules.proofs.Answers.{applied, passed, done}
 use Rattle.decimal.specs.Plain.{value_from, value, IsDigit, Digits}
 use Rattle.decimal.proofs.Decimal.{value_join}
 use Rattle.grammar.specs.TableText.{Part, part, max_number, no_number, large_number}
-use Rattle.text_reader.specs.declared.fields.Cell.{Cell}
+use Rattle.std.specs.Prelude.{Ok, Err}
+use Rattle.text_reader.specs.declared.faults.Wrong.TheVariants.{NoNumber, LargeNumber}
 use Rattle.text_reader.specs.Walk.{IsCell}
 
 pub digits_at : (ds : List ℕ) (i : ℕ) → Digits ds → i < length ds → IsDigit (at ds i)
@@ -54,10 +55,10 @@ module _ (k : ℕ) {ds : List ℕ} {i x : ℕ} (s : Summed ds i x) where
   abbrev q : Part
   q = part k ds
 
-  pub cell_word : (r : Cell) → i < length ds → (IsDigit (at ds i) → ⊥) → r.number ≡ 34 → r.place ≡ k → IsCell q r
-  cell_word r l h a b = record {
-    answers = applied (no_number q) (large_number q ∷ []) r.number r.place (λ d. h (digits_at ds i d l)) a b;
-    value = λ z. absurd (let w : ⊥ = omega (arith, a, z) in w);
+  pub cell_word : i < length ds → (IsDigit (at ds i) → ⊥) → IsCell q (Err (record { wrong = NoNumber; place = k }))
+  cell_word l h = record {
+    answers = applied (no_number q) (large_number q ∷ []) 34 k (λ d. h (digits_at ds i d l)) refl refl;
+    value = tt;
   }
 
   module _ (all : length ds ≤ i) where
@@ -70,18 +71,18 @@ module _ (k : ℕ) {ds : List ℕ} {i x : ℕ} (s : Summed ds i x) where
     sum : x ≡ min (value ds) (max_number + 1)
     sum = s.sum ∙ ap (λ (es : List ℕ). min (value es) (max_number + 1)) whole
 
-    pub cell_large : (r : Cell) → max_number < x → r.number ≡ 35 → r.place ≡ k → IsCell q r
-    cell_large r l a b = record {
+    pub cell_large : max_number < x → IsCell q (Err (record { wrong = LargeNumber; place = k }))
+    cell_large l = record {
       answers =
-          passed (no_number q) (large_number q ∷ []) r.number r.place passes
-          (applied (large_number q) [] r.number r.place (omega (arith, sum, l)) a b);
-      value = λ z. absurd (let w : ⊥ = omega (arith, a, z) in w);
+          passed (no_number q) (large_number q ∷ []) 35 k passes
+          (applied (large_number q) [] 35 k (omega (arith, sum, l)) refl refl);
+      value = tt;
     }
 
-    pub cell_value : x ≤ max_number → IsCell q (record { number = 0; place = 0; value = x })
+    pub cell_value : x ≤ max_number → IsCell q (Ok x)
     cell_value l = record {
       answers =
           passed (no_number q) (large_number q ∷ []) 0 0 passes
           (passed (large_number q) [] 0 0 (λ (g : max_number < value ds). let w : ⊥ = omega (arith, sum, l) in w) done);
-      value = λ z. omega (arith, sum, l);
+      value = omega (arith, sum, l);
     }

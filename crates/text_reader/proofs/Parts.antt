@@ -2,16 +2,20 @@
 --
 --   after p k bs         the parts past the marked byte at the front of bs, which starts at place k; none past the end
 use mathlib.Core.Path.{◌≡◌, refl, ap, ◌∙◌}
-use mathlib.Core.Bool.{Bool, true, false}
+use mathlib.Core.Bool.{Bool, true, false, cond}
 use mathlib.Core.List.{List, [], ◌∷◌}
-use Prim.Native.Nat.{ℕ, suc, ◌+◌, ◌≤◌, ◌<◌}
+use Prim.Native.Nat.{ℕ, suc, ◌+◌, ◌≤◌}
 use native.Mathlib.Nat.{add-zero}
 use native.Mathlib.Omega.{arith}
-use lib.ListN.{length, take, drop, length-drop, drop_of_length-le}
+use lib.ListN.{length, take, drop, length-drop}
+use lib.Dec.{ltb}
+use borrow.Author.Tests.{ltb-false}
+use Rattle.std.specs.List.{position_or_len}
+use Rattle.std.proofs.Common.{Option, Some, None, unwrap_or}
+use Rattle.std.proofs.lemmas.List.Recursion.{is_position_or_len}
 use Rattle.numbers.specs.Finite.{lowest}
 use Rattle.numbers.specs.Lists.{at}
 use Rattle.numbers.proofs.Finite.{lowest_le}
-use Rattle.numbers.proofs.Lists.{drop_next}
 use Rattle.grammar.specs.TableText.{Part, part, before, parts, until}
 
 -- ---- how far it is to the first marked byte
@@ -46,35 +50,32 @@ module _ (p : ℕ → Bool) where
     pub within : i ≤ length bs → i + until p (drop i bs) ≤ length bs
     within l = omega (arith, until_le (drop i bs), length-drop i bs)
 
--- ---- a loop from place k on to the first marked byte
+-- ---- the first marked byte, as the library's search finds it
 
--- it is at place i, and has passed none
-pub record Going (p : ℕ → Bool) (bs : List ℕ) (k i : ℕ) : Type 0 where
-  pub inside : i ≤ length bs
-  pub same : k + until p (drop k bs) ≡ i + until p (drop i bs)
+module _ (p : ℕ → Bool) where
+  first_cons : (b : ℕ) (bs : List ℕ) → until p (b ∷ bs) ≡ cond (p b) 0 (1 + until p bs)
+  unfolding lowest
+  first_cons b bs = let e : suc (until p bs) ≡ 1 + until p bs = omega arith in ap (cond (p b) 0) e
 
-module _ {p : ℕ → Bool} {bs : List ℕ} {k : ℕ} where
-  pub going_start : k ≤ length bs → Going p bs k k
-  going_start l = record { inside = l; same = refl }
+  first_found : (bs : List ℕ) → until p bs ≡ position_or_len p bs
+  first_found = is_position_or_len (until p) p (until_end p) first_cons
 
-  module _ {i : ℕ} (G : Going p bs k i) where
-    pub going_on : i < length bs → p (at bs i) ≡ false → Going p bs k (i + 1)
-    going_on l e = record { inside = omega arith; same = G.same ∙ omega (arith, past) }
-      where
-        past : until p (drop i bs) ≡ suc (until p (drop (i + 1) bs))
-        past = rw (drop_next bs i l) (until_past p (at bs i) (drop (i + 1) bs) e)
-
-    pub going_stops : i < length bs → p (at bs i) ≡ true → i ≡ k + until p (drop k bs)
-    going_stops l e = omega (arith, G.same, here)
-      where
-        here : until p (drop i bs) ≡ 0
-        here = rw (drop_next bs i l) (until_here p (at bs i) (drop (i + 1) bs) e)
-
-    pub going_ends : length bs ≤ i → i ≡ k + until p (drop k bs)
-    going_ends l = omega (arith, G.same, out)
-      where
-        out : until p (drop i bs) ≡ 0
-        out = rw (drop_of_length-le bs l) (until_end p)
+  pub first_place : (bs : List ℕ) (r : Option ℕ) (i : ℕ)
+      → r ≡ cond (ltb (position_or_len p bs) (length bs)) (Some (position_or_len p bs)) None → i ≡ unwrap_or r (length bs)
+      → (i ≡ until p bs) × (i ≤ length bs)
+  first_place bs r i e f = go (ltb (position_or_len p bs) (length bs)) refl
+    where
+      go : (x : Bool) → ltb (position_or_len p bs) (length bs) ≡ x → (i ≡ until p bs) × (i ≤ length bs)
+      go true h =
+          let n : ℕ = position_or_len p bs in
+          let g : r ≡ Some n = e ∙ rw h in
+          let k : i ≡ n = f ∙ ap (λ (o : Option ℕ). unwrap_or o (length bs)) g in
+          (omega (arith, k, first_found bs), omega (arith, k, first_found bs, until_le p bs))
+      go false h =
+          let n : ℕ = position_or_len p bs in
+          let g : r ≡ None = e ∙ rw h in
+          let k : i ≡ length bs = f ∙ ap (λ (o : Option ℕ). unwrap_or o (length bs)) g in
+          (omega (arith, k, first_found bs, until_le p bs, ltb-false n (length bs) h), omega (arith, k))
 
 -- ---- the first part, and those after it
 

@@ -29,7 +29,11 @@ use Rattle.round_trip.proofs.RoundTrip.{last_told}
 use Rattle.grammar.specs.TableText.{Part, part, some, lines, last, row, number, text_rings, text_table, text_labelled, text_row_checks}
 use Rattle.text_reader.specs.declared.fields.Line.{Line}
 use Rattle.text_reader.specs.Walk.{lines_at, line_of, IsNextLine}
-use Rattle.text_reader.specs.declared.Form.{Form}
+use Rattle.std.specs.Prelude.{Ok, Err}
+use Rattle.table.specs.declared.Row.{Row}
+use Rattle.text_reader.specs.Faults.{number_of}
+use Rattle.text_reader.specs.declared.faults.Fault.{Fault}
+use Rattle.text_reader.proofs.Wrongs.{not_done}
 use Rattle.text_reader.specs.Reading.{IsRowOf, IsRowAt, Rest, AreRows}
 use Rattle.text_reader.proofs.Lines.{row_numbered}
 
@@ -91,44 +95,45 @@ module _ {t was now : List ℕ} {i : ℕ} {labelled : Bool} {r : Line} (R : Read
     pub is_one : i < (text_table t).rows
     is_one = omega (arith, more)
 
-    module _ {f : Form} (h : IsRowAt (text_rings t) (text_table t).elements (line_of t r) i f) where
-      here : Answers (checks_of_row t i) f.number f.place
-      here =
-          subst (λ (l : Part). Answers (text_row_checks (text_rings t) (text_table t).elements l i) f.number f.place) (sym this_row)
-          h.answers
+    here : (n p : ℕ) → Answers (text_row_checks (text_rings t) (text_table t).elements (line_of t r) i) n p
+        → Answers (checks_of_row t i) n p
+    here n p a =
+        subst (λ (l : Part). Answers (text_row_checks (text_rings t) (text_table t).elements l i) n p) (sym this_row) a
 
-      pub reading_stop : f.number ≢ 0 → Answers (each (text_table t).rows (checks_of_row t)) f.number f.place
-      reading_stop e = stopped_at (checks_of_row t) (text_table t).rows i f.number f.place is_one e R.none here
+    pub reading_stop : (f : Fault) → IsRowAt (text_rings t) (text_table t).elements (line_of t r) i (Err f)
+        → Answers (each (text_table t).rows (checks_of_row t)) (number_of f.wrong) f.place
+    reading_stop f h =
+        stopped_at (checks_of_row t) (text_table t).rows i (number_of f.wrong) f.place is_one (not_done f.wrong) R.none (here _ _ h.answers)
 
-      module _ (e : f.number ≡ 0) where
-        -- its five numbers are those of the table's row
-        in_memory_lem : in_memory 1 f.row ≡ memory_row (text_labelled t) i
-        unfolding last_of
-        in_memory_lem =
-            let q : IsRowOf (row t i) f.row = subst (λ (l : Part). IsRowOf l f.row) (sym this_row) (h.row e) in
-            rw (q.cost, q.period, q.first, q.second, q.label, last_told (text_rings t) (number (last (row t i))))
+    module _ {x : Row} (h : IsRowAt (text_rings t) (text_table t).elements (line_of t r) i (Ok x)) where
+      -- its five numbers are those of the table's row
+      in_memory_lem : in_memory 1 x ≡ memory_row (text_labelled t) i
+      unfolding last_of
+      in_memory_lem =
+          let q : IsRowOf (row t i) x = subst (λ (l : Part). IsRowOf l x) (sym this_row) h.row in
+          rw (q.cost, q.period, q.first, q.second, q.label, last_told (text_rings t) (number (last (row t i))))
 
-        pub reading_next : (now' : List ℕ) (b labelled' : Bool) (s : Line) → row_numbers * max_rows ≤ length was
-            → now' ≡ sets now (row_numbers * i) (in_memory 1 f.row) → Decides ((last (line_of t r)).bytes ≢ []) b
-            → labelled' ≡ (labelled || b)
-            → IsNextLine t r.next s → Reading t was now' (i + 1) labelled' s
-        reading_next now' b labelled' s room o d q n =
-            let few : i < max_rows = h.few e in
-            let l : suc i + 1 ≡ suc (i + 1) = omega arith in
-            let one : b ≡ has_last t i = tested b _ d ∙ ap (λ (l : Part). some (last l).bytes) (sym this_row) in
-            record {
-              from = r.next;
-              next = n;
-              left =
-                  ap (λ (k : ℕ). drop k (lines t)) (sym l) ∙ sym (drop-drop 1 (suc i) (lines t)) ∙ ap (drop 1) rest;
-              there = omega (arith, more);
-              few = omega arith;
-              none =
-                  none_next (checks_of_row t) i R.none
-                  (none_of (checks_of_row t i) f.place (row_numbered (text_rings t) (text_table t).elements (row t i) i) (rw e at here));
-              filled = filled_row [] _ _ _ R.filled o in_memory_lem (omega arith) (omega (arith, room));
-              labels = q ∙ ap₂ ◌||◌ R.labels one ∙ sym (any_next i (has_last t));
-            }
+      pub reading_next : (now' : List ℕ) (b labelled' : Bool) (s : Line) → row_numbers * max_rows ≤ length was
+          → now' ≡ sets now (row_numbers * i) (in_memory 1 x) → Decides ((last (line_of t r)).bytes ≢ []) b
+          → labelled' ≡ (labelled || b)
+          → IsNextLine t r.next s → Reading t was now' (i + 1) labelled' s
+      reading_next now' b labelled' s room o d q n =
+          let few : i < max_rows = h.few in
+          let l : suc i + 1 ≡ suc (i + 1) = omega arith in
+          let one : b ≡ has_last t i = tested b _ d ∙ ap (λ (l : Part). some (last l).bytes) (sym this_row) in
+          record {
+            from = r.next;
+            next = n;
+            left =
+                ap (λ (k : ℕ). drop k (lines t)) (sym l) ∙ sym (drop-drop 1 (suc i) (lines t)) ∙ ap (drop 1) rest;
+            there = omega (arith, more);
+            few = omega arith;
+            none =
+                none_next (checks_of_row t) i R.none
+                (none_of (checks_of_row t i) 0 (row_numbered (text_rings t) (text_table t).elements (row t i) i) (here _ _ h.answers));
+            filled = filled_row [] _ _ _ R.filled o in_memory_lem (omega arith) (omega (arith, room));
+            labels = q ∙ ap₂ ◌||◌ R.labels one ∙ sym (any_next i (has_last t));
+          }
 
   -- ---- no more lines
 
@@ -138,26 +143,25 @@ module _ {t was now : List ℕ} {i : ℕ} {labelled : Bool} {r : Line} (R : Read
         let nil : drop (suc i) (lines t) ≡ [] = R.left ∙ (R.next.none (omega (arith, R.next.ordered))).0 in
         omega (arith, ap length nil, length-drop (suc i) (lines t), R.there)
 
-    pub reading_end : AreRows t was now (record { number = 0; place = 0; rows = i; labelled = labelled })
+    pub reading_end : AreRows t was now (Ok (record { rows = i; labelled = labelled }))
     unfolding numbers
     reading_end = record {
       answers = answered (each (text_table t).rows (checks_of_row t)) (rw all at R.none);
-      rows = λ z. all;
-      few = λ z. R.few;
-      labelled = λ z. R.labels ∙ ap (λ (n : ℕ). any n (has_last t)) all;
-      holds = λ z. rw all at (filled_lent R.filled);
+      rows = all;
+      few = R.few;
+      labelled = R.labels ∙ ap (λ (n : ℕ). any n (has_last t)) all;
+      holds = rw all at (filled_lent R.filled);
       same = R.filled.same;
     }
 
 -- a refusal has nothing to say of rows
-pub reading_refused : (t was now : List ℕ) (n p : ℕ) → n ≢ 0
-    → Answers (each (text_table t).rows (checks_of_row t)) n p → length now ≡ length was
-    → AreRows t was now (record { number = n; place = p; rows = 0; labelled = false })
-reading_refused t was now n p h a e = record {
+pub reading_refused : (t was now : List ℕ) (f : Fault) → Answers (each (text_table t).rows (checks_of_row t)) (number_of f.wrong) f.place
+    → length now ≡ length was → AreRows t was now (Err f)
+reading_refused t was now f a e = record {
   answers = a;
-  rows = λ z. absurd (h z);
-  few = λ z. absurd (h z);
-  labelled = λ z. absurd (h z);
-  holds = λ z. absurd (h z);
+  rows = tt;
+  few = tt;
+  labelled = tt;
+  holds = tt;
   same = e;
 }

@@ -11,7 +11,7 @@ use Rattle.numbers.proofs.Truth.{le_or_lt}
 use Rattle.rules.specs.TableFile.{row_numbers, mark_of, numbers}
 use Rattle.rules.specs.Text.{letters}
 use Rattle.rules.specs.Refusals.{Check, Answers, refuse}
-use Rattle.rules.specs.Calls.{lent}
+use Rattle.rules.specs.Calls.{lent, no_mark}
 use Rattle.rules.proofs.Answers.{None, Numbered, applied, passed, done, stopped, joined, none_of}
 use Rattle.rules.proofs.Answers.{numbered_join, numbered_each}
 use Rattle.rules.proofs.Calls.{lent_take, call_refused, call_short, call_done}
@@ -24,8 +24,14 @@ use Rattle.text_reader.specs.declared.fields.Line.{Line}
 use Rattle.text_reader.specs.Walk.{lines_at, line_of, IsNextLine}
 use Rattle.text_reader.specs.declared.Heading.{Heading}
 use Rattle.text_reader.specs.declared.Rows.{Rows}
-use Rattle.text_reader.specs.declared.TextReading.{TextReading}
-use Rattle.text_reader.specs.Reading.{IsHeading, Rest, AreRows, IsNothing, AreLines, version_for}
+use Rattle.std.specs.Prelude.{Ok, Err}
+use Rattle.table.specs.declared.refusals.Reason.TheVariants.{WrongRows}
+use Rattle.reader.specs.declared.Reading.{Reading}
+use Rattle.text_reader.specs.Faults.{number_of}
+use Rattle.text_reader.specs.declared.faults.Wrong.TheVariants.{Table}
+use Rattle.text_reader.specs.declared.faults.Fault.{Fault}
+use Rattle.text_reader.proofs.Wrongs.{not_done}
+use Rattle.text_reader.specs.Reading.{IsHeading, Rest, AreRows, AreLines, version_for}
 use Rattle.text_reader.proofs.Lines.{row_numbered}
 
 -- ---- no refusal has the number 0
@@ -78,42 +84,44 @@ module _ {t : List ℕ} {r : Line} (n : IsNextLine t 0 r) where
       ∙ ap₂ part (sym (n.none e).1) (ap (λ (j : ℕ). take j (drop r.start t)) (sym z)))
       either
 
-  module _ {h : Heading} (H : IsHeading (line_of t r) h) where
-    pub here : Answers (heading_checks (heading t)) h.number h.place
-    here = subst (λ (l : Part). Answers (heading_checks l) h.number h.place) (sym this_heading) H.answers
+  here : (n p : ℕ) → Answers (heading_checks (line_of t r)) n p → Answers (heading_checks (heading t)) n p
+  here n p a = subst (λ (l : Part). Answers (heading_checks l) n p) (sym this_heading) a
 
-    module _ (e : h.number ≡ 0) where
-      pub heading_passes : None (heading_checks (heading t))
-      heading_passes = none_of (heading_checks (heading t)) h.place (heading_numbered (heading t)) (rw e at here)
+  pub heading_stops : (f : Fault) → IsHeading (line_of t r) (Err f) → Answers (heading_checks (heading t)) (number_of f.wrong) f.place
+  heading_stops f H = here _ _ H.answers
 
-      pub elements_are : h.elements ≡ (text_table t).elements
-      elements_are = H.elements e ∙ ap (λ (l : Part). number (field l 1)) (sym this_heading)
+  module _ {h : Heading} (H : IsHeading (line_of t r) (Ok h)) where
+    pub heading_passes : None (heading_checks (heading t))
+    heading_passes = none_of (heading_checks (heading t)) 0 (heading_numbered (heading t)) (here _ _ H.answers)
 
-      pub rings_are : h.rings ≡ text_rings t
-      rings_are = H.rings e ∙ ap rings_in (sym this_heading)
+    pub elements_are : h.elements ≡ (text_table t).elements
+    elements_are = H.elements ∙ ap (λ (l : Part). number (field l 1)) (sym this_heading)
 
-      -- an empty text has no heading
-      filled : r.start ≡ r.end → ⊥
-      unfolding heading_checks None
-      filled z =
-          let nil : heading t ≡ part (length t) [] =
-          ap (λ (qs : List Part). get_or qs 0 (part (length t) [])) (sym (lines_all t) ∙ (n.none z).0) in
-          let word : (field (heading t) 0).bytes ≡ [] = ap (λ (l : Part). (field l 0).bytes) nil ∙ nothing_there (length t) in
-          heading_passes.0 (
-            (λ w. let y : [] ≡ letters "elements" = sym word ∙ w in let x : ⊥ = omega (arith, ap length y) in x),
-            (λ w. let y : [] ≡ letters "board" = sym word ∙ w in let x : ⊥ = omega (arith, ap length y) in x),
-          )
+    pub rings_are : h.rings ≡ text_rings t
+    rings_are = H.rings ∙ ap rings_in (sym this_heading)
 
-      pub rest : Rest t r.next
-      rest =
-          ⊎_elim
-          (λ g. record {
-            inside = n.past;
-            left = ap (drop 1) (first_of g);
-            there = omega (arith, ap length (first_of g));
-          })
-          (λ z. absurd (filled z))
-          either
+    -- an empty text has no heading
+    filled : r.start ≡ r.end → ⊥
+    unfolding heading_checks None
+    filled z =
+        let nil : heading t ≡ part (length t) [] =
+        ap (λ (qs : List Part). get_or qs 0 (part (length t) [])) (sym (lines_all t) ∙ (n.none z).0) in
+        let word : (field (heading t) 0).bytes ≡ [] = ap (λ (l : Part). (field l 0).bytes) nil ∙ nothing_there (length t) in
+        heading_passes.0 (
+          (λ w. let y : [] ≡ letters "elements" = sym word ∙ w in let x : ⊥ = omega (arith, ap length y) in x),
+          (λ w. let y : [] ≡ letters "board" = sym word ∙ w in let x : ⊥ = omega (arith, ap length y) in x),
+        )
+
+    pub rest : Rest t r.next
+    rest =
+        ⊎_elim
+        (λ g. record {
+          inside = n.past;
+          left = ap (drop 1) (first_of g);
+          there = omega (arith, ap length (first_of g));
+        })
+        (λ z. absurd (filled z))
+        either
 
 -- ---- heading and rows
 
@@ -121,68 +129,60 @@ module _ (t was now : List ℕ) where
   abbrev rows : List Check
   rows = each (text_table t).rows (λ i. text_row_checks (text_rings t) (text_table t).elements (row t i) i)
 
-  refused : (r : TextReading) → r.number ≢ 0 → Answers (text_line_checks t) r.number r.place
-      → IsNothing r → length now ≡ length was → AreLines t was now r
-  refused r h a z e = record {
+  refused : (f : Fault) → Answers (text_line_checks t) (number_of f.wrong) f.place → length now ≡ length was → AreLines t was now (Err f)
+  refused f a e = record {
     answers = a;
-    refused = λ g. z;
-    mark = λ g. absurd (h g);
-    version = λ g. absurd (h g);
-    elements = λ g. absurd (h g);
-    rows = λ g. absurd (h g);
-    few = λ g. absurd (h g);
-    holds = λ g. absurd (h g);
+    mark = tt;
+    version = tt;
+    elements = tt;
+    rows = tt;
+    few = tt;
+    holds = tt;
     same = e;
   }
 
-  pub lines_heading : (r : TextReading) (n p : ℕ) → n ≢ 0 → Answers (heading_checks (heading t)) n p
-      → (r.number ≡ n) × (r.place ≡ p) × IsNothing r → length now ≡ length was → AreLines t was now r
+  pub lines_heading : (f : Fault) → Answers (heading_checks (heading t)) (number_of f.wrong) f.place → length now ≡ length was
+      → AreLines t was now (Err f)
   unfolding text_line_checks
-  lines_heading r n p h a z e =
-      refused r (λ g. h (sym z.0 ∙ g))
-      (rw (z.0, z.1) (stopped (heading_checks (heading t)) (rows ++ (empty t ∷ [])) n p h a)) z.2 e
+  lines_heading f a e =
+      refused f (stopped (heading_checks (heading t)) (rows ++ (empty t ∷ [])) (number_of f.wrong) f.place (not_done f.wrong) a) e
 
-  module _ (passes : None (heading_checks (heading t))) {f : Rows} (F : AreRows t was now f) where
-    pub lines_rows : (r : TextReading) → f.number ≢ 0
-        → (r.number ≡ f.number) × (r.place ≡ f.place) × IsNothing r → AreLines t was now r
+  module _ (passes : None (heading_checks (heading t))) where
+    pub lines_rows : (f : Fault) → AreRows t was now (Err f) → AreLines t was now (Err f)
     unfolding text_line_checks
-    lines_rows r h z =
-        refused r (λ g. h (sym z.0 ∙ g))
-        (rw (z.0, z.1)
-        (joined (heading_checks (heading t)) (rows ++ (empty t ∷ [])) f.number f.place passes
-        (stopped rows (empty t ∷ []) f.number f.place h F.answers)))
-        z.2 F.same
+    lines_rows f F =
+        refused f
+        (joined (heading_checks (heading t)) (rows ++ (empty t ∷ [])) (number_of f.wrong) f.place passes
+        (stopped rows (empty t ∷ []) (number_of f.wrong) f.place (not_done f.wrong) F.answers))
+        F.same
 
-    module _ (e : f.number ≡ 0) where
+    module _ {x : Rows} (F : AreRows t was now (Ok x)) where
       rows_pass : None rows
-      rows_pass = none_of rows f.place (rows_numbered t) (rw e at F.answers)
+      rows_pass = none_of rows 0 (rows_numbered t) F.answers
 
-      pub lines_empty : (r : TextReading) → f.rows ≡ 0
-          → (r.number ≡ 5) × (r.place ≡ length t) × IsNothing r → AreLines t was now r
+      pub lines_empty : x.rows ≡ 0 → AreLines t was now (Err (record { wrong = Table WrongRows; place = length t }))
       unfolding text_line_checks
-      lines_empty r h z =
-          refused r (λ g. let w : ⊥ = omega (arith, z.0, g) in w)
-          (rw (z.0, z.1)
+      lines_empty h =
+          refused (record { wrong = Table WrongRows; place = length t })
           (joined (heading_checks (heading t)) (rows ++ (empty t ∷ [])) 5 (length t) passes
           (joined rows (empty t ∷ []) 5 (length t) rows_pass
-          (applied (empty t) [] 5 (length t) (sym (F.rows e) ∙ h) refl refl))))
-          z.2 F.same
+          (applied (empty t) [] 5 (length t) (sym F.rows ∙ h) refl refl)))
+          F.same
 
-      pub lines_done : (k : List ℕ) (v M r : ℕ) → f.rows ≢ 0 → r ≡ text_rings t → M ≡ (text_table t).elements → k ≡ mark_of r
-          → v ≡ version_for r f.labelled
-          → AreLines t was now (record { number = 0; place = 0; mark = k; version = v; table = record { elements = M; rows = f.rows } })
+      pub lines_done : (k : List ℕ) (v M r : ℕ) → x.rows ≢ 0 → r ≡ text_rings t → M ≡ (text_table t).elements → k ≡ mark_of r
+          → v ≡ version_for r x.labelled
+          → AreLines t was now (Ok (record { mark = k; version = v; table = record { elements = M; rows = x.rows } }))
       unfolding text_line_checks text_version
       lines_done k v M r h g m y w = record {
         answers =
             joined (heading_checks (heading t)) (rows ++ (empty t ∷ [])) 0 0 passes
-            (joined rows (empty t ∷ []) 0 0 rows_pass (passed (empty t) [] 0 0 (λ z. h (F.rows e ∙ z)) done));
-        refused = λ z. absurd (z refl);
-        mark = λ z. y ∙ ap mark_of g;
-        version = λ z. w ∙ ap₂ version_for g (F.labelled e);
-        elements = λ z. m;
-        rows = λ z. F.rows e;
-        few = λ z. F.few e;
-        holds = λ z. F.holds e;
+            (joined rows (empty t ∷ []) 0 0 rows_pass (passed (empty t) [] 0 0 (λ z. h (F.rows ∙ z)) done));
+        mark = y ∙ ap mark_of g;
+        version = w ∙ ap₂ version_for g F.labelled;
+        elements = m;
+        rows = F.rows;
+        few = F.few;
+        holds = F.holds;
         same = F.same;
       }
 
@@ -192,49 +192,41 @@ module _ (t was : List ℕ) where
   abbrev short : Type 0
   short = length was < row_numbers * (text_table t).rows
 
-  pub read_long : (r : TextReading) → max_text < length t
-      → (r.number ≡ 33) × (r.place ≡ max_text) × IsNothing r
-      → TextRead t was was r.number r.place r.mark r.version r.table.elements r.table.rows
+  pub read_long : max_text < length t → TextRead t was was 33 max_text no_mark 0 0 0
   unfolding text_reader_checks text_checks
-  read_long r l z =
-      call_refused (text_checks t) short
-      (applied (long_text t) (text_line_checks t) r.number r.place l z.0 z.1) (λ g. let w : ⊥ = omega (arith, z.0, g) in w)
-      (z.2.mark, z.2.version, z.2.elements, z.2.rows, refl)
+  read_long l =
+      call_refused (text_checks t) short (applied (long_text t) (text_line_checks t) 33 max_text l refl refl)
+      (λ g. let w : ⊥ = omega (arith, g) in w) (refl, refl, refl, refl, refl)
 
-  module _ (l : length t ≤ max_text) {from now : List ℕ} {r : TextReading} (L : AreLines t from now r) where
-    answers : Answers (text_checks t) r.number r.place
+  module _ (l : length t ≤ max_text) where
+    answers : (n p : ℕ) → Answers (text_line_checks t) n p → Answers (text_checks t) n p
     unfolding text_checks
-    answers =
-        passed (long_text t) (text_line_checks t) r.number r.place
-        (λ (g : max_text < length t). let w : ⊥ = omega arith in w) L.answers
+    answers n p a =
+        passed (long_text t) (text_line_checks t) n p (λ (g : max_text < length t). let w : ⊥ = omega arith in w) a
 
-    pub read_refused : r.number ≢ 0
-        → TextRead t was was r.number r.place r.mark r.version r.table.elements r.table.rows
+    pub read_refused : {from now : List ℕ} (f : Fault) → AreLines t from now (Err f)
+        → TextRead t was was (number_of f.wrong) f.place no_mark 0 0 0
     unfolding text_reader_checks
-    read_refused h =
-        let z = L.refused h in
-        call_refused (text_checks t) short answers h (z.mark, z.version, z.elements, z.rows, refl)
+    read_refused f L =
+        call_refused (text_checks t) short (answers _ _ L.answers) (not_done f.wrong) (refl, refl, refl, refl, refl)
 
-    module _ (e : r.number ≡ 0) where
-      pub read_short : (s : TextReading) → length was < row_numbers * r.table.rows
-          → (s.number ≡ 17) × (s.place ≡ 0) × IsNothing s
-          → TextRead t was was s.number s.place s.mark s.version s.table.elements s.table.rows
+    module _ {from now : List ℕ} {r : Reading} (L : AreLines t from now (Ok r)) where
+      pub read_short : length was < row_numbers * r.table.rows → TextRead t was was 17 0 no_mark 0 0 0
       unfolding text_reader_checks
-      read_short s h z =
-          rw (z.0, z.1)
-          (call_short (text_checks t) short (none_of (text_checks t) r.place (text_numbered t) (rw e at answers))
-          (omega (arith, h, L.rows e)) (z.2.mark, z.2.version, z.2.elements, z.2.rows, refl))
+      read_short h =
+          call_short (text_checks t) short (none_of (text_checks t) 0 (text_numbered t) (answers _ _ L.answers))
+          (omega (arith, h, L.rows)) (refl, refl, refl, refl, refl)
 
       pub read_done : (out : List ℕ) → row_numbers * r.table.rows ≤ length was → out ≡ lent (numbers (text_labelled t)) was
-          → TextRead t was out r.number r.place r.mark r.version r.table.elements r.table.rows
+          → TextRead t was out 0 0 r.mark r.version r.table.elements r.table.rows
       unfolding text_reader_checks
       read_done out h o =
-          call_done (text_checks t) short (text_numbered t) answers e
-          (λ (g : short). let w : ⊥ = omega (arith, h, L.rows e, g) in w) (L.mark e, L.version e, L.elements e, L.rows e, o)
+          call_done (text_checks t) short (text_numbered t) (answers _ _ L.answers) refl
+          (λ (g : short). let w : ⊥ = omega (arith, h, L.rows, g) in w) (L.mark, L.version, L.elements, L.rows, o)
 
 -- the numbers at the front of the memory that they were read into
-pub front_of : {t from now : List ℕ} {r : TextReading} → AreLines t from now r → r.number ≡ 0
+pub front_of : {t from now : List ℕ} {r : Reading} → AreLines t from now (Ok r)
     → take (row_numbers * r.table.rows) now ≡ numbers (text_labelled t)
-front_of {t} {from} L e =
-    ap₂ (λ (k : ℕ) (xs : List ℕ). take (row_numbers * k) xs) (L.rows e) (L.holds e)
+front_of {t} {from} L =
+    ap₂ (λ (k : ℕ) (xs : List ℕ). take (row_numbers * k) xs) L.rows L.holds
     ∙ lent_take (numbers (text_labelled t)) from (row_numbers * (text_table t).rows) (numbers_length (text_labelled t))

@@ -12,13 +12,14 @@
 --   IsNextLine t k r     r is the first line that has a field, or an empty one at the text's end
 --   IsCell q r           r is what is refused of field q, or its number
 --   IsSpot t k r         r is the line and the column of place k
-use Rattle.std.specs.Prelude.{◌≡◌, Bool, not, cond, List, [], ◌∷◌, map, ℕ, ◌+◌, ◌-◌, ◌≤◌, ◌<◌, eqb, ltb, length, take, drop}
+use Rattle.std.specs.Prelude.{◌≡◌, Bool, not, cond, List, [], ◌∷◌, map, ℕ, ◌+◌, ◌-◌, ◌≤◌, ◌<◌, eqb, ltb, length, take, drop, Result, IfOk}
 use Rattle.rules.specs.Refusals.{Answers}
 use Rattle.grammar.specs.TableText.{Part, part, is_newline, is_blank, parts, some, kept, fields, uncommented, field, number, number_checks}
 use Rattle.grammar.specs.TableText.{line_at, column_at}
 use Rattle.text_reader.specs.declared.fields.Span.{Span}
 use Rattle.text_reader.specs.declared.fields.Line.{Line}
-use Rattle.text_reader.specs.declared.fields.Cell.{Cell}
+use Rattle.text_reader.specs.declared.faults.Fault.{Fault}
+use Rattle.text_reader.specs.Faults.{number as told, place}
 use Rattle.text_reader.specs.declared.fields.Spot.{Spot}
 
 abbrev pub between : (a e : ℕ) → List ℕ → List ℕ
@@ -77,9 +78,9 @@ pub record IsNextLine (t : List ℕ) (k : ℕ) (r : Line) : Type 0 where
 
 -- ---- numbers and places
 
-pub record IsCell (q : Part) (r : Cell) : Type 0 where
-  pub answers : Answers (number_checks q) r.number r.place
-  pub value : r.number ≡ 0 → r.value ≡ number q
+pub record IsCell (q : Part) (r : Result ℕ Fault) : Type 0 where
+  pub answers : Answers (number_checks q) (told r) (place r)
+  pub value : IfOk r (λ v. v ≡ number q)
 
 -- no text has more bytes
 abbrev pub most : ℕ

@@ -7,25 +7,7 @@ ghost use Rattle.grammar.specs.TableText.{part, until, max_number};
 ghost use Rattle.grammar.specs.TableText as grammar;
 ghost use Rattle.text_reader.specs.Walk.{is_sign, blank_is, IsNext, IsField, IsLine, IsNextLine, IsCell, IsSpot, most, stepped};
 
-// What is refused of a text, beside the numbers of `table::Answer`.
-#[derive(Clone, Copy)]
-pub struct Fault {
-    pub number: u32,
-}
-
-impl Fault {
-    pub const LONG_TEXT: u32 = 33;
-
-    pub const NO_NUMBER: u32 = 34;
-
-    pub const LARGE_NUMBER: u32 = 35;
-
-    pub const NO_HEADING: u32 = 36;
-
-    pub const MISSING_FIELD: u32 = 37;
-
-    pub const SPARE_FIELD: u32 = 38;
-}
+use crate::faults::{Fault, Wrong};
 
 // ---- fields
 
@@ -39,22 +21,13 @@ pub struct Span {
 fn is_blank(b: u8) -> bool
     ensures { result ≡ grammar.is_blank b }
 {
-    if b == b' ' {
-        return true;
-    }
-    if b == b'\t' {
-        return true;
-    }
-    b == b'\r'
+    b == b' ' || b == b'\t' || b == b'\r'
 }
 
 fn is_stop(b: u8, blank: bool) -> bool
     ensures { result ≡ blank_is blank b }
 {
-    if blank {
-        return is_blank(b);
-    }
-    !is_blank(b)
+    is_blank(b) == blank
 }
 
 // The first place from `at` on that has a blank, or with `blank` false none; the line's end where there is no such place.
@@ -62,14 +35,11 @@ fn stop(line: &[u8], at: usize, blank: bool) -> usize
     requires { at ≤ length line.now }
     ensures { (result ≡ at + until (blank_is blank) (drop at line.now)) × (result ≤ length line.now) }
 {
-    let mut i = at;
-    while i < line.len() {
-        if is_stop(line[i], blank) {
-            return i;
-        }
-        i += 1;
-    }
-    i
+    let rest = &line[at..];
+    at + rest
+        .iter()
+        .position(|b| is_stop(*b, blank))
+        .unwrap_or(rest.len())
 }
 
 // The first field from `at` on; an empty one at the line's end where there is none.
@@ -89,10 +59,8 @@ pub fn field(line: &[u8], k: usize) -> Span
     ensures { (from : ℕ) → IsField (part from line.now) k result }
 {
     let mut found = next_field(line, 0);
-    let mut left = k;
-    while left > 0 {
+    for _ in 0..k {
         found = next_field(line, found.end);
-        left -= 1;
     }
     found
 }
@@ -119,14 +87,7 @@ pub struct Line {
 fn find(bytes: &[u8], sign: u8) -> usize
     ensures { (result ≡ until (is_sign sign) bytes.now) × (result ≤ length bytes.now) }
 {
-    let mut i: usize = 0;
-    while i < bytes.len() {
-        if bytes[i] == sign {
-            return i;
-        }
-        i += 1;
-    }
-    i
+    bytes.iter().position(|b| *b == sign).unwrap_or(bytes.len())
 }
 
 // The line that starts at `at`.
@@ -147,6 +108,7 @@ pub fn next_line(text: &[u8], from: usize) -> Line
     requires { from ≤ length text.now + 1 }
     ensures { IsNextLine text.now from result }
 {
+    // It goes from line to line, not over a range: where the next line starts, only this one tells.
     let mut at = from;
     while at <= text.len() {
         let line = line_at(text, at);
@@ -167,21 +129,10 @@ pub fn next_line(text: &[u8], from: usize) -> Line
 
 // ---- numbers
 
-// What a field holds: a number, or a fault and its place.
-#[derive(Clone, Copy)]
-pub struct Cell {
-    pub number: u32,
-    pub place: usize,
-    pub value: u16,
-}
-
 fn is_digit(b: u8) -> bool
     ensures { Decides (IsDigit b) result }
 {
-    if b < b'0' {
-        return false;
-    }
-    b <= b'9'
+    b.is_ascii_digit()
 }
 
 // A number with one digit more, as far as 65,536.
@@ -189,44 +140,30 @@ fn grow(x: u32, digit: u8) -> u32
     requires { (x ≤ max_number + 1) × IsDigit digit }
     ensures { result ≡ min (x * 10 + (digit - zero_byte)) (max_number + 1) }
 {
-    let next = x * 10 + (digit - b'0') as u32;
-    if next > 65536 {
-        return 65536;
-    }
-    next
-}
-
-fn refuse(number: u32, place: usize) -> Cell
-    ensures { (result.number ≡ number) × (result.place ≡ place) × (result.value ≡ 0) }
-{
-    Cell {
-        number: number,
-        place: place,
-        value: 0,
-    }
+    (x * 10 + (digit - b'0') as u32).min(65536)
 }
 
 // The number in a field that starts at `place`.
-pub fn number(digits: &[u8], place: usize) -> Cell
+pub fn number(digits: &[u8], place: usize) -> Result<u16, Fault>
     ensures { IsCell (part place digits.now) result }
 {
     let mut x: u32 = 0;
-    let mut i: usize = 0;
-    while i < digits.len() {
-        if !is_digit(digits[i]) {
-            return refuse(Fault::NO_NUMBER, place);
+    for b in digits {
+        if !is_digit(*b) {
+            return Err(Fault {
+                wrong: Wrong::NoNumber,
+                place,
+            });
         }
-        x = grow(x, digits[i]);
-        i += 1;
+        x = grow(x, *b);
     }
     if x > 65535 {
-        return refuse(Fault::LARGE_NUMBER, place);
+        return Err(Fault {
+            wrong: Wrong::LargeNumber,
+            place,
+        });
     }
-    Cell {
-        number: 0,
-        place: 0,
-        value: x as u16,
-    }
+    Ok(x as u16)
 }
 
 // ---- places
@@ -236,12 +173,6 @@ pub fn number(digits: &[u8], place: usize) -> Cell
 pub struct Spot {
     pub line: usize,
     pub column: usize,
-}
-
-fn least(a: usize, b: usize) -> usize
-    ensures { result ≡ min a b }
-{
-    if a < b { a } else { b }
 }
 
 // Past byte `b`.
@@ -265,12 +196,10 @@ fn step(spot: Spot, b: u8) -> Spot
 pub fn spot_of(text: &[u8], place: usize) -> Spot
     ensures { IsSpot text.now place result }
 {
-    let end = least(place, text.len());
+    let end = place.min(text.len());
     let mut at = Spot { line: 1, column: 1 };
-    let mut i: usize = 0;
-    while i < end {
-        at = step(at, text[i]);
-        i += 1;
+    for b in &text[..end] {
+        at = step(at, *b);
     }
     at
 }

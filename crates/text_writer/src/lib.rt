@@ -9,10 +9,11 @@ ghost use Rattle.rules.specs.Bounds.{max_rows};
 ghost use Rattle.rules.specs.TableFile.{row_numbers, memory_labelled_with};
 ghost use Rattle.decimal.specs.Puts.{limit, max_line, Puts, PutsLine, PutsLines};
 ghost use Rattle.grammar.specs.TableText.{head_line, note, row_line, table_text, TextWritten};
-ghost use Rattle.text_writer.specs.Lines.{number_line, WrittenWith};
+ghost use Rattle.table.specs.Refusal.{number, place};
+ghost use Rattle.text_writer.specs.Lines.{number_line, size_in, WrittenWith};
 
 use decimal::{put_bytes, put_decimal, put_line};
-use table::{Answer, Row, Table, is_no_mark, rings_of, row_bytes};
+use table::{Reason, Refusal, Row, Table, is_no_mark, rings_of, row_bytes};
 use writer::{check_version, row_of};
 
 fn put_heading(rings: usize, elements: u64, out: &mut [u8]) -> usize
@@ -68,10 +69,8 @@ fn put_rows(
         out.old at out.new result }
 {
     let mut next = at;
-    let mut i: usize = 0;
-    while i < rows {
+    for i in 0..rows {
         next = put_row(rings, version, row_of(1, numbers, i), out, next);
-        i += 1;
     }
     next
 }
@@ -103,23 +102,7 @@ fn text_size(rings: usize, version: u64, elements: u64, rows: usize, numbers: &[
     put_text(rings, version, elements, rows, numbers, &mut none)
 }
 
-// What the writer returns: its answer, and how many bytes the text has.
-#[derive(Clone, Copy)]
-pub struct TextWriting {
-    pub answer: Answer,
-    pub size: usize,
-}
-
-fn refuse_write(answer: Answer) -> TextWriting
-    ensures { (result.answer ≡ answer) × (result.size ≡ 0) }
-{
-    TextWriting {
-        answer: answer,
-        size: 0,
-    }
-}
-
-// The text of a slice whose mark is known.
+// The text of a slice whose mark is known, and how many bytes it has.
 fn write_with(
     rings: usize,
     version: u64,
@@ -127,28 +110,22 @@ fn write_with(
     rows: u64,
     numbers: &[u16],
     out: &mut [u8],
-) -> TextWriting
+) -> Result<usize, Refusal>
     ensures { WrittenWith rings version elements rows numbers.now out.old out.new
-        result.answer.number result.answer.place result.size }
+        (number result) (place result) (size_in result) }
 {
-    let answer = check_version(rings, version, elements as usize, rows as usize, numbers);
-    if answer.number != Answer::DONE {
-        return refuse_write(answer);
-    }
+    check_version(rings, version, elements as usize, rows as usize, numbers)?;
     let count = rows as usize;
     let size = text_size(rings, version, elements, count, numbers);
     if out.len() < size {
-        return refuse_write(Answer::at(Answer::SHORT_OUTPUT, 0));
+        return Err(Reason::ShortOutput.into());
     }
     put_text(rings, version, elements, count, numbers, out);
-    TextWriting {
-        answer: answer,
-        size: size,
-    }
+    Ok(size)
 }
 
 // The writer: checks 2 to 9, 26, 20, then 17. Fills the front of `out` with the text, in version 2 with labels and with two rings with
-// directions.
+// directions; it answers how many bytes the text has.
 pub fn write(
     mark: &[u8],
     version: u64,
@@ -156,12 +133,12 @@ pub fn write(
     rows: u64,
     numbers: &[u16],
     out: &mut [u8],
-) -> TextWriting
+) -> Result<usize, Refusal>
     ensures { TextWritten mark.now version elements rows numbers.now out.old out.new
-        result.answer.number result.answer.place result.size }
+        (number result) (place result) (size_in result) }
 {
     if is_no_mark(mark) {
-        return refuse_write(Answer::at(Answer::WRONG_MARK, 0));
+        return Err(Reason::WrongMark.into());
     }
     write_with(rings_of(mark), version, elements, rows, numbers, out)
 }

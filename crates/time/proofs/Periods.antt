@@ -7,7 +7,7 @@
 --   Met p i ms         each of ms is 0 or one of the first i periods
 use mathlib.Core.Path.{◌≡◌, refl, sym, ap, ◌∙◌}
 use mathlib.Core.Logic.{◌⊎◌, inl, inr, ◌≢◌, ⊎_elim}
-use mathlib.Core.Bool.{true, false, not}
+use mathlib.Core.Bool.{Bool, true, false, not}
 use mathlib.Core.List.{List, [], ◌∷◌, ◌++◌}
 use Prim.Native.Nat.{ℕ, ◌+◌, ◌≤◌, ◌<◌, ◌∣◌, min}
 use native.Mathlib.Nat.{eq-or-lt_of_le, le_of_dvd, dvd_refl, one-dvd}
@@ -21,9 +21,9 @@ use Rattle.numbers.specs.Lists.{at}
 use Rattle.numbers.specs.Divisors.{divides, lcm, leading, Leads}
 use Rattle.numbers.specs.Pairs.{IsGcd, IsLcm, LeastGcd}
 use Rattle.numbers.proofs.Truth.{is_true, le_or_lt}
-use Rattle.numbers.proofs.Finite.{any_of, any_none}
+use Rattle.numbers.proofs.Finite.{any_of, any_none, Sought}
 use Rattle.numbers.proofs.Lists.{Filled, filled_start, filled_put, zeros_at}
-use Rattle.numbers.proofs.Pairs.{pair_gcd, pair_gcd_self, pair_gcd_swap, pair_gcd_only}
+use Rattle.numbers.proofs.Pairs.{pair_gcd, pair_gcd_self, pair_gcd_only}
 use Rattle.numbers.proofs.Divisors.{Positive, lcm_none, lcm_next, lcm_multiple, lcm_positive, lcm_grows, of_dvd}
 use Rattle.numbers.proofs.Divisors.{leads_any, leads_same, leading_none, leading_kept, leading_new, leading_leads, leading_few}
 use Rattle.numbers.proofs.Divisors.{least_gcd_only, least_gcd_led}
@@ -124,12 +124,13 @@ capped_none {h} {r} C z p = ⊎_elim (λ (l : h ≤ max_slots). absurd (omega (a
 
 -- ---- the leading periods
 
--- whether one of m numbers divides x
-pub divided : (m : ℕ) (f : ℕ → ℕ) (x k : ℕ) → k < m → f k ∣ x → false ≡ not (any m (λ k. divides (f k) x))
-divided m f x k l d = sym (ap not (is_true (any m (λ k. divides (f k) x)) (any_of m (λ k. divides (f k) x) k l (of_dvd (f k) x d))))
+-- whether none of n numbers has p, where one has, and where none was found
+module _ (n : ℕ) (p : ℕ → Bool) where
+  pub some_has : (i : ℕ) → i < n → T (p i) → false ≡ not (any n p)
+  some_has i l h = sym (ap not (is_true (any n p) (any_of n p i l h)))
 
-pub undivided : (m : ℕ) (f : ℕ → ℕ) (x : ℕ) → ((k : ℕ) → k < m → T (divides (f k) x) → ⊥) → true ≡ not (any m (λ k. divides (f k) x))
-undivided m f x h = sym (ap not (any_none m (λ k. divides (f k) x) h))
+  pub none_has : {i : ℕ} → Sought n p i → n ≤ i → true ≡ not (any n p)
+  none_has S l = sym (ap not (any_none n p (λ j m. S.none j (omega arith))))
 
 -- m numbers that lead n periods are periods themselves
 pub periods_led : {n m : ℕ} {p f : ℕ → ℕ} → Periods n p → Leads n p m f → m ≤ max_rows → Periods m f
@@ -344,15 +345,6 @@ module _ {n : ℕ} {p : ℕ → ℕ} (P : Periods n p) where
               (eq-or-lt_of_le (let z : a ≤ i = omega arith in z));
           here = λ b d x D. absurd (omega arith);
         }
-
-pub nearing_end : {n : ℕ} {p : ℕ → ℕ} {i l : ℕ} → Nearing n p i 0 l → n ≤ i → LeastGcd n p l
-nearing_end N k = record {
-  some = N.some;
-  least = λ a b d x y D. ⊎_elim
-      (λ (h : b ≤ a). N.before a b d (omega arith) h D)
-      (λ (h : a < b). N.before b a d (omega arith) (omega arith) (pair_gcd_swap D))
-      (le_or_lt b a);
-}
 
 -- ---- only one time fits
 

@@ -38,12 +38,10 @@ fn is_leading(kept: &[u16; Table::ROWS], count: usize, next: u64) -> bool
     requires { (count ≤ max_rows) × ((k : ℕ) → k < count → 0 < at kept.now k) }
     ensures { result ≡ not (any count (λ k. divides (at kept.now k) next)) }
 {
-    let mut k: usize = 0;
-    while k < count {
+    for k in 0..count {
         if next % table::slots_at(kept, k) == 0 {
             return false;
         }
-        k += 1;
     }
     true
 }
@@ -58,15 +56,6 @@ fn place_of(period: u64) -> usize
 
 // ---- L
 
-fn lower(a: u64, b: u64) -> u64
-    ensures { result ≡ min a b }
-{
-    if b < a {
-        return b;
-    }
-    a
-}
-
 // `l` lowered to the greatest common divisors of period `i` and each before it.
 fn lowered(l: u64, period: &[u16; Table::ROWS], i: usize) -> u64
     requires { (n : ℕ) × Periods n (at period.now) × Nearing n (at period.now) i 0 l × (i < n) }
@@ -75,10 +64,8 @@ fn lowered(l: u64, period: &[u16; Table::ROWS], i: usize) -> u64
 {
     let own = table::slots_at(period, i);
     let mut least = l;
-    let mut j: usize = 0;
-    while j < i {
-        least = lower(least, numbers::gcd_of(own, table::slots_at(period, j)));
-        j += 1;
+    for j in 0..i {
+        least = least.min(numbers::gcd_of(own, table::slots_at(period, j)));
     }
     least
 }
@@ -89,10 +76,8 @@ fn shortest_of(count: usize, period: &[u16; Table::ROWS]) -> u64
     ensures { LeastGcd count (at period.now) result }
 {
     let mut l = table::slots_at(period, 0);
-    let mut i: usize = 1;
-    while i < count {
+    for i in 1..count {
         l = lowered(l, period, i);
-        i += 1;
     }
     l
 }
@@ -113,10 +98,8 @@ fn multiple_past(count: usize, period: &[u16; Table::ROWS], slot: u64) -> u64
     ensures { Past count (at period.now) slot result }
 {
     let mut end = after(table::slots_at(period, 0), slot);
-    let mut k: usize = 1;
-    while k < count {
-        end = lower(end, after(table::slots_at(period, k), slot));
-        k += 1;
+    for k in 1..count {
+        end = end.min(after(table::slots_at(period, k), slot));
     }
     end
 }
@@ -153,8 +136,7 @@ impl Time {
         let mut kept = [0u16; Table::ROWS];
         let mut count: usize = 0;
         let mut h: u64 = 1;
-        let mut i: usize = 0;
-        while i < rows {
+        for i in 0..rows {
             let next = table::slots_at(period, i);
             let place = place_of(next);
             if table::slots_at(&met, place) != next {
@@ -168,7 +150,6 @@ impl Time {
                     count += 1;
                 }
             }
-            i += 1;
         }
         Time {
             hyper: h,
@@ -195,15 +176,13 @@ impl Time {
         ensures { (t : bus.Table) → Timed t self → result ≡ start t (min k (intervals t)) }
     {
         let mut slot: u64 = 0;
-        let mut passed: u64 = 0;
-        while slot < self.hyper {
-            if passed == k {
+        for _ in 0..k {
+            if slot == self.hyper {
                 return slot;
             }
             slot = multiple_past(self.count, &self.period, slot);
-            passed += 1;
         }
-        self.hyper
+        slot
     }
 
     // The first slot of interval `k`, or h where there are no more than `k` intervals.
@@ -228,12 +207,10 @@ pub fn has_shortest(period: &[u16; Table::ROWS], count: usize, interval: u64) ->
     requires { count ≤ max_rows }
     ensures { result ≡ any count (λ k. eqb (at period.now k) interval) }
 {
-    let mut k: usize = 0;
-    while k < count {
+    for k in 0..count {
         if table::slots_at(period, k) == interval {
             return true;
         }
-        k += 1;
     }
     false
 }

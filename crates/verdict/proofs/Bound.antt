@@ -22,7 +22,9 @@ use Rattle.rules.specs.Refusals.{given_checks, line_checks, bound_checks, verdic
 use Rattle.rules.proofs.Answers.{None, Numbered, stopped, joined, none_of, none_join, none_left, none_right, numbered_join}
 use Rattle.rules.proofs.Sets.{sets_only, set_in}
 use Rattle.table.specs.Sound.{Sound}
-use Rattle.table.specs.declared.Answer.{Answer}
+use Rattle.table.specs.Refusal.{number_of}
+use Rattle.table.specs.declared.refusals.Refusal.{Refusal}
+use Rattle.table.proofs.Reasons.{not_done}
 use Rattle.pasted.proofs.AsGiven.{given_numbered, given_passed}
 use Rattle.ring.proofs.OnLine.{line_ordered}
 use Rattle.sets.proofs.List.{sets_to, sets_to_few, sets_are}
@@ -125,24 +127,25 @@ table_admissible t s a =
     }
 
 -- none of 10 and 11 applies, and 13 and 14 give no refusal
-pub table_none : (t : Table) → None (line_checks t) → (r : Answer) → r.number ≡ 0 → Answers (bound_checks t) r.number r.place
-    → None (table_checks t)
-table_none t n r z a = none_join (line_checks t) (bound_checks t) n (none_of (bound_checks t) r.place (bound_numbered t) (rw z at a))
+pub table_none : (t : Table) → None (line_checks t) → Answers (bound_checks t) 0 0 → None (table_checks t)
+table_none t n a = none_join (line_checks t) (bound_checks t) n (none_of (bound_checks t) 0 (bound_numbered t) a)
 
 -- the verdict's checks are those of the table as it is given, then those of its line and bound
 pub verdict_split : (f : List ℕ) → verdict_checks f ≡ given_checks f ++ table_checks (file_table f)
 unfolding verdict_checks
 verdict_split f = append_assoc (given_checks f) (line_checks (file_table f)) (bound_checks (file_table f))
 
--- an answer of the first stands, and past them the second's does
-pub given_stops : (f : List ℕ) (n p : ℕ) → n ≢ 0 → Answers (given_checks f) n p → Answers (verdict_checks f) n p
-given_stops f n p h a = rw (verdict_split f) (stopped (given_checks f) (table_checks (file_table f)) n p h a)
+-- a refusal by the first stands, and past them the second's does
+pub given_stops : (f : List ℕ) (r : Refusal) → Answers (given_checks f) (number_of r.reason) r.place
+    → Answers (verdict_checks f) (number_of r.reason) r.place
+given_stops f r a =
+    rw (verdict_split f) (stopped (given_checks f) (table_checks (file_table f)) (number_of r.reason) r.place (not_done r.reason) a)
 
-pub given_passes : (f : List ℕ) (q : ℕ) → Answers (given_checks f) 0 q → (n p : ℕ) → Answers (table_checks (file_table f)) n p
+pub given_passes : (f : List ℕ) → Answers (given_checks f) 0 0 → (n p : ℕ) → Answers (table_checks (file_table f)) n p
     → Answers (verdict_checks f) n p
-given_passes f q g n p a =
+given_passes f g n p a =
     rw (verdict_split f)
-    (joined (given_checks f) (table_checks (file_table f)) n p (none_of (given_checks f) q (given_numbered f) g) a)
+    (joined (given_checks f) (table_checks (file_table f)) n p (none_of (given_checks f) 0 (given_numbered f) g) a)
 
 pub admissible_of : (f : List ℕ) → None (verdict_checks f) → Admissible (file_table f)
 admissible_of f a =

@@ -53,12 +53,14 @@ sums_next {i} {ends} {xs} {sums} d x F q r h = record {
       (decide (eqb e d));
 }
 
-pub sums_end : {n i : ℕ} {ends xs : ℕ → ℕ} {sums : List ℕ} → i ≡ n → SumsAt i ends xs sums → SumsAt n ends xs sums
-sums_end q S = rw q at S
-
 pub sums_small : {n : ℕ} {ends xs : ℕ → ℕ} {sums : List ℕ} → SumsAt n ends xs sums → ((i : ℕ) → i < n → xs i ≤ max_slots)
     → (e : ℕ) → e < line_size → at sums e ≤ n * max_slots
 sums_small {n} {ends} {xs} S small e l = omega (arith, S.held e l, sum_in_most n (λ j. eqb (ends j) e) xs max_slots small)
+
+-- one more rate fits beside a sum
+pub sums_fit : {n i : ℕ} {ends xs : ℕ → ℕ} {sums : List ℕ} (d x : ℕ) → SumsAt i ends xs sums → ((j : ℕ) → j < n → xs j ≤ max_slots) → i < n
+    → n ≤ max_rows → d < line_size → x ≡ xs i → at sums d + x ≤ max_rows * max_slots
+sums_fit {n} {i} d x S small l few on e = omega (arith, sums_small S (λ j m. small j (omega arith)) d on, small i l, e)
 
 module _ {n : ℕ} {ends xs : ℕ → ℕ} {sums : List ℕ} (S : SumsAt n ends xs sums) (some : (i : ℕ) → i < n → 1 ≤ xs i) where
   -- a sum is 0 just where no row has this end

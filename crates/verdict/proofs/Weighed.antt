@@ -17,7 +17,7 @@ use Rattle.numbers.proofs.Rounding.{up_least}
 use Rattle.rules.specs.Bus.{Table}
 use Rattle.rules.specs.Line.{Sets}
 use Rattle.rules.specs.Loads.{hyperperiod, shortest, rate, load, equal_periods, light, past, over, reported}
-use Rattle.rules.specs.Refusals.{light_row, over_bound, bound_checks}
+use Rattle.rules.specs.Refusals.{bound_checks}
 use Rattle.rules.proofs.Answers.{answered}
 use Rattle.table.specs.Sound.{Sound}
 use Rattle.table.specs.Columns.{ByRow}
@@ -27,7 +27,9 @@ use Rattle.lags.proofs.Intervals.{hyperperiod_positive}
 use Rattle.time.specs.Time.{Timed}
 use Rattle.time.specs.declared.Time.{Time}
 use Rattle.outline.proofs.Sets.{Ends, ends_on_line, ring_list}
-use Rattle.outline.proofs.Outlined.{answers_at}
+use Rattle.std.specs.Prelude.{Ok, Err}
+use Rattle.table.specs.declared.refusals.Reason.TheVariants.{LightRow, OverBound}
+use Rattle.table.specs.declared.refusals.Refusal.{Refusal}
 use Rattle.verdict.specs.Weights.{Rates, weight, Weighed}
 use Rattle.verdict.proofs.Weighing.{weight_load, past_over, within_one, equal_is, light_is, rates_are, rates_small}
 use Rattle.verdict.specs.declared.Loaded.{Loaded}
@@ -104,16 +106,16 @@ module _ {t : Table} {n i : ℕ} {c : Time} {top : ℕ} {first second xs : List 
 
   -- ---- each outcome
 
-  pub weighs_light : i < n → (w : Loaded) → (w.answer.number ≡ (light_row t i).number) × (w.answer.place ≡ i) → Weighs t w
-  weighs_light h w e =
+  pub weighs_light : i < n → (r : Refusal) → (r.reason ≡ LightRow) × (r.place ≡ i) → Weighs t (Err r)
+  weighs_light h r e =
       let l : i < t.rows = rw A.rows_is at h in
       record {
         answers =
-            answers_at (bound_checks t) w.answer (light_row t i).number i e
+            rw (e.0, e.1)
             (light_refused t i l
             (rw low (lowest_has t.rows (light t) (rw low at l)))
             (λ j m. lowest_below t.rows (light t) j (rw low at m)));
-        done = λ z. absurd (omega (arith, e.0, z));
+        done = tt;
       }
 
   module _ (heavy : n ≤ i) {k a b : ℕ} {ws : List ℕ} (L : SetWords n (at first) (at second) k ws)
@@ -133,26 +135,23 @@ module _ {t : Table} {n i : ℕ} {c : Time} {top : ℕ} {first second xs : List 
     count : length (take k ws) ≡ k
     count = let s = sound in omega (arith, length-take k ws, L.size, L.few)
 
-    pub weighs_over : a < k → (w : Loaded) → (w.answer.number ≡ (over_bound t a).number) × (w.answer.place ≡ a) → Weighs t w
-    weighs_over l w e =
+    pub weighs_over : a < k → (r : Refusal) → (r.reason ≡ OverBound) × (r.place ≡ a) → Weighs t (Err r)
+    weighs_over l r e =
         let u = over_stop t xs ws k a b rates weighed l in
         record {
           answers =
-              answers_at (bound_checks t) w.answer (over_bound t a).number a e
+              rw (e.0, e.1)
               (over_refused t sound.rows_low (take k ws) list none_light a (omega (arith, count)) (omega (arith, count, L.few))
               u.0 u.1);
-          done = λ z. absurd (omega (arith, e.0, z));
+          done = tt;
         }
 
-    pub weighs_done : k ≤ a → (w : Loaded) → (w.answer.number ≡ 0) × (w.answer.place ≡ 0) → w.sets ≡ k
-        → w.load ≡ up (1000 * b) c.hyper → Weighs t w
-    weighs_done l w d s y =
+    pub weighs_done : k ≤ a → {w : Loaded} → w.sets ≡ k → w.load ≡ up (1000 * b) c.hyper → Weighs t (Ok w)
+    weighs_done l s y =
         let u = over_none t xs ws k a b rates weighed l in
         record {
-          answers =
-              rw (d.0, d.1)
-              (answered (bound_checks t) (bound_none t sound.rows_low (take k ws) list none_light (λ j m. u j (rw count at m))));
-          done = λ z. (
+          answers = answered (bound_checks t) (bound_none t sound.rows_low (take k ws) list none_light (λ j m. u j (rw count at m)));
+          done = (
             take k ws,
             list,
             s ∙ sym count,

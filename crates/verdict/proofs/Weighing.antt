@@ -5,7 +5,10 @@ use mathlib.Core.Logic.{⊎_elim}
 use mathlib.Core.Bool.{Bool, true, false, not, ◌&&◌}
 use mathlib.Core.List.{List}
 use Prim.Native.Nat.{ℕ, ◌+◌, ◌-◌, ◌*◌, ◌/◌, ◌≤◌, ◌<◌, max}
-use native.Mathlib.Nat.{le_of_dvd, eq-or-lt_of_le, mul-le-mul, mul-le-mul_right, le_of_mul-le-mul_right}
+use native.Mathlib.Nat.{le_of_dvd, eq-or-lt_of_le, mul-le-mul, mul-le-mul_right, le_of_mul-le-mul_right, div-eq_of_lt-le}
+use Rattle.std.specs.Int.{div_ceil}
+use Rattle.std.proofs.lemmas.Grind.{div_ceil_times}
+use Rattle.numbers.specs.Rounding.{up}
 use native.Mathlib.Omega.{arith}
 use lib.Dec.{T, ltb, eqb, eqb→eq, lt→ltb}
 use borrow.Author.Count.{below_more}
@@ -186,3 +189,11 @@ within_one {t} s D u = go (equal_periods t) refl
         λ l. u (rw e (lt→ltb ((shortest t - 1) * hyperperiod t) (load t D * shortest t) l)) in
         let m : (shortest t - 1) * hyperperiod t ≤ shortest t * hyperperiod t = mul-le-mul_right (hyperperiod t) (omega arith) in
         le_of_mul-le-mul_right (omega arith) (shortest_positive s)
+
+-- ---- rounded up
+
+-- what the library's `div_ceil` gives
+pub ceil_up : (a b : ℕ) → 0 < b → div_ceil a b ≡ up a b
+ceil_up a b pos =
+    let C = div_ceil_times a b pos in
+    sym (div-eq_of_lt-le b (omega (arith, C.0, C.1)) (omega (arith, C.0, C.1)))

@@ -4,13 +4,15 @@
 --   Weighable t n i c top starts ends xs
 --                          table t has n rows, so weighed; c is its time, its line ends at top, starts and ends are its rows' ends there
 --   Weighs t w             w answers 13 and 14 of table t, and has the reported load and the number of sets where neither applies
-use Rattle.std.specs.Prelude.{◌≡◌, List, ℕ, length}
+use Rattle.std.specs.Prelude.{◌≡◌, List, ℕ, length, Result, IfOk}
 use Rattle.numbers.specs.Finite.{lowest}
 use Rattle.rules.specs.Bus.{Table}
 use Rattle.rules.specs.Line as line
 use Rattle.rules.specs.Loads as loads
 use Rattle.rules.specs.Refusals.{Answers, bound_checks}
 use Rattle.table.specs.Columns.{ByRow}
+use Rattle.table.specs.Refusal.{number, place}
+use Rattle.table.specs.declared.refusals.Refusal.{Refusal}
 use Rattle.time.specs.Time.{Timed}
 use Rattle.time.specs.declared.Time.{Time}
 use Rattle.verdict.specs.declared.Loaded.{Loaded}
@@ -28,7 +30,6 @@ pub record Weighable (t : Table) (n light : ℕ) (c : Time) (top : ℕ) (starts 
   pub first : ByRow t.rows (line.line_first t) starts
   pub second : ByRow t.rows (line.line_second t) ends
 
-pub record Weighs (t : Table) (w : Loaded) : Type 0 where
-  pub answers : Answers (bound_checks t) w.answer.number w.answer.place
-  pub done : w.answer.number ≡ 0
-      → (ws : List ℕ) × line.Sets t ws × (w.sets ≡ length ws) × (w.load ≡ loads.reported t ws)
+pub record Weighs (t : Table) (w : Result Loaded Refusal) : Type 0 where
+  pub answers : Answers (bound_checks t) (number w) (place w)
+  pub done : IfOk w (λ v. (ws : List ℕ) × line.Sets t ws × (v.sets ≡ length ws) × (v.load ≡ loads.reported t ws))

@@ -3,44 +3,35 @@
 
 mod weights;
 
-ghost use Rattle.std.specs.Prelude.{◌≡◌};
+ghost use Rattle.std.specs.Prelude.{◌≡◌, IfOk};
 ghost use Rattle.rules.specs.TableFile.{file_table};
 ghost use Rattle.rules.specs.Bus as bus;
 ghost use Rattle.rules.specs.Refusals.{verdict_checks};
 ghost use Rattle.rules.specs.Calls.{file_ask, Judged};
 ghost use Rattle.table.specs.Sound.{Sound};
-ghost use Rattle.table.specs.Columns.{column_table};
+ghost use Rattle.table.specs.Columns.{table_of};
+ghost use Rattle.table.specs.Refusal.{number, place};
 ghost use Rattle.verdict.specs.Weighing.{Weighable, Weighs};
-ghost use Rattle.verdict.specs.Analysed.{table_checks, blank, Accepted, Analysed};
-ghost use Rattle.verdict.specs.Verdict.{number_of, place_of, cut_of, other_of, interval_of, hyper_of, load_of, sets_of};
+ghost use Rattle.verdict.specs.Analysed.{table_checks, Accepted, Analysed};
+ghost use Rattle.verdict.specs.Verdict.{cut_of, other_of, interval_of, hyper_of, load_of, sets_of};
 ghost use Rattle.verdict.specs.Verdict.{JudgedBy, VerdictOn};
 
 use outline::Outline;
-use table::{Answer, Table};
+use table::{Columns, Reason, Refusal, Table, no_columns};
 use time::Time;
 pub use weights::put_rates;
 
 // ---- the analysis
 
-// What rows and sets weigh: the first refusal of 13 and 14, or the reported load and how many sets there are.
+// What rows and sets weigh: the reported load and how many sets there are.
 #[derive(Clone, Copy)]
 pub struct Loaded {
-    pub answer: Answer,
     pub load: u64,
     pub sets: usize,
 }
 
-fn unweighed(answer: Answer) -> Loaded
-    ensures { result.answer ≡ answer }
-{
-    Loaded {
-        answer: answer,
-        load: 0,
-        sets: 0,
-    }
-}
-
-// The rows and sets of a table weighed, whose time, line, rates and lowest light row are found; `top` is where the line ends.
+// The rows and sets of a table weighed, whose time, line, rates and lowest light row are found, or the first refusal of 13 and 14; `top`
+// is where the line ends.
 pub fn weigh<'a>(
     rows: usize,
     light: usize,
@@ -49,27 +40,25 @@ pub fn weigh<'a>(
     starts: &'a [u8; Table::ROWS],
     ends: &'a [u8; Table::ROWS],
     rate: &'a [u16; Table::ROWS],
-) -> Loaded
+) -> Result<Loaded, Refusal>
     requires { (t : bus.Table) × Weighable t rows light time top starts.now ends.now rate.now }
     ensures { (t : bus.Table) → Weighable t rows light time top starts.now ends.now rate.now
         → Weighs t result }
 {
     if light < rows {
-        return unweighed(Answer::at(Answer::LIGHT_ROW, light));
+        return Err(Refusal::at(Reason::LightRow, light));
     }
     let found = weights::weigh_line(rows, top, starts, ends, rate, time.hyper, time.interval);
     if found.over < found.sets {
-        return unweighed(Answer::at(Answer::OVER_BOUND, found.over));
+        return Err(Refusal::at(Reason::OverBound, found.over));
     }
-    Loaded {
-        answer: Answer::done(),
+    Ok(Loaded {
         load: weights::thousandths(found.largest, time.hyper),
         sets: found.sets,
-    }
+    })
 }
 
-// A table analysed: its outline, its reported load, and its rows' rates in units of 1 / h. All is 0 but the outline's answer where it is
-// refused.
+// A table analysed: its outline, its reported load, and its rows' rates in units of 1 / h.
 #[derive(Clone, Copy)]
 pub struct Analysis {
     pub outline: Outline,
@@ -77,248 +66,117 @@ pub struct Analysis {
     pub rate: [u16; Table::ROWS],
 }
 
-impl Analysis {
-    pub fn refused(answer: Answer) -> Analysis
-        ensures { result ≡ blank answer }
-    {
-        Analysis {
-            outline: Outline::refused(answer),
-            load: 0,
-            rate: [0; Table::ROWS],
-        }
-    }
-}
-
 // The analysis of a table: 10 and 11 are refused by its outline, then 13, then 14.
-pub fn analysis_of<'a>(
-    elements: usize,
-    rows: usize,
-    rings: usize,
-    cost: &'a [u16; Table::ROWS],
-    period: &'a [u16; Table::ROWS],
-    first: &'a [u8; Table::ROWS],
-    second: &'a [u8; Table::ROWS],
-    way: &'a [u8; Table::ROWS],
-) -> Analysis
-    requires { Sound (column_table elements rows rings cost.now period.now first.now second.now way.now) }
-    ensures { Analysed
-        (table_checks
-        (column_table elements rows rings cost.now period.now first.now second.now
-        way.now))
-        (column_table elements rows rings cost.now period.now first.now second.now
-        way.now) result }
+pub fn analysis_of(table: &Columns) -> Result<Analysis, Refusal>
+    requires { Sound (table_of table.now) }
+    ensures { Analysed (table_checks (table_of table.now)) (table_of table.now) result }
 {
-    let outline = outline::outline_of(elements, rows, rings, period, first, second, way);
-    let answer = outline.answer;
-    if answer.number != Answer::DONE {
-        return Analysis::refused(answer);
-    }
-    let mut rate = [0u16; Table::ROWS];
+    let outline = outline::outline_of(table)?;
     let time = outline.time;
-    let light = weights::put_rates(rows, time.hyper, time.interval, cost, period, &mut rate);
+    let mut rate = [0u16; Table::ROWS];
+    let light = weights::put_rates(
+        table.rows,
+        time.hyper,
+        time.interval,
+        &table.cost,
+        &table.period,
+        &mut rate,
+    );
     let weighing = weigh(
-        rows,
+        table.rows,
         light,
         outline.top,
         time,
         &outline.first,
         &outline.second,
         &rate,
-    );
-    let next = weighing.answer;
-    if next.number != Answer::DONE {
-        return Analysis::refused(next);
-    }
-    Analysis {
-        outline: outline,
+    )?;
+    Ok(Analysis {
+        outline,
         load: weighing.load,
-        rate: rate,
-    }
+        rate,
+    })
 }
 
 // The analysis of a file's table, or the first refusal of 1 to 9, 26, 18, 10 to 14.
-pub fn analyse(file: &[u8]) -> Analysis
+pub fn analyse(file: &[u8]) -> Result<Analysis, Refusal>
     ensures { Analysed (verdict_checks file.now) (file_table file.now) result }
 {
-    let mut cost = [0u16; Table::ROWS];
-    let mut period = [0u16; Table::ROWS];
-    let mut first = [0u8; Table::ROWS];
-    let mut second = [0u8; Table::ROWS];
-    let mut way = [0u8; Table::ROWS];
-    let head = pasted::given_into(
-        file,
-        &mut cost,
-        &mut period,
-        &mut first,
-        &mut second,
-        &mut way,
-    );
-    let answer = head.answer;
-    if answer.number != Answer::DONE {
-        return Analysis::refused(answer);
-    }
-    analysis_of(
-        head.elements,
-        head.rows,
-        head.rings,
-        &cost,
-        &period,
-        &first,
-        &second,
-        &way,
-    )
+    let mut table = no_columns();
+    pasted::given_into(file, &mut table)?;
+    analysis_of(&table)
 }
 
 // ---- the verdict
 
-// The verdict on a table: what it is on the line and in time, or why it is refused. `other` is the cut of the other ring, 0 where there is
-// one ring.
+// What an admitted table is on the line and in time. `other` is the cut of the other ring, 0 where there is one ring.
 #[derive(Clone, Copy)]
-pub enum Verdict {
-    Admitted {
-        cut: u32,
-        other: u32,
-        interval: u32,
-        hyper: u32,
-        load: u32,
-        sets: u32,
-    },
-    Refused(Answer),
-}
-
-impl Verdict {
-    pub fn number(self) -> u32
-        ensures { result ≡ number_of self }
-    {
-        match self {
-            Verdict::Admitted {
-                cut: _,
-                other: _,
-                interval: _,
-                hyper: _,
-                load: _,
-                sets: _,
-            } => Answer::DONE,
-            Verdict::Refused(answer) => answer.number,
-        }
-    }
-
-    pub fn place(self) -> u32
-        ensures { result ≡ place_of self }
-    {
-        match self {
-            Verdict::Admitted {
-                cut: _,
-                other: _,
-                interval: _,
-                hyper: _,
-                load: _,
-                sets: _,
-            } => 0,
-            Verdict::Refused(answer) => answer.place,
-        }
-    }
+pub struct Admitted {
+    pub cut: u32,
+    pub other: u32,
+    pub interval: u32,
+    pub hyper: u32,
+    pub load: u32,
+    pub sets: u32,
 }
 
 // The verdict on a table. Neither the list of its sets nor its analysis is made up.
-fn judge_table<'a>(
-    elements: usize,
-    rows: usize,
-    rings: usize,
-    cost: &'a [u16; Table::ROWS],
-    period: &'a [u16; Table::ROWS],
-    first: &'a [u8; Table::ROWS],
-    second: &'a [u8; Table::ROWS],
-    way: &'a [u8; Table::ROWS],
-) -> Verdict
-    requires { Sound (column_table elements rows rings cost.now period.now first.now second.now way.now) }
-    ensures { JudgedBy
-        (table_checks
-        (column_table elements rows rings cost.now period.now first.now second.now
-        way.now))
-        (column_table elements rows rings cost.now period.now first.now second.now
-        way.now) result }
+fn judge_table(table: &Columns) -> Result<Admitted, Refusal>
+    requires { Sound (table_of table.now) }
+    ensures { JudgedBy (table_checks (table_of table.now)) (table_of table.now) result }
 {
-    let laid = outline::layout_of(elements, rows, rings, period, first, second, way);
-    let answer = laid.answer;
-    if answer.number != Answer::DONE {
-        return Verdict::Refused(answer);
-    }
+    let laid = outline::layout_of(table)?;
     let time = laid.time;
     let mut rate = [0u16; Table::ROWS];
-    let light = weights::put_rates(rows, time.hyper, time.interval, cost, period, &mut rate);
+    let light = weights::put_rates(
+        table.rows,
+        time.hyper,
+        time.interval,
+        &table.cost,
+        &table.period,
+        &mut rate,
+    );
     let weighing = weigh(
-        rows,
+        table.rows,
         light,
         laid.top,
         time,
         &laid.line.first,
         &laid.line.second,
         &rate,
-    );
-    let next = weighing.answer;
-    if next.number != Answer::DONE {
-        return Verdict::Refused(next);
-    }
-    Verdict::Admitted {
+    )?;
+    Ok(Admitted {
         cut: laid.cut as u32,
         other: laid.other as u32,
         interval: time.interval as u32,
         hyper: time.hyper as u32,
         load: weighing.load as u32,
         sets: weighing.sets as u32,
-    }
+    })
 }
 
-// The verdict that an analysis amounts to.
-pub fn verdict_of(table: Analysis) -> Verdict
-    requires { table.outline.answer.number ≡ 0 → ((t : bus.Table) × Accepted t table) }
-    ensures { VerdictOn table result }
+// The verdict that an analysis amounts to; its refusal is handed on.
+pub fn verdict_of(analysed: Result<Analysis, Refusal>) -> Result<Admitted, Refusal>
+    requires { IfOk analysed (λ a. (t : bus.Table) × Accepted t a) }
+    ensures { VerdictOn analysed result }
 {
-    let answer = table.outline.answer;
-    if answer.number != Answer::DONE {
-        return Verdict::Refused(answer);
-    }
-    Verdict::Admitted {
+    let table = analysed?;
+    Ok(Admitted {
         cut: table.outline.cut as u32,
         other: table.outline.other as u32,
         interval: table.outline.time.interval as u32,
         hyper: table.outline.time.hyper as u32,
         load: table.load as u32,
         sets: table.outline.sets as u32,
-    }
+    })
 }
 
 // Whether the bus can carry the table of a file.
-pub fn judge(file: &[u8]) -> Verdict
-    ensures { Judged (file_ask file.now) (number_of result) (place_of result)
+pub fn judge(file: &[u8]) -> Result<Admitted, Refusal>
+    ensures { Judged (file_ask file.now) (number result) (place result)
         (cut_of result) (other_of result) (interval_of result) (hyper_of result) (load_of result) (sets_of result) }
 {
-    let mut cost = [0u16; Table::ROWS];
-    let mut period = [0u16; Table::ROWS];
-    let mut first = [0u8; Table::ROWS];
-    let mut second = [0u8; Table::ROWS];
-    let mut way = [0u8; Table::ROWS];
-    let head = pasted::given_into(
-        file,
-        &mut cost,
-        &mut period,
-        &mut first,
-        &mut second,
-        &mut way,
-    );
-    let answer = head.answer;
-    if answer.number != Answer::DONE {
-        return Verdict::Refused(answer);
-    }
-    judge_table(
-        head.elements,
-        head.rows,
-        head.rings,
-        &cost,
-        &period,
-        &first,
-        &second,
-        &way,
-    )
+    let mut table = no_columns();
+    pasted::given_into(file, &mut table)?;
+    judge_table(&table)
 }

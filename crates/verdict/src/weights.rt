@@ -63,15 +63,13 @@ pub fn put_rates<'a>(
     let mut light: usize = 0;
     let mut last: u64 = 1;
     let mut jobs = hyper;
-    let mut i: usize = 0;
-    while i < rows {
+    for i in 0..rows {
         let own = table::slots_at(cost, i);
         let next = table::slots_at(period, i);
         jobs = jobs_in(hyper, last, jobs, next);
         last = next;
         rate[i] = (jobs * own) as u16;
         light = lowest_next(light, i, is_light(own, interval, next));
-        i += 1;
     }
     light
 }
@@ -87,12 +85,6 @@ fn is_over(load: u64, hyper: u64, interval: u64, equal: bool) -> bool
         return load > hyper;
     }
     load * interval > (interval - 1) * hyper
-}
-
-fn larger(a: u64, b: u64) -> u64
-    ensures { result ≡ max a b }
-{
-    if a < b { b } else { a }
 }
 
 // What is found of sets: how many there are, the lowest over its bound (their number where none is), and the largest load.
@@ -117,7 +109,7 @@ fn weigh_set(found: Weights, closes: bool, load: u64, hyper: u64, interval: u64)
         return Weights {
             sets: sets,
             over: lowest_next(found.over, found.sets, passes),
-            largest: larger(found.largest, load),
+            largest: found.largest.max(load),
         };
     }
     found
@@ -157,14 +149,12 @@ fn rates_at(
     ensures { SumsAt rows (at first.now) (at rate.now) joining.new
         × SumsAt rows (at second.now) (at rate.now) leaving.new }
 {
-    let mut i: usize = 0;
-    while i < rows {
+    for i in 0..rows {
         let from = table::end_at(first, i);
         let to = table::end_at(second, i);
         let more = table::slots_at(rate, i) as u32;
-        joining[from] = joining[from] + more;
-        leaving[to] = leaving[to] + more;
-        i += 1;
+        joining[from] += more;
+        leaving[to] += more;
     }
 }
 
@@ -193,14 +183,12 @@ pub fn weigh_line<'a>(
     };
     let mut started = false;
     let mut load: u64 = 0;
-    let mut e: usize = 0;
-    while e <= top {
+    for e in 0..top + 1 {
         let starting = joining[e] as u64;
         let ending = leaving[e] as u64;
         found = weigh_set(found, closes(started, ending != 0), load, hyper, interval);
         started = goes_on(started, starting != 0, ending != 0);
         load = load - ending + starting;
-        e += 1;
     }
     found
 }
@@ -210,5 +198,5 @@ pub fn thousandths(load: u64, hyper: u64) -> u64
     requires { (load ≤ max_rows * max_slots) × (1 ≤ hyper) × (hyper ≤ max_slots) }
     ensures { result ≡ up (1000 * load) hyper }
 {
-    (1000 * load + (hyper - 1)) / hyper
+    (1000 * load).div_ceil(hyper)
 }

@@ -10,11 +10,14 @@ ghost use Rattle.rules.specs.Bounds.{max_rows, max_rings};
 ghost use Rattle.rules.specs.TableFile.{header_size, last_size, row_with, row_size, row_numbers, last_of, memory_with, memory_labelled_with};
 ghost use Rattle.rules.specs.TableFile.{table_mark, row_bytes, file_header};
 ghost use Rattle.rules.specs.Calls.{lent, Written};
+ghost use Rattle.table.specs.Refusal.{number, place};
 ghost use Rattle.table.specs.Rows.{in_file, EndsFit};
 ghost use Rattle.writer.specs.Written.{WrittenWith};
 
 pub use memory::{check_version, row_of};
-use table::{Answer, Row, Table, is_no_mark, mark_byte, put_start, put16, rings_of, row_place};
+use table::{
+    Reason, Refusal, Row, Table, is_no_mark, mark_byte, put_start, put16, rings_of, row_place,
+};
 
 // The six bytes that all rows have, from `at` on.
 fn put_bytes(row: Row, at: usize, out: &mut [u8])
@@ -79,8 +82,7 @@ fn put_all_bytes(rings: usize, version: u64, numbers: &[u16], rows: usize, out: 
         ++ row_bytes (last_size rings version) (memory_labelled_with rings 0 rows numbers.now))
         out.old }
 {
-    let mut i: usize = 0;
-    while i < rows {
+    for i in 0..rows {
         put_row(
             rings,
             version,
@@ -88,7 +90,6 @@ fn put_all_bytes(rings: usize, version: u64, numbers: &[u16], rows: usize, out: 
             row_place(rings, version, i),
             out,
         );
-        i += 1;
     }
 }
 
@@ -100,18 +101,15 @@ fn write_with(
     rows: u64,
     numbers: &[u16],
     out: &mut [u8],
-) -> Answer
+) -> Result<(), Refusal>
     requires { rings ≤ max_rings }
-    ensures { WrittenWith rings version elements rows numbers.now out.old out.new result.number
-        result.place }
+    ensures { WrittenWith rings version elements rows numbers.now out.old out.new (number result)
+        (place result) }
 {
-    let answer = check_version(rings, version, elements as usize, rows as usize, numbers);
-    if answer.number != Answer::DONE {
-        return answer;
-    }
+    check_version(rings, version, elements as usize, rows as usize, numbers)?;
     let count = rows as usize;
     if out.len() < row_place(rings, version, count) {
-        return Answer::at(Answer::SHORT_OUTPUT, 0);
+        return Err(Reason::ShortOutput.into());
     }
     put_header(
         mark_byte(rings),
@@ -121,7 +119,7 @@ fn write_with(
         out,
     );
     put_all_bytes(rings, version, numbers, count, out);
-    answer
+    Ok(())
 }
 
 // The writer: checks 2 to 9, 26, 20, then 17. Fills the front of `out` with the file's bytes, with the mark and in the version that it is
@@ -133,12 +131,12 @@ pub fn write(
     rows: u64,
     numbers: &[u16],
     out: &mut [u8],
-) -> Answer
+) -> Result<(), Refusal>
     ensures { Written mark.now version elements rows numbers.now out.old out.new
-        result.number result.place }
+        (number result) (place result) }
 {
     if is_no_mark(mark) {
-        return Answer::at(Answer::WRONG_MARK, 0);
+        return Err(Reason::WrongMark.into());
     }
     write_with(rings_of(mark), version, elements, rows, numbers, out)
 }
@@ -150,9 +148,9 @@ pub fn write_plain(
     rows: u64,
     numbers: &[u16],
     out: &mut [u8],
-) -> Answer
+) -> Result<(), Refusal>
     ensures { Written table_mark version elements rows numbers.now out.old out.new
-        result.number result.place }
+        (number result) (place result) }
 {
     write_with(1, version, elements, rows, numbers, out)
 }

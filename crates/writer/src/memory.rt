@@ -3,9 +3,10 @@ ghost use Rattle.std.specs.Prelude.{ℕ, ◌+◌, ◌*◌, ◌≤◌, length};
 ghost use Rattle.rules.specs.Bounds.{max_rows};
 ghost use Rattle.rules.specs.TableFile.{row_numbers, memory_with, memory_labelled_with};
 ghost use Rattle.rules.specs.Refusals.{Answers, row_checks, memory_checks, label_checks, version_checks};
+ghost use Rattle.table.specs.Refusal.{number, place};
 ghost use Rattle.table.specs.Rows.{IsRow};
 
-use table::{Answer, Row, Table, is_unknown, label_in, row_fault, size_fault, way_in};
+use table::{Reason, Refusal, Row, Table, is_unknown, label_in, row_fault, size_fault, way_in};
 
 // Row `i` of a slice that holds it, in a table with so many rings.
 pub fn row_of(rings: usize, numbers: &[u16], i: usize) -> Row
@@ -24,49 +25,46 @@ pub fn row_of(rings: usize, numbers: &[u16], i: usize) -> Row
 }
 
 // Checks 7 to 9 and 26, in a slice that holds the rows.
-fn check_row_numbers(rings: usize, elements: usize, rows: usize, numbers: &[u16]) -> Answer
+fn check_row_numbers(
+    rings: usize,
+    elements: usize,
+    rows: usize,
+    numbers: &[u16],
+) -> Result<(), Refusal>
     requires { (rows ≤ max_rows) × (row_numbers * rows ≤ length numbers.now) }
-    ensures { Answers (row_checks (memory_with rings elements rows numbers.now)) result.number result.place }
+    ensures { Answers (row_checks (memory_with rings elements rows numbers.now)) (number result) (place result) }
 {
-    let mut i: usize = 0;
-    while i < rows {
-        let number = row_fault(elements, rings, row_of(rings, numbers, i));
-        if number != Answer::DONE {
-            return Answer::at(number, i);
+    for i in 0..rows {
+        if let Err(reason) = row_fault(elements, rings, row_of(rings, numbers, i)) {
+            return Err(Refusal::at(reason, i));
         }
-        i += 1;
     }
-    Answer::done()
+    Ok(())
 }
 
 // Checks 4 to 9 and 26 of a slice.
-fn check_numbers(rings: usize, elements: usize, rows: usize, numbers: &[u16]) -> Answer
-    ensures { Answers (memory_checks rings elements rows numbers.now) result.number result.place }
+fn check_numbers(rings: usize, elements: usize, rows: usize, numbers: &[u16]) -> Result<(), Refusal>
+    ensures { Answers (memory_checks rings elements rows numbers.now) (number result) (place result) }
 {
-    let number = size_fault(elements, rows, numbers.len(), 0, Table::ROW_NUMBERS);
-    if number != Answer::DONE {
-        return Answer::at(number, 0);
-    }
+    size_fault(elements, rows, numbers.len(), 0, Table::ROW_NUMBERS)?;
     check_row_numbers(rings, elements, rows, numbers)
 }
 
 // Check 20, in a slice that holds the rows: version 1 has no place for a label. Rows of two rings have none.
-fn check_labels(rings: usize, version: u64, rows: usize, numbers: &[u16]) -> Answer
+fn check_labels(rings: usize, version: u64, rows: usize, numbers: &[u16]) -> Result<(), Refusal>
     requires { (rows ≤ max_rows) × (row_numbers * rows ≤ length numbers.now) }
-    ensures { (M : ℕ) → Answers (label_checks version (memory_labelled_with rings M rows numbers.now)) result.number
-        result.place }
+    ensures { (M : ℕ) → Answers (label_checks version (memory_labelled_with rings M rows numbers.now)) (number result)
+        (place result) }
 {
     if version != Table::VERSION_1 {
-        return Answer::done();
+        return Ok(());
     }
-    let mut i: usize = 0;
-    while i < rows {
+    for i in 0..rows {
         if label_in(rings, numbers[Table::ROW_NUMBERS * i + 4]) != 0 {
-            return Answer::at(Answer::LOST_LABEL, i);
+            return Err(Refusal::at(Reason::LostLabel, i));
         }
-        i += 1;
     }
-    Answer::done()
+    Ok(())
 }
 
 // Checks 3 to 9, 26 and 20 of a slice that is to be written in this version, with so many rings.
@@ -76,15 +74,12 @@ pub fn check_version(
     elements: usize,
     rows: usize,
     numbers: &[u16],
-) -> Answer
-    ensures { Answers (version_checks rings version elements rows numbers.now) result.number result.place }
+) -> Result<(), Refusal>
+    ensures { Answers (version_checks rings version elements rows numbers.now) (number result) (place result) }
 {
     if is_unknown(rings, version) {
-        return Answer::at(Answer::WRONG_VERSION, 0);
+        return Err(Reason::WrongVersion.into());
     }
-    let answer = check_numbers(rings, elements, rows, numbers);
-    if answer.number != Answer::DONE {
-        return answer;
-    }
+    check_numbers(rings, elements, rows, numbers)?;
     check_labels(rings, version, rows, numbers)
 }

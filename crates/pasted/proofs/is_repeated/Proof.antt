@@ -17,12 +17,12 @@ use Rattle.pasted.proofs.is_repeated.Statement.{statement}
 use Rattle.pasted.proofs.is_repeated.Tie as tie
 
 abbrev invariant-loop : tie.invariant-loop-left
-invariant-loop rows period second way i left₀ left =
-    any max_rows (λ j. bit left j && alike (at period) (at second) (at way) i j)
-    ≡ any max_rows (λ j. bit rows j && alike (at period) (at second) (at way) i j)
+invariant-loop rows table i left₀ left =
+    any max_rows (λ j. bit left j && alike (at table.period) (at table.second) (at table.way) i j)
+    ≡ any max_rows (λ j. bit rows j && alike (at table.period) (at table.second) (at table.way) i j)
 
 abbrev decreases-loop : tie.decreases-loop-left
-decreases-loop rows period second way i left₀ left = count 64 (bit left)
+decreases-loop rows table i left₀ left = count 64 (bit left)
 
 loop-holds : tie.Need-loop-left-init invariant-loop decreases-loop
 loop-holds c = refl
@@ -58,7 +58,7 @@ loop-again c =
     let z = d in
     let a = z.args in
     left_out z.loop-left.left d.lowest_row-j.result
-    (alike (at a.period.now) (at a.second.now) (at a.way.now) a.i) d.lowest_row-j.ensures.0
+    (alike (at a.table.now.period) (at a.table.now.second) (at a.table.now.way) a.i) d.lowest_row-j.ensures.0
     (sym c.is_alike.ensures ∙ c.if-is_alike.false)
     ∙ z.loop-left.invariant
 

@@ -17,7 +17,7 @@ abbrev list : tie.Start → List ℕ
 list z = take (count z) z.args.table.outline.words
 
 found : (z : tie.Start) → (length (list z) ≡ count z) × (count z ≤ max_rows)
-found z = list_count (z.requires.0 z.requires.1).1
+found z = list_count z.requires.0.1
 
 array-share-prefix-words : tie.Need-slice_bounds-words-end
 array-share-prefix-words c =
@@ -28,7 +28,7 @@ slice-aggregate-put-words : tie.Need-slice_bounds-put_words-end
 slice-aggregate-put-words c = sym (found c.before.before.before).0
 
 put-words-requires : tie.Need-put_words-requires
-put-words-requires c κs = let z = c.before.before.before.before in omega (arith, (found z).0, (found z).1, z.requires.2)
+put-words-requires c κs = let z = c.before.before.before.before in omega (arith, (found z).0, (found z).1, z.requires.1)
 
 same_length : tie.Need-shape_of-out
 same_length c = search rules

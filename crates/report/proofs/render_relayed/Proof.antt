@@ -14,14 +14,14 @@ use Rattle.report.proofs.Printed.{read_input, rendered_asked}
 use Rattle.report.proofs.render_relayed.Statement.{statement}
 use Rattle.report.proofs.render_relayed.Tie as tie
 
-abbrev entry : tie.After-least-read → tie.Start
+abbrev entry : tie.After-min-read → tie.Start
 entry z = z.before.before.before
 
-abbrev file : tie.After-least-read → List ℕ
-file z = take z.least-read.result (entry z).args.input.now
+abbrev file : tie.After-min-read → List ℕ
+file z = take z.min-read.result (entry z).args.input.now
 
-least-requires : tie.Need-least-read-requires
-least-requires c κs = search rules
+min-requires : tie.Need-min-read-requires
+min-requires c κs = search rules
 
 slice-aggregate-analyse : tie.Need-slice_bounds-analyse-end
 slice-aggregate-analyse c = sym (length-take-le _ _ (omega arith))
@@ -41,10 +41,10 @@ returns c =
     let a = (entry z).args in
     let w = c.put_analysis in
     subst (λ (f : List ℕ). RenderedFor (relayed_ask f a.relay) a.out.now w.new.out w.result)
-    (read_input a.input.now _ z.least-read.ensures)
+    (read_input a.input.now _ z.min-read.ensures)
     (rendered_asked (relayed_ask (file z) a.relay) (relayed_numbered (file z) a.relay) c.analyse.ensures a.out.now _ _
     w.ensures)
 
 pub render_relayed_spec : {M : Type 1} → statement M
 render_relayed_spec =
-    tie.close (tie.spec least-requires slice-aggregate-analyse analyse-requires put-analysis-requires same_length returns)
+    tie.close (tie.spec min-requires slice-aggregate-analyse analyse-requires put-analysis-requires same_length returns)

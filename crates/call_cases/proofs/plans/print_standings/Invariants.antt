@@ -1,9 +1,0 @@
--- Four of them.
-use Rattle.std.proofs.Common.{◌-◌, ◌≤◌}
-use Rattle.call_cases.proofs.plans.print_standings.Given as goal
-
-abbrev pub invariant-loop-i : goal.invariant-loop-i
-invariant-loop-i g l = l.i ≤ 4
-
-abbrev pub decreases-loop-i : goal.decreases-loop-i
-decreases-loop-i g l = 4 - l.i

@@ -1,0 +1,7 @@
+-- place_row: row i has come to slot s.
+use Rattle.numbers.specs.Lists.{at}
+use Rattle.slots.proofs.PlainWalk.{Placing}
+use Rattle.slots.proofs.plain.place_row.Given as goal
+
+abbrev pub invariant-loop-s : goal.invariant-loop-s
+invariant-loop-s l = Placing (at l.first) (at l.second) l.i l.load l.slots l.initial.words l.s l.left l.words

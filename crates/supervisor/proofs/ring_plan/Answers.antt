@@ -1,0 +1,6 @@
+-- ring_plan: number and place are the whole plan's, and so small that they fit one number.
+use Rattle.rules.proofs.Small.{verdict_small, plan_small}
+use Rattle.supervisor.proofs.ring_plan.Goals as goal
+
+pub told-requires : goal.told-requires
+told-requires c = plan_small _ _ _ _ _ (verdict_small _ _ _) c.whole_plan.ensures.planned.answers
