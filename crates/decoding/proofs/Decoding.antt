@@ -7,10 +7,9 @@ use mathlib.Core.List.{List}
 use mathlib.Core.Bool.{Bool, true, false, cond}
 use Prim.Native.Nat.{ℕ, ◌+◌, ◌*◌, ◌≤◌, ◌<◌}
 use native.Mathlib.Nat.{mul-le-mul_left}
-use native.Mathlib.Decide.{ℕ_discrete}
 use native.Mathlib.Omega.{arith}
 use lib.Dec.{eqb}
-use lib.ListN.{set, replicate, length-replicate}
+use lib.ListN.{set, length-replicate}
 use lib.Seq.{ext_get_or}
 use borrow.Author.Tests.{eq-eqb, ne_eqb}
 use Rattle.numbers.specs.Lists.{at}
@@ -22,11 +21,11 @@ use Rattle.rules.specs.Bus.{Table, Labelled}
 use Rattle.rules.specs.TableFile.{version_2, header_size, last_size, row_size, way_in, label_in, read16, version}
 use Rattle.rules.specs.TableFile.{file_rings, file_table, file_labelled}
 use Rattle.rules.specs.Refusals.{Check, Answers, header_checks, row_checks, file_checks}
-use Rattle.rules.proofs.Answers.{None, stopped, joined, answers_only}
+use Rattle.rules.proofs.Answers.{None, stopped, joined}
 use Rattle.table.specs.Columns.{ByRow, Whole, table_of, Holds, HoldsLabels, OneWay, no_columns, no_labels}
 use Rattle.table.specs.Refusal.{number_of}
 use Rattle.std.specs.Prelude.{Result, Ok, Err}
-use Rattle.decoding.specs.Decoded.{StandsAt, DecodingTo, DecodesInto, Decodes}
+use Rattle.decoding.specs.Decoded.{StandsAt, DecodingTo, Empty, DecodesInto, Decodes}
 use Rattle.table.specs.Rows.{IsRow}
 use Rattle.table.specs.declared.refusals.Reason.{Reason}
 use Rattle.table.specs.declared.refusals.Refusal.{Refusal}
@@ -38,12 +37,13 @@ use Rattle.table.proofs.ByRow.{by_row_start, by_row_put, by_row_all, past_end}
 use Rattle.table.proofs.Faults.{passed_of}
 use Rattle.table.proofs.RowSizes.{label_two, label_none, last_way, last_label}
 
-pub decoding_start : (t : Table) → DecodingTo t 0 no_columns
-decoding_start t = record {
-  costs = by_row_start t.cost;
-  periods = by_row_start t.period;
-  firsts = by_row_start t.first;
-  seconds = by_row_start t.second;
+-- columns of nothing but 0 are no rows of any table
+pub decoding_start : (t : Table) {c : Columns} → Empty c → DecodingTo t 0 c
+decoding_start t Z = record {
+  costs = rw Z.costs (by_row_start t.cost);
+  periods = rw Z.periods (by_row_start t.period);
+  firsts = rw Z.firsts (by_row_start t.first);
+  seconds = rw Z.seconds (by_row_start t.second);
 }
 
 pub decoding_next : {t : Table} {i : ℕ} {k : Columns} {c p f s : ℕ} → DecodingTo t i k

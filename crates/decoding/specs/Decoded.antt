@@ -3,13 +3,15 @@
 --   StandsAt f p d r   r has the numbers that stand at byte p of file f, direction d and label 0
 --   DecodingTo t i c   the columns c hold the first i rows of t, but for their directions, and 0 in every other place
 --   SameBeside c d     beside those columns, c and d are the same
+--   Empty c            columns of nothing but 0, whatever is counted beside them
 --   DecodesInto cs t a c
 --                      a answers the checks cs; where none of them applies, c holds table t, and else it counts no elements, rows or rings:
 --                      only one a does, and then only one c that holds a table (proofs/Decoding)
 --   Decodes cs t r     r answers the checks cs, and holds table t and its labels where none of them applies: only one r does
 --                      (proofs/Decoding)
-use Rattle.std.specs.Prelude.{◌≡◌, List, ℕ, ◌+◌, Result, IfOk, IfErr}
+use Rattle.std.specs.Prelude.{◌≡◌, List, ℕ, ◌+◌, replicate, Result, IfOk, IfErr}
 use Rattle.numbers.specs.Lists.{at}
+use Rattle.rules.specs.Bounds.{max_rows}
 use Rattle.rules.specs.Bus.{Table, Labelled}
 use Rattle.rules.specs.TableFile.{read16}
 use Rattle.rules.specs.Refusals.{Check, Answers}
@@ -39,6 +41,13 @@ pub record SameBeside (c d : Columns) : Type 0 where
   pub rows : d.rows ≡ c.rows
   pub rings : d.rings ≡ c.rings
   pub ways : d.way ≡ c.way
+
+pub record Empty (c : Columns) : Type 0 where
+  pub costs : c.cost ≡ replicate max_rows 0
+  pub periods : c.period ≡ replicate max_rows 0
+  pub firsts : c.first ≡ replicate max_rows 0
+  pub seconds : c.second ≡ replicate max_rows 0
+  pub ways : c.way ≡ replicate max_rows 0
 
 pub record DecodesInto (cs : List Check) (t : Table) (a : Result Unit Refusal) (c : Columns) : Type 0 where
   pub answers : Answers cs (number a) (place a)

@@ -6,9 +6,9 @@ ghost use Rattle.rules.specs.Bounds.{max_rows};
 ghost use Rattle.rules.specs.TableFile.{table_mark, version_2, header_size, row_size, mark, version};
 ghost use Rattle.rules.specs.TableFile.{file_rings, file_table, file_labelled};
 ghost use Rattle.rules.specs.Refusals.{Answers, header_checks, row_checks, file_checks};
-ghost use Rattle.table.specs.Columns.{Whole, HoldsLabels, no_columns};
+ghost use Rattle.table.specs.Columns.{Whole, HoldsLabels};
 ghost use Rattle.table.specs.Refusal.{why, number, place};
-ghost use Rattle.decoding.specs.Decoded.{StandsAt, DecodingTo, SameBeside, DecodesInto, Decodes};
+ghost use Rattle.decoding.specs.Decoded.{StandsAt, DecodingTo, SameBeside, Empty, DecodesInto, Decodes};
 ghost use Rattle.numbers.specs.Decides.{Decides};
 
 use table::{
@@ -158,11 +158,14 @@ fn labels_of(file: &[u8]) -> [u16; Table::ROWS]
     labels
 }
 
-// Checks 1 to 9 and 26. The table of a passed file is written to columns that are 0: lent, they are nowhere copied.
+// Checks 1 to 9 and 26. The table of a passed file is written to columns that are 0, whatever they count: lent, they are nowhere copied.
 pub fn decode_into(file: &[u8], table: &mut Columns) -> Result<(), Refusal>
-    requires { table.old ≡ no_columns }
+    requires { Empty table.old }
     ensures { DecodesInto (file_checks file.now) (file_table file.now) result table.new }
 {
+    table.elements = 0;
+    table.rows = 0;
+    table.rings = 0;
     header_fault(file)?;
     put_ways(file, &mut table.way);
     put_rows(file, table)?;

@@ -9,9 +9,9 @@ ghost use Rattle.rules.specs.Bounds.{max_elements, max_rows};
 ghost use Rattle.rules.specs.Bus.{pasted};
 ghost use Rattle.rules.specs.TableFile.{file_table, file_labelled};
 ghost use Rattle.rules.specs.Refusals.{Answers, pasted_checks, given_checks, one_ring_checks};
-ghost use Rattle.table.specs.Columns.{table_of, no_columns};
+ghost use Rattle.table.specs.Columns.{table_of};
 ghost use Rattle.table.specs.Refusal.{number, place};
-ghost use Rattle.decoding.specs.Decoded.{DecodesInto, Decodes};
+ghost use Rattle.decoding.specs.Decoded.{Empty, DecodesInto, Decodes};
 ghost use Rattle.pasted.specs.Alike.{alike, Rowed};
 
 use decoding::Decoded;
@@ -79,9 +79,9 @@ fn check_pasted(table: &Columns) -> Result<(), Refusal>
     Ok(())
 }
 
-// The first refusal of 1 to 9, 26 and 18, or the table of a file, written to columns that are 0.
+// The first refusal of 1 to 9, 26 and 18, or the table of a file, written to columns that are 0, whatever they count.
 pub fn given_into(file: &[u8], table: &mut Columns) -> Result<(), Refusal>
-    requires { table.old ≡ no_columns }
+    requires { Empty table.old }
     ensures { DecodesInto (given_checks file.now) (file_table file.now) result table.new }
 {
     decoding::decode_into(file, table)?;

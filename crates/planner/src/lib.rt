@@ -138,7 +138,7 @@ impl Planner {
 
     // One interval of an analysed table: writes its words to the front of `out` and hands back the planner moved on by it.
     pub fn step_on(
-        self,
+        mut self,
         analysed: Result<Analysis, Refusal>,
         out: &mut [u64],
     ) -> Result<Planner, Refusal>
@@ -159,14 +159,15 @@ impl Planner {
             return Err(Refusal::from(Reason::ShortOutput));
         }
         let after = course::plan_intervals(table, false, slot, end, self.totals, out);
-        Ok(Planner {
+        self = Planner {
             stage: stage_after(end, time.hyper, k + 1),
             totals: after,
-        })
+        };
+        Ok(self)
     }
 
     // One interval of a file's table.
-    pub fn step(self, file: &[u8], out: &mut [u64]) -> Result<Planner, Refusal>
+    pub fn step(mut self, file: &[u8], out: &mut [u64]) -> Result<Planner, Refusal>
         ensures { StepAnswer (file_ask file.now) self result out.old out.new }
     {
         self.step_on(verdict::analyse(file), out)

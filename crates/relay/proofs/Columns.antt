@@ -15,7 +15,7 @@ use Rattle.rules.specs.Bus.{Table, mirror, route_through, through}
 use Rattle.table.specs.declared.columns.Columns.{Columns}
 use Rattle.table.specs.declared.Row as code
 use Rattle.table.specs.Sound.{Sound}
-use Rattle.table.specs.Columns.{Holds}
+use Rattle.table.specs.Columns.{table_of, Holds, HasRow}
 use Rattle.rules.specs.Relay.{Row, row_of, no_row, of_rows, to_relay, from_relay, becomes, split_rows, split}
 use Rattle.relay.specs.Splitting.{numbers_of, placed, Fits}
 use Rattle.relay.proofs.Rows.{stands_more, stands_most}
@@ -170,3 +170,9 @@ module _ (t : Table) where
       h
       ∙ (λ j.
       route_through t.elements (mirror t.elements (p j) (q j)) (mirror t.elements (p j) (s j)) (mirror t.elements (p j) e))
+
+-- a row of columns has these numbers
+pub row_numbers_lem : (c : Columns) {i w l : ℕ} {x : code.Row} → HasRow c.cost c.period c.first c.second i w l x
+    → w ≡ at c.way i → numbers_of x ≡ row_of (table_of c) i
+row_numbers_lem c H e =
+    λ j. record { cost = H.cost j; period = H.period j; first = H.first j; second = H.second j; way = (H.way ∙ e) j }

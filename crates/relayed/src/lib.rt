@@ -24,8 +24,8 @@ use verdict::{Admitted, Analysis};
 pub fn analyse(file: &[u8], relay: usize) -> Result<Analysis, Refusal>
     ensures { Analysed (relayed_checks file.now relay) (split (file_table file.now) relay) result }
 {
-    let table = relay::split_file(file, relay)?;
-    verdict::analysis_of(&table)
+    let split = relay::split_file(file, relay)?;
+    verdict::analysis_of(&split)
 }
 
 // Whether the bus can carry the table of a file with a relay.

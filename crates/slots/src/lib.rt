@@ -67,7 +67,10 @@ pub fn fill<'a>(
             let row = 1u64 << i;
             let mut left = table::slots_at(load, i) as usize;
             // s goes on from stretch to stretch, so no range has its places
-            while s < slots && left != 0 {
+            'slots: while s < slots {
+                if left == 0 {
+                    break 'slots;
+                }
                 let to = usize::from(end[k]);
                 if element < usize::from(last[k]) {
                     s = to;

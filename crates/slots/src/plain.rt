@@ -63,9 +63,9 @@ fn place_row<'a>(
 {
     let row = 1u64 << i;
     let mut left = load;
-    for s in 0..slots {
+    'slots: for s in 0..slots {
         if left == 0 {
-            break;
+            break 'slots;
         }
         if is_free(first, second, i, words[s]) {
             words[s] |= row;

@@ -15,7 +15,7 @@ use Rattle.stretches.proofs.Stretched.{stretched_low, stretched_end}
 use Rattle.stretches.proofs.Course.{coming_start, coming_end, along_start, along_end}
 use Rattle.stretches.proofs.Course.{turning_start, turning_skip, turning_take, turning_end}
 use Rattle.slots.proofs.fill.Goals as goal
-use Rattle.slots.proofs.fill.Goals.{else-loop-s-test, then-loop-s-test+else-left-ne0}
+use Rattle.slots.proofs.fill.Goals.{else-slots-test, then-slots-test+then-left-eq0}
 
 -- a link leads to one of the rows there can be
 linked : {n : ℕ} {f g : ℕ → ℕ} {top e j r : ℕ} {head next : List ℕ} → ChainedRows n f g top head next → Link n f e j r → 0 < r
@@ -53,8 +53,8 @@ slots_at-left-requires c =
     let O = c.requires.0.2 in
     linked O (c.loop-r.invariant.1 _ _ O).link (omega (arith, c.loop-r-test.true))
 
-pub loop-s-init : goal.loop-s-init
-loop-s-init c = (
+pub slots-init : goal.slots-init
+slots-init c = (
   c.loop-r.invariant.0,
   λ n f O.
       let A = c.loop-r.invariant.1 n f O in
@@ -76,13 +76,13 @@ loop-r-smaller c =
 
 pub loop-r-preserved : goal.loop-r-preserved
 loop-r-preserved c = (
-  c.loop-s.invariant.0,
+  c.slots.invariant.0,
   λ n f O.
-      let T = c.loop-s.invariant.1 n f O in
+      let T = c.slots.invariant.1 n f O in
       turning_end T (
-      elim c.loop-s-test.branch [
-        | else-loop-s-test z ↦ inl z.loop-s-test.false
-        | then-loop-s-test+else-left-ne0 z ↦ inr (omega (arith, z.if-left-ne0.false))
+      elim c.slots-test.branch [
+        | else-slots-test z ↦ inl z.slots-test.false
+        | then-slots-test+then-left-eq0 z ↦ inr (omega (arith, z.if-left-eq0.true))
       ]
       )
       (O.chained.nexts (c.loop-r.r - 1) (omega arith) T.row),
@@ -105,30 +105,30 @@ returns c n f O =
 
 pub offset_bounds-end-k : goal.offset_bounds-end-k
 offset_bounds-end-k c =
-    let low : c.loop-s.k < most_stretches = stretched_low (c.loop-s.invariant.1 _ _ c.requires.0.2).stretched c.loop-s-test.true in
+    let low : c.slots.k < most_stretches = stretched_low (c.slots.invariant.1 _ _ c.requires.0.2).stretched c.slots-test.true in
     omega arith
 
 pub bounds-end-k : goal.bounds-end-k
-bounds-end-k c = stretched_low (c.loop-s.invariant.1 _ _ c.requires.0.2).stretched c.loop-s-test.true
+bounds-end-k c = stretched_low (c.slots.invariant.1 _ _ c.requires.0.2).stretched c.slots-test.true
 
 pub bounds-last-k : goal.bounds-last-k
-bounds-last-k c = stretched_low (c.loop-s.invariant.1 _ _ c.requires.0.2).stretched c.loop-s-test.true
+bounds-last-k c = stretched_low (c.slots.invariant.1 _ _ c.requires.0.2).stretched c.slots-test.true
 
 -- ---- it is not free
 
 pub bounds-after-k : goal.bounds-after-k
-bounds-after-k c = stretched_low (c.loop-s.invariant.1 _ _ c.requires.0.2).stretched c.loop-s-test.true
+bounds-after-k c = stretched_low (c.slots.invariant.1 _ _ c.requires.0.2).stretched c.slots-test.true
 
-pub loop-s-smaller-then-element-from : goal.loop-s-smaller-then-element-from
-loop-s-smaller-then-element-from c =
-    omega (arith, c.from-to.ensures, stretched_end (c.loop-s.invariant.1 _ _ c.requires.0.2).stretched c.loop-s-test.true)
+pub slots-smaller-then-element-from : goal.slots-smaller-then-element-from
+slots-smaller-then-element-from c =
+    omega (arith, c.from-to.ensures, stretched_end (c.slots.invariant.1 _ _ c.requires.0.2).stretched c.slots-test.true)
 
-pub loop-s-preserved-then-element-from : goal.loop-s-preserved-then-element-from
-loop-s-preserved-then-element-from c = (
-  c.loop-s.invariant.0,
+pub slots-preserved-then-element-from : goal.slots-preserved-then-element-from
+slots-preserved-then-element-from c = (
+  c.slots.invariant.0,
   λ n f O.
-      let T = c.loop-s.invariant.1 n f O in
-      (turning_skip T c.loop-s-test.true (omega (arith, c.if-left-ne0.true))
+      let T = c.slots.invariant.1 n f O in
+      (turning_skip T c.slots-test.true (omega (arith, c.if-left-eq0.false))
       (omega (arith, c.if-element-from.true, c.from.ensures, T.start)) c.from-to.ensures c.from-k.ensures).0,
 )
 
@@ -136,25 +136,25 @@ loop-s-preserved-then-element-from c = (
 
 pub overflow_sub-to : goal.overflow_sub-to
 overflow_sub-to c =
-    omega (arith, c.from-to.ensures, stretched_end (c.loop-s.invariant.1 _ _ c.requires.0.2).stretched c.loop-s-test.true)
+    omega (arith, c.from-to.ensures, stretched_end (c.slots.invariant.1 _ _ c.requires.0.2).stretched c.slots-test.true)
 
 -- ---- it has more slots than load is left
 
 pub bounds-words-s-then-left-to : goal.bounds-words-s-then-left-to
 bounds-words-s-then-left-to c =
-    let S = (c.loop-s.invariant.1 _ _ c.requires.0.2).stretched in
-    omega (arith, c.if-left-to.true, c.from-to.ensures, stretched_end S c.loop-s-test.true, S.room)
+    let S = (c.slots.invariant.1 _ _ c.requires.0.2).stretched in
+    omega (arith, c.if-left-to.true, c.from-to.ensures, stretched_end S c.slots-test.true, S.room)
 
 pub part-requires : goal.part-requires
 part-requires c =
     let O = c.requires.0.2 in
-    let T = c.loop-s.invariant.1 _ _ O in
+    let T = c.slots.invariant.1 _ _ O in
     let S = T.stretched in
-    let e = stretched_end S c.loop-s-test.true in (
+    let e = stretched_end S c.slots-test.true in (
       S.end_size,
       S.last_length,
       S.after_size,
-      stretched_low S c.loop-s-test.true,
+      stretched_low S c.slots-test.true,
       omega (arith, T.row, O.few),
       omega (arith, c.if-left-to.true, c.from-to.ensures, e, c.requires.1),
     )
@@ -162,15 +162,15 @@ part-requires c =
 pub bounds-second-i : goal.bounds-second-i
 bounds-second-i c =
     let O = c.requires.0.2 in
-    omega (arith, (c.loop-s.invariant.1 _ _ O).row, O.few)
+    omega (arith, (c.slots.invariant.1 _ _ O).row, O.few)
 
-pub loop-s-preserved-then-left-to : goal.loop-s-preserved-then-left-to
-loop-s-preserved-then-left-to c =
-    let l = c.loop-s in
+pub slots-preserved-then-left-to : goal.slots-preserved-then-left-to
+slots-preserved-then-left-to c =
+    let l = c.slots in
     let P = c.part.ensures in
     let i = c.loop-r.r - 1 in
-    let here = c.loop-s-test.true in
-    let some : 0 < l.left = omega (arith, c.if-left-ne0.true) in
+    let here = c.slots-test.true in
+    let some : 0 < l.left = omega (arith, c.if-left-eq0.false) in
     let ws = set l.words (l.s + l.left) (at l.words l.s) in
     let away : at ws l.s ≡ at l.words l.s = get_or-set_other l.words (l.s + l.left) l.s (at l.words l.s) 0 (λ q. omega arith) in
     let S = (l.invariant.1 _ _ c.requires.0.2).stretched in
@@ -198,32 +198,32 @@ loop-s-preserved-then-left-to c =
 pub bounds-second-i-else-left-to : goal.bounds-second-i-else-left-to
 bounds-second-i-else-left-to c =
     let O = c.requires.0.2 in
-    omega (arith, (c.loop-s.invariant.1 _ _ O).row, O.few)
+    omega (arith, (c.slots.invariant.1 _ _ O).row, O.few)
 
 pub bounds-last-k-else-left-to : goal.bounds-last-k-else-left-to
-bounds-last-k-else-left-to c = stretched_low (c.loop-s.invariant.1 _ _ c.requires.0.2).stretched c.loop-s-test.true
+bounds-last-k-else-left-to c = stretched_low (c.slots.invariant.1 _ _ c.requires.0.2).stretched c.slots-test.true
 
 pub overflow_sub-left : goal.overflow_sub-left
 overflow_sub-left c =
-    omega (arith, c.from-to.ensures, stretched_end (c.loop-s.invariant.1 _ _ c.requires.0.2).stretched c.loop-s-test.true)
+    omega (arith, c.from-to.ensures, stretched_end (c.slots.invariant.1 _ _ c.requires.0.2).stretched c.slots-test.true)
 
 pub bounds-after-k-else-left-to : goal.bounds-after-k-else-left-to
-bounds-after-k-else-left-to c = stretched_low (c.loop-s.invariant.1 _ _ c.requires.0.2).stretched c.loop-s-test.true
+bounds-after-k-else-left-to c = stretched_low (c.slots.invariant.1 _ _ c.requires.0.2).stretched c.slots-test.true
 
-pub loop-s-smaller : goal.loop-s-smaller
-loop-s-smaller c =
-    omega (arith, c.from-to.ensures, stretched_end (c.loop-s.invariant.1 _ _ c.requires.0.2).stretched c.loop-s-test.true)
+pub slots-smaller : goal.slots-smaller
+slots-smaller c =
+    omega (arith, c.from-to.ensures, stretched_end (c.slots.invariant.1 _ _ c.requires.0.2).stretched c.slots-test.true)
 
-pub loop-s-preserved : goal.loop-s-preserved
-loop-s-preserved c =
-    let l = c.loop-s in
+pub slots-preserved : goal.slots-preserved
+slots-preserved c =
+    let l = c.slots in
     let i = c.loop-r.r - 1 in
-    let here = c.loop-s-test.true in
+    let here = c.slots-test.true in
     let to = c.from-to.ensures in (
       kept_set l.s _ l.invariant.0 here,
       λ n f O.
           let T = l.invariant.1 n f O in
-          (turning_take T here (omega (arith, c.if-left-ne0.true))
+          (turning_take T here (omega (arith, c.if-left-eq0.false))
           (fitted_whole (i + 1) (omega (arith, c.if-left-to.false, to)) (ap (λ (e : ℕ). e - l.s) to)) O.few
           (omega (arith, c.if-element-from.false, c.from.ensures, T.start))
           (ap (bit_or (at l.words l.s)) (one_shl i (omega (arith, T.row, O.few))))

@@ -22,11 +22,11 @@ invariant-loop-r l =
 abbrev pub decreases-loop-r : goal.decreases-loop-r
 decreases-loop-r l = rest l.r
 
-abbrev pub invariant-loop-s : goal.invariant-loop-s
-invariant-loop-s l =
+abbrev pub invariant-slots : goal.invariant-slots
+invariant-slots l =
     Kept l.slots l.fn.words l.words
     × ((n : ℕ) (f : ℕ → ℕ) → ChainedRows n f (at l.second) l.top l.head l.next
     → Turning n f (at l.second) (at l.load) l.slots l.element l.i l.left l.k l.s l.end l.last l.after l.words)
 
-abbrev pub decreases-loop-s : goal.decreases-loop-s
-decreases-loop-s l = l.slots - l.s
+abbrev pub decreases-slots : goal.decreases-slots
+decreases-slots l = l.slots - l.s

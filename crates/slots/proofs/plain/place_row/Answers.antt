@@ -7,20 +7,20 @@ use Rattle.slots.proofs.PlainWalk.{placing_start, placing_skip, placing_take, pl
 use Rattle.slots.proofs.plain.place_row.Goals as goal
 use Rattle.slots.proofs.plain.place_row.Goals.{then-is_free, else-is_free}
 
-pub loop-s-init : goal.loop-s-init
-loop-s-init c = placing_start
+pub slots-init : goal.slots-init
+slots-init c = placing_start
 
-pub loop-s-preserved : goal.loop-s-preserved
-loop-s-preserved c =
-    let P = c.loop-s.invariant in
+pub slots-preserved : goal.slots-preserved
+slots-preserved c =
+    let P = c.slots.invariant in
     let opens = sym c.is_free.ensures in
     elim c.if-is_free.branch [
       | then-is_free w ↦ rw (w.words-is, w.left-is)
-          (placing_take P c.loop-s-test.true
+          (placing_take P c.slots-test.true
           (omega (arith, P.kept.long, c.requires.1)) (opens ∙ w.if-is_free.true) (omega (arith, c.if-left-eq0.false))
-          (ap (bit_or (at c.loop-s.words c.loop-s.s)) (one_shl c.args.i c.requires.0)))
-      | else-is_free w ↦ rw (w.words-is, w.left-is) (placing_skip P c.loop-s-test.true (opens ∙ w.if-is_free.false))
+          (ap (bit_or (at c.slots.words c.slots.s)) (one_shl c.args.i c.requires.0)))
+      | else-is_free w ↦ rw (w.words-is, w.left-is) (placing_skip P c.slots-test.true (opens ∙ w.if-is_free.false))
     ]
 
 pub returns-then-left-eq0 : goal.returns-then-left-eq0
-returns-then-left-eq0 c = placing_end c.loop-s.invariant (inr (omega (arith, c.if-left-eq0.true)))
+returns-then-left-eq0 c = placing_end c.slots.invariant (inr (omega (arith, c.if-left-eq0.true)))

@@ -3,5 +3,5 @@ use Rattle.numbers.specs.Lists.{at}
 use Rattle.slots.proofs.PlainWalk.{Placing}
 use Rattle.slots.proofs.plain.place_row.Given as goal
 
-abbrev pub invariant-loop-s : goal.invariant-loop-s
-invariant-loop-s l = Placing (at l.first) (at l.second) l.i l.load l.slots l.initial.words l.s l.left l.words
+abbrev pub invariant-slots : goal.invariant-slots
+invariant-slots l = Placing (at l.first) (at l.second) l.i l.load l.slots l.initial.words l.s l.left l.words
