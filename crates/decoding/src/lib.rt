@@ -132,10 +132,13 @@ fn put_rows(file: &[u8], table: &mut Columns) -> Result<(), Refusal>
         if let Err(reason) = row_fault(head.elements, rings, row) {
             return Err(Refusal::at(reason, i));
         }
+        // read before anything is written: to the compiler the columns could lie over the file
+        let first = file[at + 4];
+        let second = file[at + 5];
         table.cost[i] = row.cost;
         table.period[i] = row.period;
-        table.first[i] = file[at + 4];
-        table.second[i] = file[at + 5];
+        table.first[i] = first;
+        table.second[i] = second;
     }
     Ok(())
 }

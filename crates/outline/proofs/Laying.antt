@@ -16,7 +16,7 @@ use Rattle.table.proofs.ByRow.{by_row_only}
 use Rattle.sets.specs.Sets.{OnLine, SetWords}
 use Rattle.outline.specs.declared.Layout.{Layout}
 use Rattle.outline.specs.declared.Outline.{Outline}
-use Rattle.outline.specs.Layout.{Lies, LaidOut}
+use Rattle.outline.specs.Layout.{Lies, LaidInto, LaidOut}
 use Rattle.outline.specs.Outlined.{Found}
 use Rattle.outline.proofs.Sets.{Ends, ends_on_line, ring_list}
 use Rattle.time.proofs.Periods.{time_only}
@@ -24,8 +24,11 @@ use Rattle.outline.proofs.Outlined.{line_none}
 
 -- ---- no check refuses
 
-pub laid_found : (t : Table) {l : Layout} → Lies t l → LaidOut t (Ok l)
-laid_found t L = record { answers = answered (line_checks t) (line_none t L.clear L.timed.short); found = L }
+pub laid_found : (t : Table) {o l : Layout} → Lies t l → LaidInto t o (Ok tt) l
+laid_found t L = record { answers = answered (line_checks t) (line_none t L.clear L.timed.short); found = L; kept = tt }
+
+pub laid_in : {t : Table} {o l : Layout} → LaidInto t o (Ok tt) l → LaidOut t (Ok l)
+laid_in I = record { answers = I.answers; found = I.found }
 
 -- ---- the rows on the line, and their sets
 
@@ -84,3 +87,9 @@ laid_only {t} {l = Ok a} {m = Err r} L M = refused_not (line_checks t) r L.answe
 laid_only {t} {l = Err r} {m = Ok a} L M = refused_not (line_checks t) r M.answers L.answers
 laid_only {t} {l = Err r} {m = Err s} L M =
     same_refusal (line_checks t) r s L.answers M.answers
+
+pub laid_into_only : {t : Table} {o l m : Layout} {r s : Result Unit Refusal} → LaidInto t o r l → LaidInto t o s m → (r ≡ s) × (l ≡ m)
+laid_into_only {r = Ok a} {s = Ok b} L M = (refl, lies_only L.found M.found)
+laid_into_only {t} {r = Ok a} {s = Err e} L M = refused_not (line_checks t) e L.answers M.answers
+laid_into_only {t} {r = Err e} {s = Ok b} L M = refused_not (line_checks t) e M.answers L.answers
+laid_into_only {t} {r = Err e} {s = Err f} L M = (same_refusal (line_checks t) e f L.answers M.answers, L.kept ∙ sym M.kept)

@@ -14,7 +14,7 @@ ghost use Rattle.table.specs.Refusal.{number, place};
 ghost use Rattle.table.specs.Sound.{Sound};
 ghost use Rattle.ring.specs.Route.{Element};
 ghost use Rattle.ring.specs.Rows.{Routed, rings_of};
-ghost use Rattle.outline.specs.Layout.{table_with, LaidOut};
+ghost use Rattle.outline.specs.Layout.{table_with, no_layout, LaidInto, LaidOut};
 ghost use Rattle.outline.specs.Outlined.{outline_checks, Outlined};
 ghost use Rattle.outline.specs.Listed.{Traced, count, ListedOn};
 
@@ -38,6 +38,8 @@ fn is_idle(rows: usize, way: &[u8; Table::ROWS], d: usize) -> bool
 }
 
 // The cut of ring `d` in its own numbers, if it has one; 1 where the board has no such ring: a table with one ring is not walked twice.
+// Inlined, since the compiler takes a call after `?` or `let .. else` for a rare one.
+#[inline(always)]
 fn cut_on(table: &Columns, d: usize) -> Option<usize>
     requires { Routed table.now }
     ensures { MatchOption result
@@ -79,10 +81,29 @@ pub struct Layout {
     pub line: Line,
 }
 
-// A table laid on its line, or the first refusal of 10 and 11. Its costs say nothing of that.
-pub fn layout_of(table: &Columns) -> Result<Layout, Refusal>
+impl Layout {
+    // The layout of no table: what is lent to be written.
+    pub fn none() -> Layout
+        ensures { result ≡ no_layout }
+    {
+        Layout {
+            cut: 0,
+            other: 0,
+            top: 0,
+            time: Time::none(),
+            line: Line {
+                first: [0; Table::ROWS],
+                second: [0; Table::ROWS],
+            },
+        }
+    }
+}
+
+// A table laid on its line, written to `laid`, or the first refusal of 10 and 11, which leaves it as it was. Its costs say nothing of that.
+// Lent, a layout is nowhere copied.
+pub fn lay_into(table: &Columns, laid: &mut Layout) -> Result<(), Refusal>
     requires { (cost : ℕ → ℕ) × Sound (table_with cost table.now) }
-    ensures { (cost : ℕ → ℕ) → Sound (table_with cost table.now) → LaidOut (table_with cost table.now) result }
+    ensures { (cost : ℕ → ℕ) → Sound (table_with cost table.now) → LaidInto (table_with cost table.now) laid.old result laid.new }
 {
     let Some(cut) = cut_on(table, 0) else {
         return Err(Refusal::at(Reason::NoCut, 0));
@@ -94,13 +115,24 @@ pub fn layout_of(table: &Columns) -> Result<Layout, Refusal>
     if time.hyper == 0 {
         return Err(Refusal::from(Reason::LongHyperperiod));
     }
-    Ok(Layout {
+    *laid = Layout {
         cut: board_cut(table, 0, cut),
         other: board_cut(table, 1, other),
         top: table.rings * (table.elements + 1),
         time,
         line: ring::lay(table, cut, other),
-    })
+    };
+    Ok(())
+}
+
+// The same, handed back.
+pub fn layout_of(table: &Columns) -> Result<Layout, Refusal>
+    requires { (cost : ℕ → ℕ) × Sound (table_with cost table.now) }
+    ensures { (cost : ℕ → ℕ) → Sound (table_with cost table.now) → LaidOut (table_with cost table.now) result }
+{
+    let mut laid = Layout::none();
+    lay_into(table, &mut laid)?;
+    Ok(laid)
 }
 
 // ---- the outline
@@ -126,7 +158,8 @@ pub fn outline_of(table: &Columns) -> Result<Outline, Refusal>
     ensures { (cost : ℕ → ℕ) → Sound (table_with cost table.now)
         → Outlined (line_checks (table_with cost table.now)) (table_with cost table.now) result }
 {
-    let laid = layout_of(table)?;
+    let mut laid = Layout::none();
+    lay_into(table, &mut laid)?;
     let first = laid.line.first;
     let second = laid.line.second;
     let list = sets::list_sets(&first, &second, table.rows, laid.top);

@@ -12,6 +12,7 @@ ghost use Rattle.verdict.specs.Weights.{Times};
 ghost use Rattle.raising.specs.Raises.{RaisedBeside};
 
 use decoding::Decoded;
+use outline::Layout;
 use table::{Columns, Refusal, Table, version_of};
 
 // A row's cost, or period / L rounded up where that is more. Where all periods are equal, L is as long as they are, and 1 is never more.
@@ -55,7 +56,8 @@ pub fn raised_table(file: &[u8]) -> Result<Raising, Refusal>
     ensures { RaisedBeside file.now result }
 {
     let given = pasted::given_one_ring(file)?;
-    let laid = outline::layout_of(&given.columns)?;
+    let mut laid = Layout::none();
+    outline::lay_into(&given.columns, &mut laid)?;
     let cost = raised_costs(
         given.columns.rows,
         &given.columns.cost,

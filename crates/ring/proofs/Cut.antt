@@ -8,12 +8,14 @@ use native.Mathlib.Omega.{arith}
 use lib.Bits.{bit_or}
 use lib.Dec.{T, eqb, eqb→eq, leb, ltb, leb→le, le→leb, ltb→lt, lt→ltb}
 use lib.Pow.{shr-shr}
+use Rattle.std.specs.Int.{w64, bit_at, trailing_ones}
+use Rattle.std.proofs.lemmas.Nat.Bits.{bit_at-trailing_ones}
 use borrow.Author.Tests.{eq-eqb, ne_eqb}
 use Rattle.numbers.specs.Finite.{any}
 use Rattle.numbers.specs.Word.{bit, Stretch}
 use Rattle.numbers.proofs.Truth.{both, fst, snd, orl, orr, or_cases, same, refuted, refutes, decide, is_true, of_true, of_false, le_or_lt}
 use Rattle.numbers.proofs.Truth.{eqb_of, and_under}
-use Rattle.numbers.proofs.Word.{bit_zero, bit_or_lem, inside}
+use Rattle.numbers.proofs.Word.{bit_zero, bit_suc, bit_or_lem, inside}
 use Rattle.numbers.proofs.Finite.{any_next, any_of, any_eq, least, lowest_le, lowest_has, lowest_below, lowest_is, lowest_none}
 use Rattle.rules.specs.Bus.{Table, mirror, steps, through, route_uses, route_through}
 use Rattle.rules.specs.Line.{clear, cut}
@@ -197,34 +199,36 @@ uses_shows {M} {a} {b} {w} ea eb S = record {
 
 -- ---- the search for it, from element 1 up
 
--- no element before e is clear, in the ring's numbers
-pub record Searched (t : Table) (d e : ℕ) : Type 0 where
-  pub low : 1 ≤ e
-  pub high : e ≤ t.elements + 1
-  pub none : (k : ℕ) → 1 ≤ k → k < e → T (clear t d (mirror t.elements d k)) → ⊥
+-- how many bits of a word are set from bit 1 on, without a gap
+abbrev pub ones : ℕ → ℕ
+ones w = trailing_ones w64 (w / 2)
 
-pub searched_start : (t : Table) (d : ℕ) → Searched t d 1
-searched_start t d = record { low = omega arith; high = omega arith; none = λ k l h c. absurd (let z : ⊥ = omega arith in z) }
+bit_next : (w i : ℕ) → bit w (suc i) ≡ eqb (bit_at (w / 2) i) 1
+unfolding bit
+bit_next w i = bit_suc w i
 
-pub searched_next : {t : Table} {d e : ℕ} → Searched t d e → e ≤ t.elements → clear t d (mirror t.elements d e) ≡ false
-    → Searched t d (e + 1)
-searched_next {t} {d} {e} S l n = record {
-  low = omega arith;
-  high = omega arith;
-  none = λ k h m c.
-      ⊎_elim (λ (p : e ≤ k). let z : k ≡ e = omega arith in of_false n (rw z at c)) (λ (p : k < e). S.none k h p c) (le_or_lt e k);
-}
+zero_next : {w : ℕ} → w < 2 ^ 64 → (ones w < 64) × (bit_at (w / 2) (ones w) ≡ 0) × ((i : ℕ) → i < ones w → bit_at (w / 2) i ≡ 1)
+zero_next {w} l = bit_at-trailing_ones w64 (w / 2) (omega arith)
 
-pub searched_found : {t : Table} {d e : ℕ} → Searched t d e → e ≤ t.elements → clear t d (mirror t.elements d e) ≡ true → e ≡ cut t d
-unfolding cut
-searched_found {t} {d} {e} S l c =
-    let M = t.elements in
-    let z : suc (e - 1) ≡ e = omega arith in
-    let none : (k : ℕ) → k < e - 1 → T (clear t d (mirror M d (suc k))) → ⊥ = λ k m. S.none (suc k) (omega arith) (omega arith) in
-    omega (arith, lowest_is M (λ k. clear t d (mirror M d (suc k))) (e - 1) (omega arith) (rw z (of_true c)) none)
+-- element k + 1 is clear
+abbrev free : Table → (d k : ℕ) → Bool
+free t d k = clear t d (mirror t.elements d (suc k))
 
-pub searched_all : {t : Table} {d e : ℕ} → Searched t d e → t.elements < e → cut t d ≡ t.elements + 1
-unfolding cut
-searched_all {t} {d} {e} S l =
-    let M = t.elements in
-    omega (arith, lowest_none M (λ k. clear t d (mirror M d (suc k))) (λ k m. S.none (suc k) (omega arith) (omega arith)))
+-- where the word shows the elements of ring d with a row through them
+module _ (t : Table) (d : ℕ) {w : ℕ} (l : w < 2 ^ 64)
+    (shown : (e : ℕ) → Element t.elements e → not (bit w e) ≡ clear t d (mirror t.elements d e)) where
+  free_bit : (k : ℕ) → k < t.elements → free t d k ≡ not (eqb (bit_at (w / 2) k) 1)
+  free_bit k m = sym (shown (suc k) (record { low = omega arith; high = omega arith })) ∙ ap not (bit_next w k)
+
+  taken : (k : ℕ) → k < t.elements → k < ones w → T (free t d k) → ⊥
+  taken k m h = of_false (free_bit k m ∙ ap (λ (x : ℕ). not (eqb x 1)) ((zero_next l).2 k h))
+
+  pub found_cut : ones w < t.elements → ones w + 1 ≡ cut t d
+  unfolding cut
+  found_cut h =
+      let e : free t d (ones w) ≡ true = free_bit (ones w) h ∙ ap (λ (x : ℕ). not (eqb x 1)) (zero_next l).1 in
+      omega (arith, lowest_is t.elements (free t d) (ones w) h (of_true e) (λ i m. taken i (omega arith) m))
+
+  pub found_none : t.elements ≤ ones w → cut t d ≡ t.elements + 1
+  unfolding cut
+  found_none h = omega (arith, lowest_none t.elements (free t d) (λ i m. taken i m (omega arith)))

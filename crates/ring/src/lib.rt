@@ -138,12 +138,12 @@ pub fn find_cut(table: &Columns, d: usize) -> Option<usize>
         (λ e. (e ≡ line.cut (rings_of table.now table.now.rows) d) × (e ≤ table.now.elements)) }
 {
     let word = through_rows(table, d);
-    for e in 1..table.elements + 1 {
-        if (word >> e) % 2 == 0 {
-            return Some(e);
-        }
+    // each element before it has a row through it, which the word shows as a one
+    let e = u64::trailing_ones(word >> 1) as usize + 1;
+    if e > table.elements {
+        return None;
     }
-    None
+    Some(e)
 }
 
 // The word of the board's segments that a row uses: what a route uses counterclockwise, the route back uses clockwise.

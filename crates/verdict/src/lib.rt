@@ -16,7 +16,7 @@ ghost use Rattle.verdict.specs.Analysed.{table_checks, Accepted, Analysed};
 ghost use Rattle.verdict.specs.Verdict.{cut_of, other_of, interval_of, hyper_of, load_of, sets_of};
 ghost use Rattle.verdict.specs.Verdict.{JudgedBy, VerdictOn};
 
-use outline::Outline;
+use outline::{Layout, Outline};
 use table::{Columns, Reason, Refusal, Table, no_columns};
 use time::Time;
 pub use weights::put_rates;
@@ -31,7 +31,8 @@ pub struct Loaded {
 }
 
 // The rows and sets of a table weighed, whose time, line, rates and lowest light row are found, or the first refusal of 13 and 14; `top`
-// is where the line ends.
+// is where the line ends. Inlined, since the compiler takes a call after `?` for a rare one.
+#[inline(always)]
 pub fn weigh<'a>(
     rows: usize,
     light: usize,
@@ -125,7 +126,8 @@ fn judge_table(table: &Columns) -> Result<Admitted, Refusal>
     requires { Sound (table_of table.now) }
     ensures { JudgedBy (table_checks (table_of table.now)) (table_of table.now) result }
 {
-    let laid = outline::layout_of(table)?;
+    let mut laid = Layout::none();
+    outline::lay_into(table, &mut laid)?;
     let time = laid.time;
     let mut rate = [0u16; Table::ROWS];
     let light = weights::put_rates(
