@@ -13,10 +13,11 @@ use Rattle.std.proofs.lemmas.Nat.Bits.{bit_at-trailing_ones}
 use borrow.Author.Tests.{eq-eqb, ne_eqb}
 use Rattle.numbers.specs.Finite.{any}
 use Rattle.numbers.specs.Word.{bit, Stretch}
-use Rattle.numbers.proofs.Truth.{both, fst, snd, orl, orr, or_cases, same, refuted, refutes, decide, is_true, of_true, of_false, le_or_lt}
+use Rattle.numbers.proofs.Truth.{both, fst, snd, orl, orr, or_cases, same, refuted, refutes, decide, is_true, of_false, le_or_lt}
 use Rattle.numbers.proofs.Truth.{eqb_of, and_under}
 use Rattle.numbers.proofs.Word.{bit_zero, bit_suc, bit_or_lem, inside}
-use Rattle.numbers.proofs.Finite.{any_next, any_of, any_eq, least, lowest_le, lowest_has, lowest_below, lowest_is, lowest_none}
+use Rattle.numbers.proofs.Finite.{any_next, any_of, any_eq, least, lowest_le, lowest_has, lowest_below}
+use Rattle.numbers.proofs.Finite.{Sought, sought_start, sought_next, sought_found, sought_end}
 use Rattle.rules.specs.Bus.{Table, mirror, steps, through, route_uses, route_through}
 use Rattle.rules.specs.Line.{clear, cut}
 use Rattle.rules.specs.Refusals.{no_cut}
@@ -199,6 +200,49 @@ uses_shows {M} {a} {b} {w} ea eb S = record {
 
 -- ---- the search for it, from element 1 up
 
+-- no element before e is clear, in the ring's numbers
+pub record Searched (t : Table) (d e : ℕ) : Type 0 where
+  pub low : 1 ≤ e
+  pub high : e ≤ t.elements + 1
+  pub none : (k : ℕ) → 1 ≤ k → k < e → T (clear t d (mirror t.elements d k)) → ⊥
+
+-- element k + 1 is clear
+abbrev free : Table → (d k : ℕ) → Bool
+free t d k = clear t d (mirror t.elements d (suc k))
+
+-- the laws of a search count from 0, so element k + 1 is number k to them
+sought : {t : Table} {d e : ℕ} → Searched t d e → Sought t.elements (free t d) (e - 1)
+sought S = record { within = omega arith; none = λ k m. S.none (suc k) (omega arith) (omega arith) }
+
+searched : {t : Table} {d i : ℕ} → Sought t.elements (free t d) i → Searched t d (i + 1)
+searched H = record {
+  low = omega arith;
+  high = omega arith;
+  none = λ k l m c. let z : suc (k - 1) ≡ k = omega arith in H.none (k - 1) (omega arith) (rw z c);
+}
+
+pub searched_start : (t : Table) (d : ℕ) → Searched t d 1
+searched_start t d = searched sought_start
+
+pub searched_next : {t : Table} {d e : ℕ} → Searched t d e → e ≤ t.elements → clear t d (mirror t.elements d e) ≡ false
+    → Searched t d (e + 1)
+searched_next {e = e} S l n =
+    let z : suc (e - 1) ≡ e = omega arith in
+    let y : (e - 1) + 1 ≡ e = omega arith in
+    rw y at (searched (sought_next (sought S) (omega arith) (rw z n)))
+
+pub searched_found : {t : Table} {d e : ℕ} → Searched t d e → e ≤ t.elements → clear t d (mirror t.elements d e) ≡ true → e ≡ cut t d
+unfolding cut
+searched_found {e = e} S l c =
+    let z : suc (e - 1) ≡ e = omega arith in
+    omega (arith, sought_found (sought S) (omega arith) (rw z c))
+
+pub searched_all : {t : Table} {d e : ℕ} → Searched t d e → t.elements < e → cut t d ≡ t.elements + 1
+unfolding cut
+searched_all S l = omega (arith, sought_end (sought S) (omega arith))
+
+-- ---- the search in a word that shows the elements with a row through them
+
 -- how many bits of a word are set from bit 1 on, without a gap
 abbrev pub ones : ℕ → ℕ
 ones w = trailing_ones w64 (w / 2)
@@ -210,10 +254,6 @@ bit_next w i = bit_suc w i
 zero_next : {w : ℕ} → w < 2 ^ 64 → (ones w < 64) × (bit_at (w / 2) (ones w) ≡ 0) × ((i : ℕ) → i < ones w → bit_at (w / 2) i ≡ 1)
 zero_next {w} l = bit_at-trailing_ones w64 (w / 2) (omega arith)
 
--- element k + 1 is clear
-abbrev free : Table → (d k : ℕ) → Bool
-free t d k = clear t d (mirror t.elements d (suc k))
-
 -- where the word shows the elements of ring d with a row through them
 module _ (t : Table) (d : ℕ) {w : ℕ} (l : w < 2 ^ 64)
     (shown : (e : ℕ) → Element t.elements e → not (bit w e) ≡ clear t d (mirror t.elements d e)) where
@@ -223,12 +263,15 @@ module _ (t : Table) (d : ℕ) {w : ℕ} (l : w < 2 ^ 64)
   taken : (k : ℕ) → k < t.elements → k < ones w → T (free t d k) → ⊥
   taken k m h = of_false (free_bit k m ∙ ap (λ (x : ℕ). not (eqb x 1)) ((zero_next l).2 k h))
 
+  -- no element before n + 1 is clear, as the word has ones there
+  before : {n : ℕ} → n ≤ ones w → n ≤ t.elements → Searched t d (n + 1)
+  before h m = searched (record { within = m; none = λ k l. taken k (omega arith) (omega arith) })
+
   pub found_cut : ones w < t.elements → ones w + 1 ≡ cut t d
-  unfolding cut
   found_cut h =
       let e : free t d (ones w) ≡ true = free_bit (ones w) h ∙ ap (λ (x : ℕ). not (eqb x 1)) (zero_next l).1 in
-      omega (arith, lowest_is t.elements (free t d) (ones w) h (of_true e) (λ i m. taken i (omega arith) m))
+      let z : suc (ones w) ≡ ones w + 1 = omega arith in
+      searched_found (before (omega arith) (omega arith)) (omega arith) (rw z at e)
 
   pub found_none : t.elements ≤ ones w → cut t d ≡ t.elements + 1
-  unfolding cut
-  found_none h = omega (arith, lowest_none t.elements (free t d) (λ i m. taken i m (omega arith)))
+  found_none h = searched_all (before h (omega arith)) (omega arith)
